@@ -1,0 +1,19 @@
+//! The one answer that has no other cause: there was no memory.
+
+use std::alloc::{AllocError, AllocFailed};
+
+/// There was no memory. Whatever `?` meets of the allocator's errors becomes this.
+#[derive(Clone, Copy, Debug, PartialEq, Eq, Drop)]
+pub struct NoMemory;
+
+impl From<AllocError> for NoMemory {
+    fn from(_error: AllocError) -> NoMemory {
+        NoMemory
+    }
+}
+
+impl<T: Drop> From<AllocFailed<T>> for NoMemory {
+    fn from(_error: AllocFailed<T>) -> NoMemory {
+        NoMemory
+    }
+}
