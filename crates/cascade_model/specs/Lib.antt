@@ -1,0 +1,4 @@
+pub mod Value
+pub mod Table
+pub mod Style
+pub mod StyleOf

@@ -1,0 +1,6 @@
+pub mod Element
+pub mod Lookups
+pub mod Ancestors
+pub mod Words
+pub mod Valid
+pub mod Nodes

@@ -1,3 +1,3 @@
-//! The definitions of the document: characters, elements, the scene and its look-ups.
-//! They stand in specs/; there is no code here.
+//! The definitions of the document: characters, elements, the list of a job's nodes, the scene and
+//! its look-ups. They stand in specs/; there is no code here.
 #![tactic(auto)]

@@ -1,0 +1,42 @@
+-- A style has a value for each property of the table.
+use Rattle.std.specs.Prelude.{ℕ, List, [], ◌∷◌, map, Bool, if◌then◌else◌, Option, Some, None, slice_get, slice_set, codes, refl}
+use Rattle.std.specs.Str.{bytes_eq}
+use Rattle.std.specs.Coded.{Coded, code_by, coded_list}
+use Rattle.cascade_model.specs.Value.{Value, keyword, value_code}
+use Rattle.cascade_model.specs.Table.{Row, table, display}
+
+pub record Style : Type 0 where
+  -- in the order of the table
+  pub values : List Value
+
+abbrev pub style_code : Coded Style
+style_code = code_by (List Value) (coded_list value_code) (λ s. s.values) (λ v. record { values = v }) (λ _. refl)
+
+abbrev pub initial_style : Style
+initial_style = record { values = map (λ row. row.initial) table }
+
+-- each inherited property keeps its value, each other one has its initial value (css-cascade-5, section 7)
+abbrev pub inherited_values : List Row → List Value → List Value
+inherited_values [] values = []
+inherited_values (row ∷ rows) [] = []
+inherited_values (row ∷ rows) (value ∷ values) = (if row.inherited then value else row.initial) ∷ inherited_values rows values
+
+abbrev pub inherited_part : Style → Style
+inherited_part style = record { values = inherited_values table style.values }
+
+-- a property's value is changed, if there is one
+abbrev pub changed : (Value → Value) → Option Value → ℕ → List Value → List Value
+changed change None property values = values
+changed change (Some value) property values = slice_set values property (change value)
+
+abbrev pub with_changed : (Value → Value) → ℕ → Style → Style
+with_changed change property style = record { values = changed change (slice_get style.values property) property style.values }
+
+-- an outer display type becomes `block`, the inner one stays (css-display-3, section 2.7)
+abbrev pub blockified : Value → Value
+blockified (keyword word) =
+    if bytes_eq word (codes "inline") then keyword (codes "block") else (if bytes_eq word (codes "inline-block") then keyword (codes "block") else (if bytes_eq word (codes "inline-flex") then keyword (codes "flex") else keyword word))
+
+-- the adjustments that come last: the root is blockified (css-display-3, section 2.8)
+abbrev pub adjusted : Bool → Style → Style
+adjusted is_root style = if is_root then with_changed blockified display style else style
