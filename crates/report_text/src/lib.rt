@@ -1,2 +1,4 @@
 //! (being written)
 #![tactic(auto)]
+
+

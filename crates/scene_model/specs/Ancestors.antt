@@ -1,5 +1,5 @@
 -- The elements above an element: its parent, the parent's parent, and so on to the root.
-use Rattle.std.specs.Prelude.{ℕ, zero, suc, List, [], ◌∷◌, Option, Some, None}
+use Rattle.std.specs.Prelude.{ℕ, zero, suc, ◌+◌, List, [], ◌∷◌, length, Option, Some, None}
 use Rattle.std.specs.List.{position_or_len}
 use Rattle.scene_model.specs.Element.{Element}
 use Rattle.scene_model.specs.Lookups.{has_number, parent_of}
@@ -21,3 +21,7 @@ climb doc (suc steps) x = up (climb doc steps) (parent_of doc x)
 -- A parent stands before its child, so there are no more ancestors than elements before x.
 unfoldable pub ancestors : List Element → ℕ → List ℕ
 ancestors doc x = climb doc (position_of doc x) x
+
+-- the root has depth 1
+abbrev pub depth_of : List Element → ℕ → ℕ
+depth_of doc x = length (ancestors doc x) + 1
