@@ -1,4 +1,2 @@
 //! (being written)
 #![tactic(auto)]
-
-
