@@ -3,5 +3,9 @@
 #![tactic(auto)]
 
 mod memory;
+mod path_text;
+mod text;
 
 pub use memory::NoMemory;
+pub use path_text::PathText;
+pub use text::Text;

@@ -1,0 +1,27 @@
+use Rattle.std.proofs.Common.{◌≡◌, ℕ, zero, suc, true, List, [], ◌∷◌, ◌++◌, encode_utf8_all, sym, ap, ◌∙◌, arith}
+use Rattle.std.specs.Str.{chars, IsUtf8, IsAscii}
+use Rattle.std.proofs.lemmas.Str.{chars-IsAscii, chars-append, encodes-chars}
+use Rattle.std.proofs.lemmas.Bool.Decides.{nat_tests}
+use Rattle.stylo_base.specs.Ascii.{is_all_ascii}
+
+-- the test means that each byte is below 128
+IsAscii-from_all : (bs : List ℕ) → is_all_ascii bs ≡ true → IsAscii bs
+IsAscii-from_all [] h i = grind (arith, nat_tests)
+IsAscii-from_all (b ∷ bs) h zero = grind (arith, nat_tests)
+IsAscii-from_all (b ∷ bs) h (suc i) = IsAscii-from_all bs (grind (arith, nat_tests)) i
+
+-- the characters of an ASCII text are its bytes
+pub chars-ascii : (bs : List ℕ) → is_all_ascii bs ≡ true → chars bs ≡ bs
+chars-ascii bs h = chars-IsAscii bs (IsAscii-from_all bs h)
+
+-- a text put behind another
+pub chars_push : (old new text now : List ℕ) → IsUtf8 old → new ≡ old ++ text → chars old ≡ now → chars new ≡ now ++ chars text
+chars_push old new text now u e v = ap chars e ∙ (chars-append old text u ∙ ap (λ cs. cs ++ chars text) v)
+
+-- the bytes of a text are its characters in UTF-8
+pub bytes_from_chars : (bytes now : List ℕ) → IsUtf8 bytes → chars bytes ≡ now → bytes ≡ encode_utf8_all now
+bytes_from_chars bytes now u v = sym (encodes-chars bytes u) ∙ ap encode_utf8_all v
+
+-- two texts of the same characters have the same bytes
+pub chars_same : (a b : List ℕ) → IsUtf8 a → IsUtf8 b → chars a ≡ chars b → a ≡ b
+chars_same a b u v h = sym (encodes-chars a u) ∙ ap encode_utf8_all h ∙ encodes-chars b v

@@ -1,0 +1,48 @@
+//! The JSON pointer at which a job is at fault.
+
+ghost use Rattle.std.specs.Prelude.{◌≡◌, [], encode_utf8_all};
+ghost use Rattle.std.specs.Str.{chars};
+
+use crate::Text;
+use std::alloc::Global;
+use std::marker::Model;
+
+/// The JSON pointer of a fault. Contracts see the list of its characters.
+#[derive(Debug, Drop)]
+pub struct PathText {
+    text: Text,
+}
+
+impl Model for PathText {
+    ghost use Rattle.std.specs.Prelude.{List, ℕ};
+
+    ghost Value = { List ℕ };
+
+    ghost view = { λ p. p.text };
+}
+
+impl PathText {
+    /// The pointer to the whole job. It takes no memory.
+    pub fn empty(alloc: Global) -> PathText
+        ensures { result ≡ [] }
+    {
+        PathText {
+            text: Text::new(alloc),
+        }
+    }
+
+    /// The pointer that `text` spells.
+    pub fn of_text(text: Text) -> PathText
+        ensures { result ≡ text }
+    {
+        PathText { text }
+    }
+
+    /// The pointer as UTF-8.
+    pub fn as_str(&self) -> &str
+        ensures characters { chars result.now ≡ self.now }
+        ensures bytes { result.now ≡ encode_utf8_all self.now }
+    {
+        self.text.as_str()
+    }
+}

@@ -1,0 +1,117 @@
+//! A text that contracts see as the list of its characters.
+
+ghost use Rattle.std.specs.Prelude.{◌≡◌, ◌++◌, ◌↔◌, [], IfOk, IsTrue, OnErr, OnOk, length, encode_utf8_all, decimal, true};
+ghost use Rattle.std.specs.Str.{chars};
+ghost use Rattle.std.specs.String.{string_bytes};
+ghost use Rattle.stylo_base.specs.Ascii.{is_all_ascii};
+
+use crate::NoMemory;
+use itoa::Buffer;
+use std::alloc::Global;
+use std::marker::Model;
+
+/// A text. Contracts see the list of its characters, each by its number.
+#[derive(Debug, Drop)]
+pub struct Text {
+    inner: String,
+}
+
+impl Model for Text {
+    ghost use Rattle.std.specs.Prelude.{List, ℕ};
+    ghost use Rattle.std.specs.Str.{chars};
+    ghost use Rattle.std.specs.String.{string_bytes};
+
+    ghost Value = { List ℕ };
+
+    ghost view = { λ t. chars (string_bytes t.inner) };
+}
+
+impl Text {
+    /// The empty text.
+    pub fn new(alloc: Global) -> Text
+        ensures { result ≡ [] }
+    {
+        Text {
+            inner: String::new(alloc),
+        }
+    }
+
+    /// A copy of `text`.
+    pub fn of_str(alloc: Global, text: &str) -> Result<Text, NoMemory>
+        ensures ok { IfOk result (λ t. t ≡ chars text.now) }
+        ensures ascii { is_all_ascii text.now ≡ true → IfOk result (λ t. t ≡ text.now) }
+    {
+        let inner = String::from_str(alloc, text)?;
+        Ok(Text { inner })
+    }
+
+    /// The text that `text` holds. It takes no memory.
+    pub fn of_string(text: String) -> Text
+        ensures { result ≡ chars (string_bytes text) }
+    {
+        Text { inner: text }
+    }
+
+    /// The text as UTF-8.
+    pub fn as_str(&self) -> &str
+        ensures characters { chars result.now ≡ self.now }
+        ensures bytes { result.now ≡ encode_utf8_all self.now }
+    {
+        self.inner.as_str()
+    }
+
+    /// Puts `text` behind the text.
+    pub fn push_str(&mut self, text: &str) -> Result<(), NoMemory>
+        ensures ok { OnOk result (self.new ≡ self.old ++ chars text.now) }
+        ensures ascii { is_all_ascii text.now ≡ true → OnOk result (self.new ≡ self.old ++ text.now) }
+        ensures err { OnErr result (self.new ≡ self.old) }
+    {
+        self.inner.push_str(text)?;
+        Ok(())
+    }
+
+    /// Puts `other` behind the text.
+    pub fn push_text(&mut self, other: &Text) -> Result<(), NoMemory>
+        ensures ok { OnOk result (self.new ≡ self.old ++ other.now) }
+        ensures err { OnErr result (self.new ≡ self.old) }
+    {
+        self.push_str(other.as_str())
+    }
+
+    /// Puts `number` behind the text, in decimal digits with no leading zero.
+    pub fn push_number(&mut self, number: u64) -> Result<(), NoMemory>
+        ensures ok { OnOk result (self.new ≡ self.old ++ decimal number) }
+        ensures err { OnErr result (self.new ≡ self.old) }
+    {
+        let mut buffer = Buffer::new();
+        self.push_str(buffer.format(number))
+    }
+
+    /// Another text of the same characters.
+    pub fn copy(&self, alloc: Global) -> Result<Text, NoMemory>
+        ensures { IfOk result (λ t. t ≡ self.now) }
+    {
+        Text::of_str(alloc, self.as_str())
+    }
+
+    /// Whether the two texts have the same characters.
+    pub fn is_same(&self, other: &Text) -> bool
+        ensures { IsTrue result ↔ (self.now ≡ other.now) }
+    {
+        self.as_str() == other.as_str()
+    }
+
+    /// Whether the text has the characters of `text`.
+    pub fn is_str(&self, text: &str) -> bool
+        ensures { IsTrue result ↔ (self.now ≡ chars text.now) }
+    {
+        self.as_str() == text
+    }
+
+    /// The length of the text in UTF-8, in bytes.
+    pub fn byte_len(&self) -> usize
+        ensures { result ≡ length (encode_utf8_all self.now) }
+    {
+        self.as_str().len()
+    }
+}
