@@ -1,0 +1,4 @@
+pub mod Job
+pub mod Shape
+pub mod Limits
+pub mod JobOf
