@@ -1,0 +1,3 @@
+pub mod Cause
+pub mod MemoryEnd
+pub mod StdEnd

@@ -1,2 +1,21 @@
-//! (being written)
+//! The outside of the style engine: where its input comes from, and where its output goes.
+//!
+//! What is outside can fail at any call. Each end counts its own faults, so that a failure is told
+//! only where the count rose, and an end that knows its bytes tells them.
 #![tactic(auto)]
+
+mod memory_sink;
+mod memory_source;
+mod sink;
+mod source;
+mod std_sink;
+mod std_source;
+#[cfg(test)]
+mod tests;
+
+pub use memory_sink::MemorySink;
+pub use memory_source::MemorySource;
+pub use sink::{Sink, SinkRefused};
+pub use source::{Failed, Source};
+pub use std_sink::StdSink;
+pub use std_source::StdSource;
