@@ -4,8 +4,12 @@
 
 mod memory;
 mod path_text;
+mod refusal;
+mod state;
 mod text;
 
 pub use memory::NoMemory;
 pub use path_text::PathText;
+pub use refusal::{EditRefused, Kind};
+pub use state::State;
 pub use text::Text;
