@@ -1,2 +1,3 @@
+pub mod CaseLemmas
 pub mod NameLemmas
 pub mod TextLemmas

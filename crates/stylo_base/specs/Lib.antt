@@ -1,3 +1,4 @@
 pub mod Ascii
+pub mod AsciiCase
 pub mod KindName
 pub mod NameList

@@ -2,6 +2,7 @@
 //! numbers, and the words of limits and refusals.
 #![tactic(auto)]
 
+mod ascii_case;
 mod memory;
 mod names;
 mod path_text;
@@ -9,6 +10,7 @@ mod refusal;
 mod state;
 mod text;
 
+pub use ascii_case::eq_ascii_case;
 pub use memory::NoMemory;
 pub use names::{Name, Names};
 pub use path_text::PathText;
