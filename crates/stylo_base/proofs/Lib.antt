@@ -1,3 +1,4 @@
 pub mod CaseLemmas
+pub mod FixedLemmas
 pub mod NameLemmas
 pub mod TextLemmas

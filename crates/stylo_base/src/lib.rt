@@ -3,6 +3,7 @@
 #![tactic(auto)]
 
 mod ascii_case;
+mod fixed;
 mod memory;
 mod names;
 mod path_text;
@@ -11,6 +12,7 @@ mod state;
 mod text;
 
 pub use ascii_case::eq_ascii_case;
+pub use fixed::Fixed;
 pub use memory::NoMemory;
 pub use names::{Name, Names};
 pub use path_text::PathText;
