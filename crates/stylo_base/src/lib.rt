@@ -4,11 +4,14 @@
 
 mod ascii_case;
 mod fixed;
+pub mod laws;
 mod memory;
 mod names;
 mod path_text;
 mod refusal;
 mod state;
+#[cfg(test)]
+mod tests;
 mod text;
 
 pub use ascii_case::eq_ascii_case;
