@@ -1,3 +1,4 @@
 mod Examples
 pub mod Lists
+pub mod Numbers
 pub mod Climbing
