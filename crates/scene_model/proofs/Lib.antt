@@ -3,3 +3,4 @@ pub mod Lists
 pub mod Numbers
 pub mod Found
 pub mod Climbing
+pub mod Listed

@@ -35,6 +35,15 @@ pub is_in_absent : (x : ℕ) (xs : List ℕ) → AllByRecursion (λ y. x ≢ y) 
 is_in_absent x [] h = refl
 is_in_absent x (y ∷ xs) h = any_absent x y xs h.0 (is_in_absent x xs h.1)
 
+each_at : (P : ℕ → Type 0) (x y : ℕ) (xs : List ℕ) (b : Bool) → (y == x) ≡ b → P y → (is_in x xs ≡ true → P x) → (b || is_in x xs) ≡ true → P x
+each_at P x y xs true e h r k = subst P (eqb-true y x e) h
+each_at P x y xs false e h r k = r k
+
+-- what holds of each holds of one
+pub each_is_in : (P : ℕ → Type 0) (x : ℕ) (xs : List ℕ) → AllByRecursion P xs → is_in x xs ≡ true → P x
+each_is_in P x [] h k = absurd (cc)
+each_is_in P x (y ∷ xs) h k = each_at P x y xs (y == x) refl h.0 (each_is_in P x xs h.1) k
+
 -- what a test finds, a filter by it keeps
 kept_any : {X : Type 0} (p : X → Bool) (b : Bool) (x : X) (xs : List X) → p x ≡ b → list_any p (filter p xs) ≡ list_any p xs → list_any p (cond b (x ∷ filter p xs) (filter p xs)) ≡ (b || list_any p xs)
 kept_any p true x xs e h = rw e
