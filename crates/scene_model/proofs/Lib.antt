@@ -1,3 +1,4 @@
+pub mod Before
 mod Examples
 pub mod Lists
 pub mod Numbers
