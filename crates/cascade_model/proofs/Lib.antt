@@ -1,1 +1,2 @@
+pub mod StyleAlong
 mod Examples
