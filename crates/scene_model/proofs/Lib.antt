@@ -4,3 +4,4 @@ pub mod Numbers
 pub mod Found
 pub mod Climbing
 pub mod Listed
+pub mod TreeOrder
