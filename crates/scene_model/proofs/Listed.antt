@@ -149,6 +149,16 @@ module _ (nodes : List Node) (v : IsNodeList nodes) where
       let first : k ≡ 0 = at_root k node.parent (parent_at nodes k node v f) e in
       omega arith
 
+  some_parent : (x : ℕ) (o : Option ℕ) → parent_of (listed nodes) x ≡ o → 1 < x → x ≤ length nodes → (q : ℕ) × (parent_of (listed nodes) x ≡ Some q)
+  some_parent x None e h k =
+      let first : x ≡ 1 = only_root-listed x (is_element-listed nodes x (omega arith) k) e in
+      absurd (omega arith)
+  some_parent x (Some q) e h k = (q, e)
+
+  -- each other number has a parent
+  pub parent-listed : (x : ℕ) → 1 < x → x ≤ length nodes → (q : ℕ) × (parent_of (listed nodes) x ≡ Some q)
+  parent-listed x h k = some_parent x (parent_of (listed nodes) x) refl h k
+
   -- each child's number is above its parent's
   pub each_child : (p : ℕ) → AllByRecursion (λ y. (p < y) × (y ≤ length nodes)) (children (listed nodes) p)
   each_child p =

@@ -56,6 +56,9 @@ any-filter p (x ∷ xs) = kept_any p (p x) x xs refl (any-filter p xs)
 pub is_in-copies : (x : ℕ) (xs : List ℕ) → is_in x (copies x xs) ≡ is_in x xs
 is_in-copies x xs = any-filter (λ y. y == x) xs
 
+pub in_copied : (x : ℕ) (xs ys : List ℕ) → copies x xs ≡ x ∷ ys → is_in x xs ≡ true
+in_copied x xs ys h = sym (is_in-copies x xs) ∙ (ap (is_in x) h ∙ ap (λ b. b || is_in x ys) (same_number x))
+
 none_kept : {X : Type 0} (p : X → Bool) (b : Bool) (x : X) (xs : List X) → (b || list_any p xs) ≡ false → (list_any p xs ≡ false → filter p xs ≡ []) → cond b (x ∷ filter p xs) (filter p xs) ≡ []
 none_kept p true x xs e h = cc
 none_kept p false x xs e h = h e
