@@ -6,12 +6,15 @@ use Rattle.std.proofs.lemmas.Bool.{cond-true, cond-false, cases_lt}
 use Rattle.std.proofs.lemmas.List.{length-map}
 use Rattle.std.proofs.lemmas.List.Elements.{All-from_recursion, filter_agree}
 use Rattle.scene_model.specs.Element.{Element}
-use Rattle.scene_model.specs.Lookups.{numbers, element_at, is_element, IsElement, parent_of, children}
+use Rattle.scene_model.specs.Lookups.{numbers, element_at, is_element, IsElement, parent_of, children, beside, siblings, left_of, place_of}
+use Rattle.scene_model.specs.Ancestors.{position_of}
+use Rattle.scene_model.specs.Valid.{IsValid}
 use Rattle.scene_model.specs.Nodes.{Node, IsNodeList, listed, subtree, tree_order, scene_of}
 use Rattle.scene_model.proofs.Lists.{each_weaker}
 use Rattle.scene_model.proofs.Numbers.{is_in, copies, in_copied, length_from_copies, distinct_from_copies}
-use Rattle.scene_model.proofs.Found.{hangs_on, element_at-filter_map, numbers-filter_map, children-hangs, is_element-at, cond_none}
-use Rattle.scene_model.proofs.Listed.{distinct-listed, parent-below, parent-listed, root-listed, each_child, is_element-listed, within-listed, element_at-listed_none}
+use Rattle.scene_model.proofs.Found.{hangs_on, element_at-filter_map, numbers-filter_map, children-hangs, is_element-at, position_of-numbers, cond_none}
+use Rattle.scene_model.proofs.Listed.{distinct-listed, parent-below, parent-listed, root-listed, each_child, is_element-listed, within-listed, element_at-listed_none, parent-element, only_root-listed, place_of-listed, place_of-listed_root}
+use Rattle.scene_model.proofs.Before.{place_in, parent_placed}
 use Rattle.scene_model.proofs.Subtrees.{Grows, IsTree, subtree-law, each_below, copies-whole, copies-whole_none, hangs_on-whole, each_whole}
 
 pub IsTree-listed : (nodes : List Node) → IsNodeList nodes → IsTree (listed nodes) (length nodes)
@@ -84,3 +87,60 @@ module _ (nodes : List Node) (v : IsNodeList nodes) where
   unfolding tree_order
   children-scene_of p =
       children-hangs (scene_of nodes) p distinct-scene_of ∙ (ap (filter (hangs_on (scene_of nodes) p)) numbers-scene_of ∙ (filter_agree (hangs_on (scene_of nodes) p) (hangs_on (listed nodes) p) (λ y. ap (λ o. option_map_or (λ q. q == p) o false) (parent_of-scene_of y)) (tree_order nodes) ∙ hangs_on-whole (listed nodes) (length nodes) (IsTree-listed nodes v) p))
+
+  beside-scene_of : (x : ℕ) (o : Option ℕ) → beside (scene_of nodes) x o ≡ beside (listed nodes) x o
+  beside-scene_of x None = refl
+  beside-scene_of x (Some p) = children-scene_of p
+
+  pub siblings-scene_of : (x : ℕ) → siblings (scene_of nodes) x ≡ siblings (listed nodes) x
+  siblings-scene_of x =
+      ap (λ b. cond b (beside (scene_of nodes) x (parent_of (scene_of nodes) x)) []) (is_element-scene_of x) ∙ ap (λ l. cond (is_element (listed nodes) x) l []) (ap (beside (scene_of nodes) x) (parent_of-scene_of x) ∙ beside-scene_of x (parent_of (listed nodes) x))
+
+  pub place_of-scene_of : (x : ℕ) → place_of (scene_of nodes) x ≡ place_of (listed nodes) x
+  place_of-scene_of x = ap (λ l. length (left_of x l)) (siblings-scene_of x)
+
+  -- a node's place is how many of its parent's children the list has before it
+  pub place_of-child : (k : ℕ) (node : Node) (p : ℕ) → slice_get nodes k ≡ Some node → node.parent ≡ Some p → place_of (scene_of nodes) (k + 1) ≡ length (children (listed (take k nodes)) (p + 1))
+  place_of-child k node p h e = place_of-scene_of (k + 1) ∙ place_of-listed nodes k node p h e
+
+  pub place_of-root : (k : ℕ) (node : Node) → slice_get nodes k ≡ Some node → node.parent ≡ None → place_of (scene_of nodes) (k + 1) ≡ 0
+  place_of-root k node h e = place_of-scene_of (k + 1) ∙ place_of-listed_root nodes k node h e
+
+  -- what a document must have
+
+  pub IsElement-scene_of : (x : ℕ) → 0 < x → x ≤ length nodes → IsElement (scene_of nodes) x
+  IsElement-scene_of x h k = is_element-scene_of x ∙ is_element-listed nodes x h k
+
+  pub within-scene_of : (x : ℕ) → IsElement (scene_of nodes) x → (0 < x) × (x ≤ length nodes)
+  within-scene_of x h = within-listed nodes x (sym (is_element-scene_of x) ∙ h)
+
+  place_in_scene : (x : ℕ) → position_of (scene_of nodes) x ≡ place_in (tree_order nodes) x
+  place_in_scene x = position_of-numbers (scene_of nodes) x ∙ ap (λ l. place_in l x) numbers-scene_of
+
+  pub position_of-parent : (x p : ℕ) → parent_of (scene_of nodes) x ≡ Some p → position_of (scene_of nodes) p < position_of (scene_of nodes) x
+  unfolding tree_order
+  position_of-parent x p h =
+      let e : parent_of (listed nodes) x ≡ Some p = sym (parent_of-scene_of x) ∙ h in
+      let b = parent-below nodes v x p e in
+      let there : is_in x (tree_order nodes) ≡ true = in_copied x (tree_order nodes) [] (once_in_order x (omega arith) b.2) in
+      let l : place_in (tree_order nodes) p < place_in (tree_order nodes) x =
+          parent_placed (listed nodes) (length nodes) 1 x p (distinct-listed nodes) (root-listed nodes v) there e in
+      rw (place_in_scene p, place_in_scene x) l
+
+  first_in_order : place_in (tree_order nodes) 1 ≡ 0
+  unfolding tree_order
+  first_in_order = ap (λ l. place_in l 1) (subtree-listed 1 (omega arith) v.some)
+
+  pub position_of-root : position_of (scene_of nodes) 1 ≡ 0
+  position_of-root = place_in_scene 1 ∙ first_in_order
+
+  pub IsValid-scene_of : IsValid (scene_of nodes)
+  IsValid-scene_of =
+      record { distinct = distinct-scene_of; parents = λ x p h. (parents_elements x p h, position_of-parent x p h); root = root_first }
+    where
+      parents_elements : (x p : ℕ) → parent_of (scene_of nodes) x ≡ Some p → IsElement (scene_of nodes) p
+      parents_elements x p h = is_element-scene_of p ∙ parent-element nodes v x p (sym (parent_of-scene_of x) ∙ h)
+      root_first : (x : ℕ) → IsElement (scene_of nodes) x → parent_of (scene_of nodes) x ≡ None → position_of (scene_of nodes) x ≡ 0
+      root_first x is h =
+          let first : x ≡ 1 = only_root-listed nodes v x (sym (is_element-scene_of x) ∙ is) (sym (parent_of-scene_of x) ∙ h) in
+          ap (position_of (scene_of nodes)) first ∙ position_of-root
