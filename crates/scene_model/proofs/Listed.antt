@@ -1,11 +1,11 @@
 -- Laws of a list of nodes as elements: each has the number of its place, from 1, and each parent is before its child.
-use Rattle.std.proofs.Common.{◌≡◌, ◌≢◌, ℕ, zero, suc, ◌+◌, ◌-◌, ◌<◌, ◌≤◌, ◌==◌, nat_eq, List, [], ◌∷◌, ◌++◌, map, filter, find, length, take, drop, Bool, true, false, cond, Option, Some, None, All, option_map, option_and_then, slice_get, refl, sym, ap, subst, subst₂, ◌∙◌, arith, add-zero}
+use Rattle.std.proofs.Common.{◌≡◌, ◌≢◌, ℕ, zero, suc, ◌+◌, ◌-◌, ◌<◌, ◌≤◌, ◌==◌, nat_eq, List, [], ◌∷◌, ◌++◌, map, filter, find, length, take, drop, Decides, Bool, true, false, cond, Option, Some, None, All, option_map, option_and_then, slice_get, refl, sym, ap, subst, subst₂, ◌∙◌, arith, add-zero}
 use Rattle.std.specs.List.{AllByRecursion, IsDistinct, range_with_len}
 use Rattle.std.specs.List.Sorted.{IsStrictlyIncreasing}
 use Rattle.std.proofs.lemmas.Bool.Decides.{nat_tests}
 use Rattle.std.specs.Option.{option_map_or}
 use Rattle.std.proofs.lemmas.Bool.{cond-true, cond-false, eq-eqb, false_from_ne_true}
-use Rattle.std.proofs.lemmas.List.{append-nil, length-take-le}
+use Rattle.std.proofs.lemmas.List.{append-nil, length-take-le, length_push}
 use Rattle.std.proofs.lemmas.List.Elements.{All-from_recursion}
 use Rattle.std.proofs.lemmas.List.FromFn.{length-range_with_len, get_or-range_with_len}
 use Rattle.std.proofs.lemmas.List.Kept.{IsStrictlyIncreasing-filter}
@@ -257,3 +257,28 @@ place_of-listed nodes k node p h e = ap length (left_of-listed nodes k node p h 
 pub place_of-listed_root : (nodes : List Node) (k : ℕ) (node : Node) → slice_get nodes k ≡ Some node → node.parent ≡ None → place_of (listed nodes) (k + 1) ≡ 0
 place_of-listed_root nodes k node h e =
     ap (λ l. length (left_of (k + 1) l)) (siblings-listed_root nodes k node h e) ∙ ap length (left_of_split (k + 1) [] [] tt)
+
+-- what makes a list of nodes
+
+have-append : (k : ℕ) (nodes others : List Node) → HaveParentsFrom k nodes → HaveParentsFrom (k + length nodes) others → HaveParentsFrom k (nodes ++ others)
+have-append k [] others h j = subst (λ m. HaveParentsFrom m others) (omega arith) j
+have-append k (node ∷ nodes) others h j = (h.0, have-append (k + 1) nodes others h.1 (subst (λ m. HaveParentsFrom m others) (omega arith) j))
+
+have-take : (k i : ℕ) (nodes : List Node) → HaveParentsFrom k nodes → HaveParentsFrom k (take i nodes)
+have-take k zero nodes h = tt
+have-take k (suc i) [] h = tt
+have-take k (suc i) (node ∷ nodes) h = (h.0, have-take (k + 1) i nodes h.1)
+
+pub IsNodeList-one : (node : Node) → node.parent ≡ None → IsNodeList (node ∷ [])
+IsNodeList-one node h = record { some = omega arith; parents = (subst (IsParentAt 0) (sym h) refl, tt) }
+
+pub IsNodeList-push : (nodes : List Node) (node : Node) → IsNodeList nodes → IsParentAt (length nodes) node.parent → IsNodeList (nodes ++ node ∷ [])
+IsNodeList-push nodes node v h =
+    record { some = omega (arith, length_push nodes node, v.some); parents = have-append 0 nodes (node ∷ []) v.parents (subst (λ m. HaveParentsFrom m (node ∷ [])) (omega arith) (h, tt)) }
+
+pub IsNodeList-take : (nodes : List Node) (k : ℕ) → IsNodeList nodes → 0 < k → k ≤ length nodes → IsNodeList (take k nodes)
+IsNodeList-take nodes k v h j =
+    record { some = omega (arith, length-take-le k nodes j); parents = have-take 0 k nodes v.parents }
+
+pub decides-listed : (nodes : List Node) (x : ℕ) → Decides (is_element (listed nodes) x) ((0 < x) × (x ≤ length nodes))
+decides-listed nodes x = (within-listed nodes x, λ h. is_element-listed nodes x h.0 h.1)

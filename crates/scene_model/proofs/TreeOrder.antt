@@ -1,12 +1,14 @@
 -- Laws of the tree order of a list of nodes, and of the document that it stands for.
-use Rattle.std.proofs.Common.{◌≡◌, ◌≢◌, ℕ, zero, suc, ◌+◌, ◌<◌, ◌≤◌, ◌==◌, nat_eq, List, [], ◌∷◌, ◌++◌, map, filter, find, filter_map, flat_map, length, take, drop, Bool, true, false, cond, ◌||◌, Option, Some, None, All, option_map, option_and_then, slice_get, refl, sym, ap, subst, ◌∙◌, append-nil, inl, inr, is_some, arith}
+use Rattle.std.proofs.Common.{◌≡◌, ◌≢◌, ℕ, zero, suc, ◌+◌, ◌<◌, ◌≤◌, ◌==◌, nat_eq, List, [], ◌∷◌, ◌++◌, filter, find, filter_map, flat_map, length, take, drop, Bool, true, false, cond, ◌||◌, Option, Some, None, All, option_map, option_and_then, unwrap_or, codes, Decides, slice_get, refl, sym, ap, subst, ◌∙◌, append-nil, inl, inr, is_some, arith}
 use Rattle.std.specs.List.{AllByRecursion, IsDistinct}
+use Rattle.std.specs.FinMap as map
 use Rattle.std.specs.Option.{option_map_or}
 use Rattle.std.proofs.lemmas.Bool.{cond-true, cond-false, cases_lt, cases_eq, eq-eqb, false_from_ne_true}
 use Rattle.std.proofs.lemmas.List.{length-map}
 use Rattle.std.proofs.lemmas.List.Elements.{All-from_recursion, filter_agree}
-use Rattle.scene_model.specs.Element.{Element}
-use Rattle.scene_model.specs.Lookups.{numbers, element_at, is_element, IsElement, parent_of, children, beside, siblings, left_of, place_of}
+use Rattle.scene_model.specs.Element.{Element, Characters, State, has_state}
+use Rattle.scene_model.specs.Words.{has_word}
+use Rattle.scene_model.specs.Lookups.{numbers, element_at, is_element, IsElement, parent_of, children, beside, siblings, left_of, place_of, tag_of, attribute_of, has_class, state_of}
 use Rattle.scene_model.specs.Ancestors.{position_of, ancestors}
 use Rattle.scene_model.specs.Valid.{IsValid}
 use Rattle.scene_model.specs.Nodes.{Node, IsNodeList, listed, subtree, tree_order, scene_of}
@@ -84,6 +86,21 @@ module _ (nodes : List Node) (v : IsNodeList nodes) where
   pub parent_of-scene_of : (x : ℕ) → parent_of (scene_of nodes) x ≡ parent_of (listed nodes) x
   parent_of-scene_of x = ap (option_and_then (λ e. e.parent)) (element_at-scene_of x)
 
+  pub tag_of-scene_of : (x : ℕ) → tag_of (scene_of nodes) x ≡ tag_of (listed nodes) x
+  tag_of-scene_of x = ap (λ o. unwrap_or (option_map (λ e. e.tag) o) []) (element_at-scene_of x)
+
+  pub attribute_of-scene_of : (x : ℕ) (name : Characters) → attribute_of (scene_of nodes) x name ≡ attribute_of (listed nodes) x name
+  attribute_of-scene_of x name = ap (option_and_then (λ e. map.get e.attrs name)) (element_at-scene_of x)
+
+  pub has_class-scene_of : (x : ℕ) (class : Characters) → has_class (scene_of nodes) x class ≡ has_class (listed nodes) x class
+  has_class-scene_of x class = ap (λ o. option_map_or (has_word class) o false) (attribute_of-scene_of x (codes "class"))
+
+  pub state_of-scene_of : (x : ℕ) (state : State) → state_of (scene_of nodes) x state ≡ state_of (listed nodes) x state
+  state_of-scene_of x state = ap (λ o. option_map_or (λ e. has_state e.states state) o false) (element_at-scene_of x)
+
+  pub root-scene_of : parent_of (scene_of nodes) 1 ≡ None
+  root-scene_of = parent_of-scene_of 1 ∙ root-listed nodes v
+
   pub children-scene_of : (p : ℕ) → children (scene_of nodes) p ≡ children (listed nodes) p
   unfolding tree_order
   children-scene_of p =
@@ -114,6 +131,9 @@ module _ (nodes : List Node) (v : IsNodeList nodes) where
 
   pub within-scene_of : (x : ℕ) → IsElement (scene_of nodes) x → (0 < x) × (x ≤ length nodes)
   within-scene_of x h = within-listed nodes x (sym (is_element-scene_of x) ∙ h)
+
+  pub decides-scene_of : (x : ℕ) → Decides (is_element (scene_of nodes) x) ((0 < x) × (x ≤ length nodes))
+  decides-scene_of x = (within-scene_of x, λ h. IsElement-scene_of x h.0 h.1)
 
   place_in_scene : (x : ℕ) → position_of (scene_of nodes) x ≡ place_in (tree_order nodes) x
   place_in_scene x = position_of-numbers (scene_of nodes) x ∙ ap (λ l. place_in l x) numbers-scene_of
