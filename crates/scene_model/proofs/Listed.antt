@@ -1,8 +1,7 @@
 -- Laws of a list of nodes as elements: each has the number of its place, from 1, and each parent is before its child.
-use Rattle.std.proofs.Common.{◌≡◌, ◌≢◌, ℕ, zero, suc, ◌+◌, ◌-◌, ◌<◌, ◌≤◌, ◌==◌, nat_eq, List, [], ◌∷◌, ◌++◌, map, filter, find, length, take, drop, Decides, Bool, true, false, cond, Option, Some, None, All, option_map, option_and_then, slice_get, refl, sym, ap, subst, subst₂, ◌∙◌, arith, add-zero}
+use Rattle.std.proofs.Common.{◌≡◌, ◌≢◌, ℕ, zero, suc, ◌+◌, ◌-◌, ◌<◌, ◌≤◌, ◌==◌, nat_eq, List, [], ◌∷◌, ◌++◌, filter, length, take, drop, Decides, false, Option, Some, None, All, option_map, option_and_then, slice_get, refl, sym, ap, subst, subst₂, ◌∙◌, arith}
 use Rattle.std.specs.List.{AllByRecursion, IsDistinct, range_with_len}
 use Rattle.std.specs.List.Sorted.{IsStrictlyIncreasing}
-use Rattle.std.proofs.lemmas.Bool.Decides.{nat_tests}
 use Rattle.std.specs.Option.{option_map_or}
 use Rattle.std.proofs.lemmas.Bool.{cond-true, cond-false, eq-eqb, false_from_ne_true}
 use Rattle.std.proofs.lemmas.List.{append-nil, length-take-le, length_push}
@@ -11,7 +10,7 @@ use Rattle.std.proofs.lemmas.List.FromFn.{length-range_with_len, get_or-range_wi
 use Rattle.std.proofs.lemmas.List.Kept.{IsStrictlyIncreasing-filter}
 use Rattle.std.proofs.lemmas.Option.{same_Some, slice_get_within}
 use Rattle.scene_model.specs.Element.{Element}
-use Rattle.scene_model.specs.Lookups.{has_number, numbers, element_at, is_element, IsElement, parent_of, is_child_of, children, beside, siblings, left_of, place_of}
+use Rattle.scene_model.specs.Lookups.{numbers, element_at, is_element, IsElement, parent_of, is_child_of, children, beside, siblings, left_of, place_of}
 use Rattle.scene_model.specs.Nodes.{Node, IsParentAt, HaveParentsFrom, IsNodeList, listed_from, listed}
 use Rattle.scene_model.proofs.Lists.{each_weaker, each-filter, split_at}
 use Rattle.scene_model.proofs.Numbers.{is_in, each-range, distinct-range, is_in-range, each_is_in, differs, left_of_split}
@@ -228,9 +227,9 @@ children_split : (nodes : List Node) (k : ℕ) (node : Node) (p : ℕ) → slice
 children_split nodes k node p h e =
     let short : length (take k nodes) ≡ k = length-take-le k nodes (omega (arith, slice_get_within nodes k node h)) in
     let apart : listed nodes ≡ listed (take k nodes) ++ listed_from k (node ∷ drop (suc k) nodes) =
-        ap listed (split_at nodes k node h) ∙ (listed-append (take k nodes) (node ∷ drop (suc k) nodes) ∙ ap (λ m. listed (take k nodes) ++ listed_from m (node ∷ drop (suc k) nodes)) short) in
+    ap listed (split_at nodes k node h) ∙ (listed-append (take k nodes) (node ∷ drop (suc k) nodes) ∙ ap (λ m. listed (take k nodes) ++ listed_from m (node ∷ drop (suc k) nodes)) short) in
     let here : children (listed_from k (node ∷ drop (suc k) nodes)) (p + 1) ≡ (k + 1) ∷ children (listed_from (k + 1) (drop (suc k) nodes)) (p + 1) =
-        children-append (numbered k node ∷ []) (listed_from (k + 1) (drop (suc k) nodes)) (p + 1) ∙ ap (λ l. l ++ children (listed_from (k + 1) (drop (suc k) nodes)) (p + 1)) (last_child k node (p + 1) p e refl) in
+    children-append (numbered k node ∷ []) (listed_from (k + 1) (drop (suc k) nodes)) (p + 1) ∙ ap (λ l. l ++ children (listed_from (k + 1) (drop (suc k) nodes)) (p + 1)) (last_child k node (p + 1) p e refl) in
     ap (λ l. children l (p + 1)) apart ∙ (children-append (listed (take k nodes)) (listed_from k (node ∷ drop (suc k) nodes)) (p + 1) ∙ ap (λ l. children (listed (take k nodes)) (p + 1) ++ l) here)
 
 pub siblings-listed : (nodes : List Node) (k : ℕ) (node : Node) (p : ℕ) → slice_get nodes k ≡ Some node → node.parent ≡ Some p → siblings (listed nodes) (k + 1) ≡ children (listed nodes) (p + 1)
@@ -248,7 +247,7 @@ pub left_of-listed : (nodes : List Node) (k : ℕ) (node : Node) (p : ℕ) → s
 left_of-listed nodes k node p h e =
     let short : length (take k nodes) ≡ k = length-take-le k nodes (omega (arith, slice_get_within nodes k node h)) in
     let below : AllByRecursion (λ y. y ≢ k + 1) (children (listed (take k nodes)) (p + 1)) =
-        each_weaker (λ y. (0 < y) × (y ≤ length (take k nodes))) (λ y. y ≢ k + 1) (λ y b f. let same : y ≡ k + 1 = f in omega arith) (children (listed (take k nodes)) (p + 1)) (each_child-within (take k nodes) (p + 1)) in
+    each_weaker (λ y. (0 < y) × (y ≤ length (take k nodes))) (λ y. y ≢ k + 1) (λ y b f. let same : y ≡ k + 1 = f in omega arith) (children (listed (take k nodes)) (p + 1)) (each_child-within (take k nodes) (p + 1)) in
     ap (left_of (k + 1)) (siblings-listed nodes k node p h e ∙ children_split nodes k node p h e) ∙ left_of_split (k + 1) (children (listed (take k nodes)) (p + 1)) (children (listed_from (k + 1) (drop (suc k) nodes)) (p + 1)) below
 
 pub place_of-listed : (nodes : List Node) (k : ℕ) (node : Node) (p : ℕ) → slice_get nodes k ≡ Some node → node.parent ≡ Some p → place_of (listed nodes) (k + 1) ≡ length (children (listed (take k nodes)) (p + 1))
