@@ -1,2 +1,2 @@
-pub mod StyleAlong
 mod Examples
+pub mod StyleAlong

@@ -17,7 +17,7 @@ style_along doc (x ∷ above) = computed (is_none (parent_of doc x)) (style_alon
 unfoldable pub style_of : List Element → ℕ → Style
 style_of doc x = style_along doc (x ∷ ancestors doc x)
 
--- the style that an element's is computed over: its parent's, or for the root the initial one
+-- what an element's style is over: its parent's, and all initial values at the root
 abbrev pub parent_style : List Element → Option ℕ → Style
 parent_style doc None = initial_style
 parent_style doc (Some p) = style_of doc p

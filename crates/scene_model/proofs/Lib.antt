@@ -1,4 +1,3 @@
-pub mod Before
 mod Examples
 pub mod Lists
 pub mod Numbers
@@ -6,4 +5,7 @@ pub mod Found
 pub mod Climbing
 pub mod Listed
 pub mod Subtrees
+pub mod Before
 pub mod TreeOrder
+pub mod Depths
+pub mod ParentBefore
