@@ -3,9 +3,15 @@
 #![tactic(auto)]
 
 mod memory;
+mod names;
 mod path_text;
+mod refusal;
+mod state;
 mod text;
 
 pub use memory::NoMemory;
+pub use names::{Name, Names};
 pub use path_text::PathText;
+pub use refusal::{EditRefused, Kind};
+pub use state::State;
 pub use text::Text;

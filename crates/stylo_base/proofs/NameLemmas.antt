@@ -1,0 +1,166 @@
+use Rattle.std.proofs.Common.{◌≡◌, ◌↔◌, ℕ, suc, ◌+◌, ◌<◌, ◌^◌, Bool, true, false, not, cond, ◌||◌, List, [], ◌∷◌, ◌++◌, Option, Some, None, Contains, IsSome, is_some, length, map, get_or, slice_get, nat_lt, ltb-true, sym, ap, ◌∙◌, subst, inl, inr, ◌⊎◌, refl, arith}
+use Rattle.std.proofs.lemmas.Bool.{not-false}
+use Rattle.std.specs.Bool.{Decides}
+use Rattle.indexmap.specs.IndexSet.{insert_key}
+use Rattle.std.specs.List.{list_any, position, prefix_len}
+use Rattle.std.specs.Str.{chars, bytes_eq, IsUtf8}
+use Rattle.std.specs.declared.string.String.{String}
+use Rattle.std.specs.String.{string_bytes, string_eq}
+use Rattle.std.proofs.lemmas.Bool.{cond-false, false≢true}
+use Rattle.std.proofs.lemmas.Map.Views.{Contains-from_any, list_any-from_Contains}
+use Rattle.std.specs.Cmp.Lexicographic.{nat_list_eq_equiv}
+use Rattle.std.proofs.lemmas.Bool.Decides.{same_from_decides, nat_tests}
+use Rattle.std.proofs.lemmas.List.{map_push, length-map, length_push, get_or_push, get_or_append_left}
+use Rattle.std.proofs.lemmas.List.Sums.{prefix_len_stops}
+use Rattle.std.proofs.lemmas.Option.{slice_get-get_or, slice_get_read, slice_get_within, get_or_from_slice_get}
+use Rattle.std.proofs.lemmas.Slice.Eq.{bytes_eq-Decides}
+use Rattle.std.proofs.lemmas.Str.{IsUtf8-string_bytes}
+use Rattle.stylo_base.proofs.TextLemmas.{chars_same}
+use Rattle.stylo_base.specs.NameList.{is_among, interned, StandOnce, AreNamed}
+
+-- the characters of each key
+abbrev pub seen : {Z : Type 0} → List (String Z) → List (List ℕ)
+seen keys = map (λ s. chars (string_bytes s)) keys
+
+-- two texts are compared alike by bytes and by characters
+same_test : (a b : List ℕ) → IsUtf8 a → IsUtf8 b → bytes_eq a b ≡ bytes_eq (chars a) (chars b)
+same_test a b u v =
+    let by_chars = bytes_eq-Decides (chars a) (chars b) in
+    same_from_decides _ _ (bytes_eq-Decides a b) (λ e. chars_same a b u v (by_chars.0 e), λ e. by_chars.1 (ap chars e))
+
+-- the first key with the bytes of a text is the first with its characters
+prefix-seen : {Z : Type 0} (text : List ℕ) → IsUtf8 text → (keys : List (String Z)) → prefix_len (λ k. not (bytes_eq text (string_bytes k))) keys ≡ prefix_len (λ cs. not (bytes_eq (chars text) cs)) (seen keys)
+prefix-seen text u [] = refl
+prefix-seen text u (k ∷ ks) =
+    let t = same_test text (string_bytes k) u (IsUtf8-string_bytes k) in
+    let h = prefix-seen text u ks in
+    ap (λ b. cond (not b) (1 + prefix_len (λ s. not (bytes_eq text (string_bytes s))) ks) 0) t
+    ∙ ap (λ n. cond (not (bytes_eq (chars text) (chars (string_bytes k)))) (1 + n) 0) h
+
+-- its place
+pub place-seen : {Z : Type 0} (text : List ℕ) → IsUtf8 text → (keys : List (String Z)) → position (λ k. bytes_eq text (string_bytes k)) keys ≡ position (bytes_eq (chars text)) (seen keys)
+place-seen text u keys =
+    let at = λ (p n : ℕ). cond (nat_lt p n) (Some p) None in
+    ap (λ p. at p (length keys)) (prefix-seen text u keys)
+    ∙ ap (λ n. at (prefix_len (λ cs. not (bytes_eq (chars text) cs)) (seen keys)) n) (sym (length-map keys (λ s. chars (string_bytes s))))
+
+-- a key among the keys is its characters among their texts
+among-seen : {Z : Type 0} (text : List ℕ) → IsUtf8 text → (keys : List (String Z)) (kept : String Z) → string_bytes kept ≡ text → list_any (string_eq kept) keys ≡ is_among (chars text) (seen keys)
+among-seen text u [] kept b = refl
+among-seen text u (k ∷ ks) kept b =
+    let t = ap (λ bs. bytes_eq bs (string_bytes k)) b ∙ same_test text (string_bytes k) u (IsUtf8-string_bytes k) in
+    ap (λ x. x || list_any (string_eq kept) ks) t ∙ ap (λ r. bytes_eq (chars text) (chars (string_bytes k)) || r) (among-seen text u ks kept b)
+
+-- the test of a place that may be none
+some_from_cond : (b : Bool) (n i : ℕ) → cond b (Some n) None ≡ Some i → (b ≡ true) × (n ≡ i)
+some_from_cond true n i h = (refl, cc)
+some_from_cond false n i h = cc
+
+-- what `position` found is the text
+pub text_at : (text : List ℕ) (texts : List (List ℕ)) (i : ℕ) → position (bytes_eq text) texts ≡ Some i → slice_get texts i ≡ Some text
+text_at text texts i h =
+    let n = prefix_len (λ cs. not (bytes_eq text cs)) texts in
+    let found = some_from_cond (nat_lt n (length texts)) n i h in
+    let within : n < length texts = ltb-true n (length texts) found.0 in
+    let stops = prefix_len_stops (λ cs. not (bytes_eq text cs)) texts [] within in
+    let same = (bytes_eq-Decides text (get_or texts n [])).0 (not-false _ stops) in
+    ap (slice_get texts) (sym found.1) ∙ (slice_get-get_or texts n [] within ∙ ap Some (sym same))
+
+-- one more text before those that were tested
+any_step : (b r : Bool) (n l : ℕ) → nat_lt n l ≡ r → nat_lt (cond (not b) (1 + n) 0) (suc l) ≡ (b || r)
+any_step true r n l h = grind (arith, nat_tests)
+any_step false r n l h = rw (← h) (grind (arith, nat_tests))
+
+-- a text is among the texts exactly where it has a place
+any_before : (text : List ℕ) (texts : List (List ℕ)) → nat_lt (prefix_len (λ cs. not (bytes_eq text cs)) texts) (length texts) ≡ is_among text texts
+any_before text [] = refl
+any_before text (t ∷ ts) =
+    any_step (bytes_eq text t) (is_among text ts) (prefix_len (λ cs. not (bytes_eq text cs)) ts) (length ts) (any_before text ts)
+
+is_some-cond : (b : Bool) (n : ℕ) → is_some (cond b (Some n) None) ≡ b
+is_some-cond true n = refl
+is_some-cond false n = refl
+
+pub is_some-position : (text : List ℕ) (texts : List (List ℕ)) → is_some (position (bytes_eq text) texts) ≡ is_among text texts
+is_some-position text texts =
+    let n = prefix_len (λ cs. not (bytes_eq text cs)) texts in
+    is_some-cond (nat_lt n (length texts)) n ∙ any_before text texts
+
+-- the test for a text, as a fact
+pub is_among-Decides : (text : List ℕ) (texts : List (List ℕ)) → Decides (is_among text texts) (Contains texts text)
+is_among-Decides text texts =
+    (Contains-from_any (λ x y. (bytes_eq-Decides x y).0) text texts, list_any-from_Contains nat_list_eq_equiv text texts)
+
+-- the place behind all texts has the text that is put there
+pub get_last : (texts : List (List ℕ)) (text : List ℕ) (n : ℕ) → n ≡ length texts → slice_get (texts ++ text ∷ []) n ≡ Some text
+get_last texts text n e =
+    slice_get_read (texts ++ text ∷ []) (n + 1) n text (omega (arith, length_push texts text)) (omega arith) (sym (get_or_push texts text text n (sym e)))
+
+-- the other places keep their texts
+pub get_kept : (texts : List (List ℕ)) (text : List ℕ) (n : ℕ) → n < length texts → slice_get (texts ++ text ∷ []) n ≡ slice_get texts n
+get_kept texts text n h =
+    slice_get-get_or (texts ++ text ∷ []) n [] (omega (arith, length_push texts text))
+    ∙ (ap Some (get_or_append_left texts (text ∷ []) [] n h) ∙ sym (slice_get-get_or texts n [] h))
+
+-- a new text has no place
+new_has_none : (texts : List (List ℕ)) (text : List ℕ) (i : ℕ) → is_among text texts ≡ false → slice_get texts i ≡ Some text → ⊥
+new_has_none texts text i new p =
+    false≢true (sym new ∙ (is_among-Decides text texts).1 (i, slice_get_within texts i text p, get_or_from_slice_get texts i text text p))
+
+-- a place of the longer list is one of the shorter or the last
+below_or_last : (n l : ℕ) → n < l + 1 → (n < l) ⊎ (n ≡ l)
+below_or_last n l h = grind arith
+
+-- the last place has the new text alone
+last_text : (texts : List (List ℕ)) (text other : List ℕ) (i : ℕ) → i ≡ length texts → slice_get (texts ++ text ∷ []) i ≡ Some other → other ≡ text
+last_text texts text other i e p = let same = sym p ∙ get_last texts text i e in cc
+
+-- a text that was not there makes no text stand twice
+pub StandOnce-push : (texts : List (List ℕ)) (text : List ℕ) → StandOnce texts → is_among text texts ≡ false → StandOnce (texts ++ text ∷ [])
+StandOnce-push texts text once new i j other p q =
+    let within = λ (n : ℕ) (h : slice_get (texts ++ text ∷ []) n ≡ Some other). below_or_last n (length texts) (omega (arith, slice_get_within (texts ++ text ∷ []) n other h, length_push texts text)) in
+    elim (within i p) [
+      | inl a ↦ elim (within j q) [
+        | inl b ↦ once i j other (sym (get_kept texts text i a) ∙ p) (sym (get_kept texts text j b) ∙ q)
+        | inr b ↦ absurd (new_has_none texts text i new (sym (get_kept texts text i a) ∙ p ∙ ap Some (last_text texts text other j b q)))
+      ]
+      | inr a ↦ elim (within j q) [
+        | inl b ↦ absurd (new_has_none texts text j new (sym (get_kept texts text j b) ∙ q ∙ ap Some (last_text texts text other i a p)))
+        | inr b ↦ a ∙ sym b
+      ]
+    ]
+
+-- what was found among the keys, as what is among the texts
+pub place_of : {Z : Type 0} (text : List ℕ) → IsUtf8 text → (keys : List (String Z)) (now : List (List ℕ)) (r : Option ℕ) → r ≡ position (λ k. bytes_eq text (string_bytes k)) keys → seen keys ≡ now → position (bytes_eq (chars text)) now ≡ r
+place_of text u keys now r e v =
+    sym (ap (position (bytes_eq (chars text))) v) ∙ (sym (place-seen text u keys) ∙ sym e)
+
+-- a text that has a place is there
+pub there : {N : Type 0} (r : Option N) (text : List ℕ) (texts : List (List ℕ)) (place : Option ℕ) → is_some r ≡ is_some place → position (bytes_eq text) texts ≡ place → is_some r ≡ is_among text texts
+there r text texts place same e = same ∙ (sym (ap (is_some {T = ℕ}) e) ∙ is_some-position text texts)
+
+-- the same as facts
+pub exactly : {N : Type 0} (r : Option N) (text : List ℕ) (texts : List (List ℕ)) → is_some r ≡ is_among text texts → IsSome r ↔ Contains texts text
+exactly r text texts e =
+    let decides = is_among-Decides text texts in
+    (λ h. decides.0 (sym e ∙ h), λ h. e ∙ decides.1 h)
+
+-- the texts after a new key
+pub seen_push : {Z : Type 0} (text : List ℕ) → IsUtf8 text → (keys new : List (String Z)) (kept : String Z) (now : List (List ℕ)) → string_bytes kept ≡ text → new ≡ insert_key string_eq keys kept → seen keys ≡ now → is_among (chars text) now ≡ false → seen new ≡ now ++ chars text ∷ []
+seen_push text u keys new kept now b e v absent =
+    let same : list_any (string_eq kept) keys ≡ is_among (chars text) (seen keys) = among-seen text u keys kept b in
+    let fresh : list_any (string_eq kept) keys ≡ false = same ∙ (ap (is_among (chars text)) v ∙ absent) in
+    let longer : new ≡ keys ++ kept ∷ [] = e ∙ cond-false _ keys (keys ++ kept ∷ []) fresh in
+    ap seen longer ∙ (map_push (λ s. chars (string_bytes s)) keys kept ∙ (ap (λ ts. ts ++ chars (string_bytes kept) ∷ []) v ∙ ap (λ bs. now ++ chars bs ∷ []) b))
+
+-- what a new name leaves: the list, the look-ups and that each text stands once
+pub interned_new : (text : List ℕ) (old new : List (List ℕ)) → new ≡ old ++ text ∷ [] → is_among text old ≡ false → new ≡ interned old text
+interned_new text old new e absent = e ∙ sym (cond-false (is_among text old) old (old ++ text ∷ []) absent)
+
+pub AreNamed-push : (text : List ℕ) (old new : List (List ℕ)) → new ≡ old ++ text ∷ [] → is_among text old ≡ false → StandOnce old → length old < 2 ^ 32 → AreNamed new
+AreNamed-push text old new e absent once few =
+    subst AreNamed (sym e) (record { once = StandOnce-push old text once absent; few = omega (arith, length_push old text) })
+
+-- there are as many texts as keys
+pub count-seen : {Z : Type 0} (keys : List (String Z)) (now : List (List ℕ)) (n : ℕ) → n ≡ length keys → seen keys ≡ now → n ≡ length now
+count-seen keys now n e v = e ∙ (sym (length-map keys (λ s. chars (string_bytes s))) ∙ ap (length {A = List ℕ}) v)

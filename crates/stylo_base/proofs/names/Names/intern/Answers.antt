@@ -1,0 +1,41 @@
+use Rattle.std.proofs.Common.{◌≡◌, ◌++◌, ◌∷◌, [], ◌<◌, ◌^◌, length, false, slice_get, sym, ap, ◌∙◌, subst, arith}
+use Rattle.std.specs.Option.{is_some}
+use Rattle.std.specs.Str.{chars}
+use Rattle.stylo_base.specs.NameList.{is_among, StandOnce}
+use Rattle.stylo_base.proofs.NameLemmas.{seen, seen_push, count-seen, interned_new, AreNamed-push, StandOnce-push, get_last, get_kept}
+use Rattle.stylo_base.proofs.names.Names.intern.Goals as goal
+
+-- the text was not there
+absent : (c : goal.In_ok-insert) → is_among (chars c.args.text.now) c.args.self.now ≡ false
+absent c = sym c.find.ensures.there ∙ ap is_some c.in_default.is
+
+-- the list is longer by the text
+longer : (c : goal.In_ok-insert) → seen c.insert.new.self.keys ≡ c.args.self.now ++ chars c.args.text.now ∷ []
+longer c =
+    seen_push c.args.text.now c.utf8.text c.self.inside.texts.keys c.insert.new.self.keys c.in_ok-kept.kept c.args.self.now c.in_ok-kept.ensures.ok c.in_ok-insert.ensures.keys c.self.view_is (absent c)
+
+-- the place is the old length
+at_end : (c : goal.In_ok-insert) → c.len-place.result ≡ length c.args.self.now
+at_end c =
+    count-seen c.self.inside.texts.keys c.args.self.now c.len-place.result c.len-place.ensures.len c.self.view_is
+
+pub invariant_of-self-2 : goal.invariant_of-self-2
+invariant_of-self-2 c =
+    let few : length c.args.self.now < 2 ^ 32 = omega (arith, at_end c) in
+    AreNamed-push (chars c.args.text.now) c.args.self.now _ (longer c) (absent c) c.find.ensures.distinct few
+
+pub returns-clause-place : goal.returns-clause-place
+returns-clause-place c =
+    ap (λ ts. slice_get ts c.len-place.result) (longer c)
+    ∙ get_last c.args.self.now (chars c.args.text.now) c.len-place.result (at_end c)
+
+pub returns-clause-list : goal.returns-clause-list
+returns-clause-list c = interned_new (chars c.args.text.now) c.args.self.now _ (longer c) (absent c)
+
+pub returns-clause-kept : goal.returns-clause-kept
+returns-clause-kept c n h =
+    ap (λ ts. slice_get ts n) (longer c) ∙ get_kept c.args.self.now (chars c.args.text.now) n h
+
+pub returns-clause-distinct : goal.returns-clause-distinct
+returns-clause-distinct c =
+    subst StandOnce (sym (longer c)) (StandOnce-push c.args.self.now (chars c.args.text.now) c.find.ensures.distinct (absent c))

@@ -1,0 +1,120 @@
+//! Names: each text that is used as a name is kept once, and known by its place.
+
+ghost use Rattle.std.specs.Prelude.{◌≡◌, ◌↔◌, ◌<◌, ◌≤◌, ◌^◌, ℕ, [], Contains, IfOk, IfSome, IsOk, IsSome, IsTrue, OnErr, OnOk, Some, is_some, length, slice_get};
+ghost use Rattle.std.specs.Str.{chars};
+ghost use Rattle.stylo_base.specs.NameList.{StandOnce, interned, is_among};
+
+use crate::NoMemory;
+use indexmap::IndexSet;
+use std::alloc::Global;
+use std::marker::Model;
+
+/// How many names there may be: a name is a `u32`.
+const MOST: usize = 4_294_967_296;
+
+/// A name that a `Names` gave. Contracts see its place in the order of first use, from 0.
+#[derive(Clone, Copy, Debug, PartialEq, Eq, PartialOrd, Ord, Hash)]
+pub struct Name {
+    place: u32,
+}
+
+impl Model for Name {
+    ghost use Rattle.std.specs.Prelude.{ℕ};
+
+    ghost Value = { ℕ };
+
+    ghost view = { λ n. n.place };
+
+    ghost inverse = { λ n. record { place = n } };
+}
+
+/// The texts that have names. Contracts see them as lists of characters, in the order of first
+/// use; no text stands there twice.
+#[derive(Drop)]
+pub struct Names {
+    texts: IndexSet<String>,
+}
+
+impl Model for Names {
+    ghost use Rattle.std.specs.Prelude.{List, ℕ, map as mapped};
+    ghost use Rattle.std.specs.Str.{chars};
+    ghost use Rattle.std.specs.String.{string_bytes};
+    ghost use Rattle.stylo_base.specs.NameList.{AreNamed};
+
+    ghost Value = { List (List ℕ) };
+
+    ghost view = { λ n. mapped (λ s. chars (string_bytes s)) n.texts.keys };
+
+    ghost invariant = { λ n. AreNamed (mapped (λ s. chars (string_bytes s)) n.texts.keys) };
+}
+
+impl Names {
+    /// No names.
+    pub fn new(alloc: Global) -> Names
+        ensures { result ≡ [] }
+    {
+        Names {
+            texts: IndexSet::new(alloc),
+        }
+    }
+
+    /// How many texts have names.
+    pub fn len(&self) -> usize
+        ensures count { result ≡ length self.now }
+        ensures distinct { StandOnce self.now }
+    {
+        self.texts.len()
+    }
+
+    /// Whether no text has a name.
+    pub fn is_empty(&self) -> bool
+        ensures { IsTrue result ↔ (self.now ≡ []) }
+    {
+        self.texts.is_empty()
+    }
+
+    /// The name of `text`, if it has one. It takes no memory.
+    pub fn find(&self, text: &str) -> Option<Name>
+        ensures found { IfSome result (λ n. slice_get self.now n ≡ Some (chars text.now)) }
+        ensures there { is_some result ≡ is_among (chars text.now) self.now }
+        ensures exactly { IsSome result ↔ Contains self.now (chars text.now) }
+        ensures distinct { StandOnce self.now }
+    {
+        let place = self.texts.get_index_of(text)?;
+        Some(Name {
+            place: place as u32,
+        })
+    }
+
+    /// The name of `text`: the one that it has, or else a new one, which alone takes memory. There
+    /// are at most 2^32 names.
+    pub fn intern(&mut self, text: &str) -> Result<Name, NoMemory>
+        ensures place { IfOk result (λ n. slice_get self.new n ≡ Some (chars text.now)) }
+        ensures list { OnOk result (self.new ≡ interned self.old (chars text.now)) }
+        ensures err { OnErr result (self.new ≡ self.old) }
+        ensures known { Contains self.old (chars text.now) → IsOk result × (self.new ≡ self.old) }
+        ensures kept { (n : ℕ) → n < length self.old → slice_get self.new n ≡ slice_get self.old n }
+        ensures distinct { StandOnce self.new }
+    {
+        if let Some(name) = self.find(text) {
+            return Ok(name);
+        }
+        let place = self.texts.len();
+        if place >= MOST {
+            return Err(NoMemory);
+        }
+        let kept = String::from_str(*self.texts.allocator(), text)?;
+        self.texts.insert(kept)?;
+        Ok(Name {
+            place: place as u32,
+        })
+    }
+
+    /// The text of a name that this `Names` gave.
+    pub fn text(&self, name: Name) -> &str
+        requires { name < length self.now }
+        ensures { slice_get self.now name ≡ Some (chars result.now) }
+    {
+        self.texts.as_slice()[name.place as usize].as_str()
+    }
+}
