@@ -2,3 +2,4 @@ pub mod Job
 pub mod Shape
 pub mod Limits
 pub mod JobOf
+pub mod Reads

@@ -79,15 +79,19 @@ is_version value = option_is_one (option_and_then whole (get (codes "version") v
     option_is_one None = false
     option_is_one (Some n) = n == 1
 
+-- a list with nothing in it
+abbrev pub has_no_items : Option Items → Bool
+has_no_items None = false
+has_no_items (Some no_items) = true
+has_no_items (Some (item value rest)) = false
+
+abbrev pub is_empty_array : Data → Bool
+is_empty_array value = has_no_items (as_array value)
+
 -- a list that may be absent, and has nothing in it in this profile
 abbrev pub is_empty_list : Option Data → Bool
 is_empty_list None = true
-is_empty_list (Some value) = has_no_items (as_array value)
-  where
-    has_no_items : Option Items → Bool
-    has_no_items None = false
-    has_no_items (Some no_items) = true
-    has_no_items (Some (item value rest)) = false
+is_empty_list (Some value) = is_empty_array value
 
 -- what a JSON value says as a job, if it has the shape of one
 abbrev pub job_from : Data → Option Job
