@@ -1,1 +1,3 @@
 mod Examples
+pub mod Lists
+pub mod Climbing
