@@ -38,6 +38,7 @@ pub fn has_no_batches(job: &Value) -> bool
 }
 
 /// Whether the value is a list with nothing in it.
+#[tactic(auto, using(crate::proofs::Counts::has_no_items_view))]
 fn is_empty_array(value: &Value) -> bool
     ensures { result ≡ is_empty_array (view value.now) }
 {

@@ -1,9 +1,9 @@
 //! Where a node stands: the index of its parent.
 
-ghost use Rattle.std.specs.Prelude.{◌≡◌, ◌<◌, Some, option_map, option_and_then, is_none, codes};
+ghost use Rattle.std.specs.Prelude.{◌≡◌, ◌<◌, Some, IfSome, option_map, is_none, codes};
 ghost use Rattle.serde_json.specs.Find.{get};
 ghost use Rattle.serde_json.specs.View.{view};
-ghost use Rattle.job_json.specs.Shape.{parent_from, whole};
+ghost use Rattle.job_json.specs.Shape.{parent_from};
 
 use serde_json::Value;
 
@@ -15,13 +15,14 @@ pub fn has_no_parent(node: &Value) -> bool
 }
 
 /// The index of the parent of the node at `index`, not the first one.
-pub fn parent_of(index: usize, node: &Value) -> Option<usize>
+pub fn parent_of(index: u32, node: &Value) -> Option<u32>
     requires { 0 < index }
-    ensures { option_map Some result ≡ parent_from index (get (codes "parent") (view node.now)) }
+    ensures value { option_map Some result ≡ parent_from index (get (codes "parent") (view node.now)) }
+    ensures earlier { IfSome result (λ parent. parent < index) }
 {
     let parent = node.get("parent")?.as_u64()?;
-    if parent < index as u64 {
-        Some(parent as usize)
+    if parent < u64::from(index) {
+        Some(parent as u32)
     } else {
         None
     }
