@@ -1,3 +1,7 @@
 mod Examples
 pub mod Lists
+pub mod Numbers
+pub mod Found
 pub mod Climbing
+pub mod Listed
+pub mod TreeOrder

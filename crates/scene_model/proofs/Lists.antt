@@ -37,6 +37,10 @@ pub each-filter : {X : Type 0} (P Q : X → Type 0) (p : X → Bool) → ((x : X
 each-filter P Q p w [] h = tt
 each-filter P Q p w (x ∷ xs) h = each_kept Q (p x) x (filter p xs) (λ e. w x e h.0) (each-filter P Q p w xs h.1)
 
+pub each_passes : {X : Type 0} (Q : X → Type 0) (p : X → Bool) → ((x : X) → p x ≡ true → Q x) → (xs : List X) → AllByRecursion Q (filter p xs)
+each_passes Q p w [] = tt
+each_passes Q p w (x ∷ xs) = each_kept Q (p x) x (filter p xs) (w x) (each_passes Q p w xs)
+
 -- filters
 
 pub filter_nothing : {X : Type 0} (p : X → Bool) (xs : List X) → AllByRecursion (λ x. p x ≡ false) xs → filter p xs ≡ []
