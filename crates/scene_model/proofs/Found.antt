@@ -129,7 +129,7 @@ copies-children doc p x d h =
 
 -- the elements of another list of numbers
 
-cond_none : {X : Type 0} (b : Bool) (o : Option X) → o ≡ None → cond b o None ≡ o
+pub cond_none : {X : Type 0} (b : Bool) (o : Option X) → o ≡ None → cond b o None ≡ o
 cond_none true o h = refl
 cond_none false o h = sym h
 

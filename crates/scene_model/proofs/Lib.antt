@@ -4,4 +4,5 @@ pub mod Numbers
 pub mod Found
 pub mod Climbing
 pub mod Listed
+pub mod Subtrees
 pub mod TreeOrder

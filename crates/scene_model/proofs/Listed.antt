@@ -5,16 +5,16 @@ use Rattle.std.specs.List.Sorted.{IsStrictlyIncreasing}
 use Rattle.std.proofs.lemmas.Bool.Decides.{nat_tests}
 use Rattle.std.specs.Option.{option_map_or}
 use Rattle.std.proofs.lemmas.Bool.{cond-true, cond-false, eq-eqb, false_from_ne_true}
-use Rattle.std.proofs.lemmas.List.{append-nil}
+use Rattle.std.proofs.lemmas.List.{append-nil, length-take-le}
 use Rattle.std.proofs.lemmas.List.Elements.{All-from_recursion}
 use Rattle.std.proofs.lemmas.List.FromFn.{length-range_with_len, get_or-range_with_len}
 use Rattle.std.proofs.lemmas.List.Kept.{IsStrictlyIncreasing-filter}
-use Rattle.std.proofs.lemmas.Option.{same_Some, slice_get_cases}
+use Rattle.std.proofs.lemmas.Option.{same_Some, slice_get_within}
 use Rattle.scene_model.specs.Element.{Element}
-use Rattle.scene_model.specs.Lookups.{has_number, numbers, element_at, is_element, IsElement, parent_of, is_child_of, children}
+use Rattle.scene_model.specs.Lookups.{has_number, numbers, element_at, is_element, IsElement, parent_of, is_child_of, children, beside, siblings, left_of, place_of}
 use Rattle.scene_model.specs.Nodes.{Node, IsParentAt, HaveParentsFrom, IsNodeList, listed_from, listed}
-use Rattle.scene_model.proofs.Lists.{each_weaker, each_both, each-filter}
-use Rattle.scene_model.proofs.Numbers.{is_in, each-range, distinct-range, is_in-range, each_is_in, differs}
+use Rattle.scene_model.proofs.Lists.{each_weaker, each-filter, split_at}
+use Rattle.scene_model.proofs.Numbers.{is_in, each-range, distinct-range, is_in-range, each_is_in, differs, left_of_split}
 use Rattle.scene_model.proofs.Found.{hangs_on, hangs_on-parent, children-hangs, children-append, is_element-numbers, element_at_absent, parent_of-element}
 
 -- the node at place k as an element
@@ -149,6 +149,16 @@ module _ (nodes : List Node) (v : IsNodeList nodes) where
       let first : k ≡ 0 = at_root k node.parent (parent_at nodes k node v f) e in
       omega arith
 
+  some_parent : (x : ℕ) (o : Option ℕ) → parent_of (listed nodes) x ≡ o → 1 < x → x ≤ length nodes → (q : ℕ) × (parent_of (listed nodes) x ≡ Some q)
+  some_parent x None e h k =
+      let first : x ≡ 1 = only_root-listed x (is_element-listed nodes x (omega arith) k) e in
+      absurd (omega arith)
+  some_parent x (Some q) e h k = (q, e)
+
+  -- each other number has a parent
+  pub parent-listed : (x : ℕ) → 1 < x → x ≤ length nodes → (q : ℕ) × (parent_of (listed nodes) x ≡ Some q)
+  parent-listed x h k = some_parent x (parent_of (listed nodes) x) refl h k
+
   -- each child's number is above its parent's
   pub each_child : (p : ℕ) → AllByRecursion (λ y. (p < y) × (y ≤ length nodes)) (children (listed nodes) p)
   each_child p =
@@ -206,3 +216,44 @@ module _ (nodes : List Node) (node : Node) where
   pub children_push_root : (p : ℕ) → node.parent ≡ None → children (listed (nodes ++ node ∷ [])) p ≡ children (listed nodes) p
   children_push_root p h =
       not_last p (ap (λ o. option_map_or (λ r. r == p) (option_map (λ r. r + 1) o) false) h)
+
+-- the place among the children of its parent
+
+pub each_child-within : (nodes : List Node) (p : ℕ) → AllByRecursion (λ y. (0 < y) × (y ≤ length nodes)) (children (listed nodes) p)
+each_child-within nodes p =
+    subst (AllByRecursion (λ y. (0 < y) × (y ≤ length nodes))) (sym (children-hangs (listed nodes) p (distinct-listed nodes))) (each-filter (λ y. (0 < y) × (y ≤ length nodes)) (λ y. (0 < y) × (y ≤ length nodes)) (hangs_on (listed nodes) p) (λ y _ h. h) (numbers (listed nodes)) (each_number-listed nodes))
+
+-- the children are those before it, itself and those behind it
+children_split : (nodes : List Node) (k : ℕ) (node : Node) (p : ℕ) → slice_get nodes k ≡ Some node → node.parent ≡ Some p → children (listed nodes) (p + 1) ≡ children (listed (take k nodes)) (p + 1) ++ (k + 1) ∷ children (listed_from (k + 1) (drop (suc k) nodes)) (p + 1)
+children_split nodes k node p h e =
+    let short : length (take k nodes) ≡ k = length-take-le k nodes (omega (arith, slice_get_within nodes k node h)) in
+    let apart : listed nodes ≡ listed (take k nodes) ++ listed_from k (node ∷ drop (suc k) nodes) =
+        ap listed (split_at nodes k node h) ∙ (listed-append (take k nodes) (node ∷ drop (suc k) nodes) ∙ ap (λ m. listed (take k nodes) ++ listed_from m (node ∷ drop (suc k) nodes)) short) in
+    let here : children (listed_from k (node ∷ drop (suc k) nodes)) (p + 1) ≡ (k + 1) ∷ children (listed_from (k + 1) (drop (suc k) nodes)) (p + 1) =
+        children-append (numbered k node ∷ []) (listed_from (k + 1) (drop (suc k) nodes)) (p + 1) ∙ ap (λ l. l ++ children (listed_from (k + 1) (drop (suc k) nodes)) (p + 1)) (last_child k node (p + 1) p e refl) in
+    ap (λ l. children l (p + 1)) apart ∙ (children-append (listed (take k nodes)) (listed_from k (node ∷ drop (suc k) nodes)) (p + 1) ∙ ap (λ l. children (listed (take k nodes)) (p + 1) ++ l) here)
+
+pub siblings-listed : (nodes : List Node) (k : ℕ) (node : Node) (p : ℕ) → slice_get nodes k ≡ Some node → node.parent ≡ Some p → siblings (listed nodes) (k + 1) ≡ children (listed nodes) (p + 1)
+siblings-listed nodes k node p h e =
+    let parent : parent_of (listed nodes) (k + 1) ≡ Some (p + 1) = parent_of-listed nodes k node h ∙ ap (option_map (λ q. q + 1)) e in
+    cond-true (is_element (listed nodes) (k + 1)) (beside (listed nodes) (k + 1) (parent_of (listed nodes) (k + 1))) [] (parent_of-element (listed nodes) (k + 1) (p + 1) parent) ∙ ap (beside (listed nodes) (k + 1)) parent
+
+pub siblings-listed_root : (nodes : List Node) (k : ℕ) (node : Node) → slice_get nodes k ≡ Some node → node.parent ≡ None → siblings (listed nodes) (k + 1) ≡ (k + 1) ∷ []
+siblings-listed_root nodes k node h e =
+    let parent : parent_of (listed nodes) (k + 1) ≡ None = parent_of-listed nodes k node h ∙ ap (option_map (λ q. q + 1)) e in
+    let is : IsElement (listed nodes) (k + 1) = is_element-listed nodes (k + 1) (omega arith) (omega (arith, slice_get_within nodes k node h)) in
+    cond-true (is_element (listed nodes) (k + 1)) (beside (listed nodes) (k + 1) (parent_of (listed nodes) (k + 1))) [] is ∙ ap (beside (listed nodes) (k + 1)) parent
+
+pub left_of-listed : (nodes : List Node) (k : ℕ) (node : Node) (p : ℕ) → slice_get nodes k ≡ Some node → node.parent ≡ Some p → left_of (k + 1) (siblings (listed nodes) (k + 1)) ≡ children (listed (take k nodes)) (p + 1)
+left_of-listed nodes k node p h e =
+    let short : length (take k nodes) ≡ k = length-take-le k nodes (omega (arith, slice_get_within nodes k node h)) in
+    let below : AllByRecursion (λ y. y ≢ k + 1) (children (listed (take k nodes)) (p + 1)) =
+        each_weaker (λ y. (0 < y) × (y ≤ length (take k nodes))) (λ y. y ≢ k + 1) (λ y b f. let same : y ≡ k + 1 = f in omega arith) (children (listed (take k nodes)) (p + 1)) (each_child-within (take k nodes) (p + 1)) in
+    ap (left_of (k + 1)) (siblings-listed nodes k node p h e ∙ children_split nodes k node p h e) ∙ left_of_split (k + 1) (children (listed (take k nodes)) (p + 1)) (children (listed_from (k + 1) (drop (suc k) nodes)) (p + 1)) below
+
+pub place_of-listed : (nodes : List Node) (k : ℕ) (node : Node) (p : ℕ) → slice_get nodes k ≡ Some node → node.parent ≡ Some p → place_of (listed nodes) (k + 1) ≡ length (children (listed (take k nodes)) (p + 1))
+place_of-listed nodes k node p h e = ap length (left_of-listed nodes k node p h e)
+
+pub place_of-listed_root : (nodes : List Node) (k : ℕ) (node : Node) → slice_get nodes k ≡ Some node → node.parent ≡ None → place_of (listed nodes) (k + 1) ≡ 0
+place_of-listed_root nodes k node h e =
+    ap (λ l. length (left_of (k + 1) l)) (siblings-listed_root nodes k node h e) ∙ ap length (left_of_split (k + 1) [] [] tt)

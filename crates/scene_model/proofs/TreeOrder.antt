@@ -1,100 +1,86 @@
--- Laws of the tree order of a list of nodes: it has each number once, and each subtree is one run of it.
-use Rattle.std.proofs.Common.{◌≡◌, ◌≢◌, ℕ, zero, suc, ◌+◌, ◌<◌, ◌≤◌, ◌==◌, nat_eq, List, [], ◌∷◌, ◌++◌, map, filter, find, filter_map, flat_map, length, take, drop, Bool, true, false, cond, Option, Some, None, All, option_map, option_and_then, slice_get, refl, sym, ap, subst, ◌∙◌, append-nil, arith}
+-- Laws of the tree order of a list of nodes, and of the document that it stands for.
+use Rattle.std.proofs.Common.{◌≡◌, ◌≢◌, ℕ, zero, suc, ◌+◌, ◌<◌, ◌≤◌, ◌==◌, nat_eq, List, [], ◌∷◌, ◌++◌, map, filter, find, filter_map, flat_map, length, take, drop, Bool, true, false, cond, Option, Some, None, All, option_map, option_and_then, slice_get, refl, sym, ap, subst, ◌∙◌, append-nil, inl, inr, is_some, arith}
 use Rattle.std.specs.List.{AllByRecursion, IsDistinct}
-use Rattle.std.proofs.lemmas.Bool.{cond-true, cond-false, cases_lt, cases_eq, eqb-true}
+use Rattle.std.specs.Option.{option_map_or}
+use Rattle.std.proofs.lemmas.Bool.{cond-true, cond-false, cases_lt}
+use Rattle.std.proofs.lemmas.List.{length-map}
+use Rattle.std.proofs.lemmas.List.Elements.{All-from_recursion, filter_agree}
 use Rattle.scene_model.specs.Element.{Element}
 use Rattle.scene_model.specs.Lookups.{numbers, element_at, is_element, IsElement, parent_of, children}
 use Rattle.scene_model.specs.Nodes.{Node, IsNodeList, listed, subtree, tree_order, scene_of}
-use Rattle.scene_model.proofs.Lists.{each_weaker, each_both, each-flat_map, flat_map_same, flat_map_nothing, flat_map_itself, filter-flat_map, flat_map-flat_map, filter_nothing, filter-filter}
-use Rattle.scene_model.proofs.Numbers.{is_in, copies, copies_absent, differs, same_number, length_from_copies, distinct_from_copies}
-use Rattle.scene_model.proofs.Found.{hangs_on, hangs_on-some, hangs_on-none, hangs_on-parent, copies-children, each_child-parent}
-use Rattle.scene_model.proofs.Listed.{distinct-listed, parent-below, root-listed, each_child, is_element-listed}
+use Rattle.scene_model.proofs.Lists.{each_weaker}
+use Rattle.scene_model.proofs.Numbers.{is_in, copies, in_copied, length_from_copies, distinct_from_copies}
+use Rattle.scene_model.proofs.Found.{hangs_on, element_at-filter_map, numbers-filter_map, children-hangs, is_element-at, cond_none}
+use Rattle.scene_model.proofs.Listed.{distinct-listed, parent-below, parent-listed, root-listed, each_child, is_element-listed, within-listed, element_at-listed_none}
+use Rattle.scene_model.proofs.Subtrees.{Grows, IsTree, subtree-law, each_below, copies-whole, copies-whole_none, hangs_on-whole, each_whole}
 
--- what the walk needs of the list: no number twice, and each child's number is above its parent's and at most n
-pub record Grows (es : List Element) (n : ℕ) : Type 0 where
-  pub distinct : IsDistinct nat_eq (numbers es)
-  pub above : (p : ℕ) → AllByRecursion (λ y. (p < y) × (y ≤ n)) (children es p)
+pub IsTree-listed : (nodes : List Node) → IsNodeList nodes → IsTree (listed nodes) (length nodes)
+IsTree-listed nodes v =
+    record { grows = record { distinct = distinct-listed nodes; above = each_child nodes v }; some = v.some; root = root-listed nodes v; parents = λ x h k. (let (q, e) = parent-listed nodes v x h k in let b = parent-below nodes v x q e in (q, e, b.0, b.1)) }
 
-cond_front : (b : Bool) (x : ℕ) (xs : List ℕ) → cond b (x ∷ xs) xs ≡ cond b (x ∷ []) [] ++ xs
-cond_front true x xs = refl
-cond_front false x xs = refl
+module _ (nodes : List Node) (v : IsNodeList nodes) where
+  by_range : (P : ℕ → Type 0) → ((x : ℕ) → 0 < x → x ≤ length nodes → P x) → ((x : ℕ) → (0 < x → length nodes < x) → P x) → (x : ℕ) → P x
+  by_range P inside outside x =
+      elim (cases_lt 0 x) [
+        inl a ↦ (elim (cases_lt (length nodes) x) [ inl b ↦ outside x (λ _. b) | inr b ↦ inside x a b ])
+      | inr a ↦ outside x (λ c. absurd (omega arith))
+      ]
 
-module _ (es : List Element) (n : ℕ) (g : Grows es n) where
-  -- two amounts of levels that both suffice give one subtree
-  pub subtree_enough : (l m x : ℕ) → x ≤ n → n < l + x → n < m + x → subtree es l x ≡ subtree es m x
-  subtree_enough zero m x h k j = absurd (omega arith)
-  subtree_enough (suc l) zero x h k j = absurd (omega arith)
-  subtree_enough (suc l) (suc m) x h k j =
-      ap (λ r. x ∷ r) (flat_map_same (subtree es l) (subtree es m) (children es x) (each_weaker (λ y. (x < y) × (y ≤ n)) (λ y. subtree es l y ≡ subtree es m y) (λ y b. subtree_enough l m y b.1 (omega arith) (omega arith)) (children es x) (g.above x)))
+  pub subtree-listed : (x : ℕ) → 0 < x → x ≤ length nodes → subtree (listed nodes) (length nodes) x ≡ x ∷ flat_map (subtree (listed nodes) (length nodes)) (children (listed nodes) x)
+  subtree-listed x h k = subtree-law (listed nodes) (length nodes) (IsTree-listed nodes v).grows x h k
 
-  pub subtree-law : (x : ℕ) → 0 < x → x ≤ n → subtree es n x ≡ x ∷ flat_map (subtree es n) (children es x)
-  subtree-law x h k = subtree_enough n (suc n) x k (omega arith) (omega arith)
+  -- each number of a subtree is from its top's to the length
+  pub subtree-within : (x : ℕ) → x ≤ length nodes → All (λ y. (x ≤ y) × (y ≤ length nodes)) (subtree (listed nodes) (length nodes) x)
+  subtree-within x h = All-from_recursion (λ y. (x ≤ y) × (y ≤ length nodes)) (subtree (listed nodes) (length nodes) x) (each_below (listed nodes) (length nodes) (IsTree-listed nodes v).grows (length nodes) x h)
 
-  -- each number in it is from x to n
-  pub each_below : (l x : ℕ) → x ≤ n → AllByRecursion (λ y. (x ≤ y) × (y ≤ n)) (subtree es l x)
-  each_below zero x h = tt
-  each_below (suc l) x h =
-      ((omega arith, h), each-flat_map (λ y. (x ≤ y) × (y ≤ n)) (subtree es l) (children es x) (each_weaker (λ y. (x < y) × (y ≤ n)) (λ y. AllByRecursion (λ z. (x ≤ z) × (z ≤ n)) (subtree es l y)) (λ y b. each_weaker (λ z. (y ≤ z) × (z ≤ n)) (λ z. (x ≤ z) × (z ≤ n)) (λ z c. (omega arith, c.1)) (subtree es l y) (each_below l y b.1)) (children es x) (g.above x)))
+  pub each_in_order : AllByRecursion (λ y. (0 < y) × (y ≤ length nodes)) (tree_order nodes)
+  unfolding tree_order
+  each_in_order = each_whole (listed nodes) (length nodes) (IsTree-listed nodes v)
 
-  -- those below x are above it
-  pub each_under : (l x : ℕ) → AllByRecursion (λ y. (x < y) × (y ≤ n)) (flat_map (subtree es l) (children es x))
-  each_under l x =
-      each-flat_map (λ y. (x < y) × (y ≤ n)) (subtree es l) (children es x) (each_weaker (λ y. (x < y) × (y ≤ n)) (λ y. AllByRecursion (λ z. (x < z) × (z ≤ n)) (subtree es l y)) (λ y b. each_weaker (λ z. (y ≤ z) × (z ≤ n)) (λ z. (x < z) × (z ≤ n)) (λ z c. (omega arith, c.1)) (subtree es l y) (each_below l y b.1)) (children es x) (g.above x))
+  -- each number from 1 to the length stands once in the tree order
+  pub once_in_order : (x : ℕ) → 0 < x → x ≤ length nodes → filter (λ y. y == x) (tree_order nodes) ≡ x ∷ []
+  unfolding tree_order
+  once_in_order x h k = copies-whole (listed nodes) (length nodes) (IsTree-listed nodes v) x h k
 
-  each_next : (x : ℕ) → AllByRecursion (λ y. (parent_of es y ≡ Some x) × ((x < y) × (y ≤ n))) (children es x)
-  each_next x = each_both (λ y. parent_of es y ≡ Some x) (λ y. (x < y) × (y ≤ n)) (children es x) (each_child-parent es x g.distinct) (g.above x)
+  pub never_in_order : (x : ℕ) → (0 < x → length nodes < x) → filter (λ y. y == x) (tree_order nodes) ≡ []
+  unfolding tree_order
+  never_in_order x h = copies-whole_none (listed nodes) (length nodes) (IsTree-listed nodes v) x h
 
-  none_above : (p : ℕ) (xs : List ℕ) → AllByRecursion (λ y. (p < y) × (y ≤ n)) xs → copies p xs ≡ []
-  none_above p xs h = copies_absent p xs (each_weaker (λ y. (p < y) × (y ≤ n)) (λ y. p ≢ y) (λ y b e. omega arith) xs h)
+  pub length-tree_order : length (tree_order nodes) ≡ length nodes
+  length-tree_order = length_from_copies (length nodes) (tree_order nodes) each_in_order once_in_order
 
-  none_from : (p x : ℕ) (xs : List ℕ) → p < x → AllByRecursion (λ y. (x ≤ y) × (y ≤ n)) xs → copies p xs ≡ []
-  none_from p x xs l h = none_above p xs (each_weaker (λ y. (x ≤ y) × (y ≤ n)) (λ y. (p < y) × (y ≤ n)) (λ y b. (omega arith, b.1)) xs h)
+  at_most_once : (x : ℕ) → length (filter (λ y. y == x) (tree_order nodes)) ≤ 1
+  at_most_once x =
+      by_range (λ y. length (filter (λ z. z == y) (tree_order nodes)) ≤ 1) (λ y h k. omega (arith, ap length (once_in_order y h k))) (λ y h. omega (arith, ap length (never_in_order y h))) x
 
-  -- in a subtree, what hangs on p is the top, if it does, and p's children at each copy of p
-  HangsAlike : ℕ → ℕ → ℕ → Type 0
-  HangsAlike p l x = filter (hangs_on es p) (subtree es l x) ≡ cond (hangs_on es p x) (x ∷ []) [] ++ flat_map (children es) (copies p (subtree es l x))
+  pub distinct-tree_order : IsDistinct nat_eq (tree_order nodes)
+  distinct-tree_order = distinct_from_copies (tree_order nodes) at_most_once
 
-  one_child : (p l y : ℕ) → y ≤ n → p < y → parent_of es y ≡ Some p → HangsAlike p l y → filter (hangs_on es p) (subtree es l y) ≡ y ∷ []
-  unfolding HangsAlike
-  one_child p l y k b e h =
-      let hangs : hangs_on es p y ≡ true = hangs_on-some es p p y e ∙ same_number p in
-      h ∙ (ap (λ t. cond t (y ∷ []) [] ++ flat_map (children es) (copies p (subtree es l y))) hangs ∙ ap (λ c. y ∷ flat_map (children es) c) (none_from p y (subtree es l y) b (each_below l y k)))
+  pub numbers-scene_of : numbers (scene_of nodes) ≡ tree_order nodes
+  unfolding scene_of
+  numbers-scene_of =
+      numbers-filter_map (listed nodes) (tree_order nodes) (each_weaker (λ y. (0 < y) × (y ≤ length nodes)) (IsElement (listed nodes)) (λ y h. is_element-listed nodes y h.0 h.1) (tree_order nodes) each_in_order)
 
-  other_child : (p l y x : ℕ) → parent_of es y ≡ Some x → (x == p) ≡ false → HangsAlike p l y → filter (hangs_on es p) (subtree es l y) ≡ flat_map (children es) (copies p (subtree es l y))
-  unfolding HangsAlike
-  other_child p l y x e d h =
-      h ∙ ap (λ t. cond t (y ∷ []) [] ++ flat_map (children es) (copies p (subtree es l y))) (hangs_on-some es p x y e ∙ d)
+  pub length-scene_of : length (scene_of nodes) ≡ length nodes
+  length-scene_of = sym (length-map (scene_of nodes) (λ e. e.number)) ∙ (ap length numbers-scene_of ∙ length-tree_order)
 
-  under : ℕ → ℕ → List ℕ
-  under l x = flat_map (subtree es l) (children es x)
+  pub distinct-scene_of : IsDistinct nat_eq (numbers (scene_of nodes))
+  distinct-scene_of = subst (IsDistinct nat_eq) (sym numbers-scene_of) distinct-tree_order
 
-  hanging_here : (l x : ℕ) → ((y : ℕ) → y ≤ n → x < y → HangsAlike x l y) → filter (hangs_on es x) (under l x) ≡ flat_map (children es) (x ∷ copies x (under l x))
-  unfolding under
-  hanging_here l x r =
-      let each : AllByRecursion (λ y. filter (hangs_on es x) (subtree es l y) ≡ y ∷ []) (children es x) =
-          each_weaker (λ y. (parent_of es y ≡ Some x) × ((x < y) × (y ≤ n))) (λ y. filter (hangs_on es x) (subtree es l y) ≡ y ∷ []) (λ y b. one_child x l y b.1.1 b.1.0 b.0 (r y b.1.1 b.1.0)) (children es x) (each_next x) in
-      let none : copies x (under l x) ≡ [] = none_above x (under l x) (each_under l x) in
-      filter-flat_map (hangs_on es x) (subtree es l) (children es x) ∙ (flat_map_itself (λ y. filter (hangs_on es x) (subtree es l y)) (children es x) each ∙ (sym (append-nil (children es x)) ∙ ap (λ c. children es x ++ flat_map (children es) c) (sym none)))
+  -- the look-ups by number are the list's
 
-  hanging_below : (p l x : ℕ) → (x == p) ≡ false → ((y : ℕ) → y ≤ n → x < y → HangsAlike p l y) → filter (hangs_on es p) (under l x) ≡ flat_map (children es) (copies p (under l x))
-  unfolding under
-  hanging_below p l x d r =
-      let each : AllByRecursion (λ y. filter (hangs_on es p) (subtree es l y) ≡ flat_map (children es) (copies p (subtree es l y))) (children es x) =
-          each_weaker (λ y. (parent_of es y ≡ Some x) × ((x < y) × (y ≤ n))) (λ y. filter (hangs_on es p) (subtree es l y) ≡ flat_map (children es) (copies p (subtree es l y))) (λ y b. other_child p l y x b.0 d (r y b.1.1 b.1.0)) (children es x) (each_next x) in
-      filter-flat_map (hangs_on es p) (subtree es l) (children es x) ∙ (flat_map_same (λ y. filter (hangs_on es p) (subtree es l y)) (λ y. flat_map (children es) (copies p (subtree es l y))) (children es x) each ∙ (sym (flat_map-flat_map (children es) (λ y. copies p (subtree es l y)) (children es x)) ∙ ap (flat_map (children es)) (sym (filter-flat_map (λ z. z == p) (subtree es l) (children es x)))))
+  pub element_at-scene_of : (x : ℕ) → element_at (scene_of nodes) x ≡ element_at (listed nodes) x
+  unfolding scene_of
+  element_at-scene_of x =
+      element_at-filter_map (listed nodes) (tree_order nodes) x ∙ by_range (λ y. cond (is_in y (tree_order nodes)) (element_at (listed nodes) y) None ≡ element_at (listed nodes) y) (λ y h k. cond-true (is_in y (tree_order nodes)) (element_at (listed nodes) y) None (in_copied y (tree_order nodes) [] (once_in_order y h k))) (λ y h. cond_none (is_in y (tree_order nodes)) (element_at (listed nodes) y) (element_at-listed_none nodes y (λ e. let w = within-listed nodes y e in let past : length nodes < y = h w.0 in omega arith))) x
 
-  hanging_under : (p l x : ℕ) (b : Bool) → (x == p) ≡ b → ((y : ℕ) → y ≤ n → x < y → HangsAlike p l y) → filter (hangs_on es p) (under l x) ≡ flat_map (children es) (cond b (x ∷ copies p (under l x)) (copies p (under l x)))
-  hanging_under p l x true e r =
-      let same : x ≡ p = eqb-true x p e in
-      subst (λ q. filter (hangs_on es q) (under l x) ≡ flat_map (children es) (x ∷ copies q (under l x))) same (hanging_here l x (λ y a b. subst (λ q. HangsAlike q l y) (sym same) (r y a b)))
-  hanging_under p l x false e r = hanging_below p l x e r
+  pub is_element-scene_of : (x : ℕ) → is_element (scene_of nodes) x ≡ is_element (listed nodes) x
+  is_element-scene_of x = is_element-at (scene_of nodes) x ∙ (ap is_some (element_at-scene_of x) ∙ sym (is_element-at (listed nodes) x))
 
-  hangs_alike : (p l x : ℕ) → x ≤ n → n < l + x → HangsAlike p l x
-  unfolding HangsAlike under
-  hangs_alike p zero x h k = absurd (omega arith)
-  hangs_alike p (suc l) x h k =
-      cond_front (hangs_on es p x) x (filter (hangs_on es p) (under l x)) ∙ ap (λ t. cond (hangs_on es p x) (x ∷ []) [] ++ t) (hanging_under p l x (x == p) refl (λ y a b. hangs_alike p l y a (omega arith)))
+  pub parent_of-scene_of : (x : ℕ) → parent_of (scene_of nodes) x ≡ parent_of (listed nodes) x
+  parent_of-scene_of x = ap (option_and_then (λ e. e.parent)) (element_at-scene_of x)
 
-  pub hanging : (p l x : ℕ) → x ≤ n → n < l + x → filter (hangs_on es p) (subtree es l x) ≡ cond (hangs_on es p x) (x ∷ []) [] ++ flat_map (children es) (copies p (subtree es l x))
-  unfolding HangsAlike
-  hanging p l x h k = hangs_alike p l x h k
+  pub children-scene_of : (p : ℕ) → children (scene_of nodes) p ≡ children (listed nodes) p
+  unfolding tree_order
+  children-scene_of p =
+      children-hangs (scene_of nodes) p distinct-scene_of ∙ (ap (filter (hangs_on (scene_of nodes) p)) numbers-scene_of ∙ (filter_agree (hangs_on (scene_of nodes) p) (hangs_on (listed nodes) p) (λ y. ap (λ o. option_map_or (λ q. q == p) o false) (parent_of-scene_of y)) (tree_order nodes) ∙ hangs_on-whole (listed nodes) (length nodes) (IsTree-listed nodes v) p))
