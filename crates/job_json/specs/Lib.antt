@@ -1,4 +1,3 @@
-pub mod Job
 pub mod Shape
 pub mod Limits
 pub mod JobOf

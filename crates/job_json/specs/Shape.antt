@@ -7,7 +7,7 @@ use Rattle.serde_json.specs.Data.{Data, Items, no_items, item, Members, no_membe
 use Rattle.serde_json.specs.Find.{get, as_number, as_u64, as_str, as_array, as_object}
 use Rattle.scene_model.specs.Element.{Characters, Attributes, States}
 use Rattle.scene_model.specs.Nodes.{Node}
-use Rattle.job_json.specs.Job.{Job}
+use Rattle.job_json.specs.declared.Job.{Job}
 
 -- Texts come as their bytes in UTF-8.
 

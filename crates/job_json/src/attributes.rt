@@ -23,7 +23,7 @@ pub fn attrs_of(alloc: Global, node: &Value) -> Result<Attrs, Fault>
         return Ok(Attrs::new(alloc));
     };
     let Some(members) = value.as_object() else {
-        return Err(Fault::Shape);
+        return Err(Fault::Unreadable);
     };
     Ok(Attrs::of_list(pairs_of(alloc, members)?))
 }
@@ -43,10 +43,10 @@ fn pair_of(alloc: Global, key: &str, value: &Value) -> Result<Attr, Fault>
     ensures { ReadsAs pair_of (pair_from key.now (view value.now)) result }
 {
     if !is_name(key) {
-        return Err(Fault::Shape);
+        return Err(Fault::Unreadable);
     }
     let Some(text) = value.as_str() else {
-        return Err(Fault::Shape);
+        return Err(Fault::Unreadable);
     };
     Ok(Attr {
         name: Text::of_str(alloc, key)?,

@@ -1,13 +1,14 @@
-//! Why a value says nothing.
+//! Why a reading stops.
 
 use std::alloc::{AllocError, AllocFailed};
 use stylo_base::NoMemory;
 
-/// Why the reading of a value stops.
+/// Why a reading stops.
 #[derive(Clone, Copy, Debug, PartialEq, Eq)]
 pub enum Fault {
-    /// A value is absent or of another shape.
-    Shape,
+    /// What is read says nothing of what is asked: a value is absent or of another shape, or the
+    /// bytes are no JSON.
+    Unreadable,
     /// There was no memory.
     NoMemory,
 }

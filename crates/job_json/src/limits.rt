@@ -1,17 +1,41 @@
 //! The limits of a job's document.
 
-ghost use Rattle.std.specs.Prelude.{◌≡◌, Some, nat_le, codes};
+ghost use Rattle.std.specs.Prelude.{◌≡◌, Some, IfOk, length, nat_le, codes};
 ghost use Rattle.serde_json.specs.Find.{get, as_str, as_object};
 ghost use Rattle.serde_json.specs.View.{view, items_view, members_view};
-ghost use Rattle.job_json.specs.Limits.{items_within, attrs_within, count_of, are_short, is_short, has_room};
+ghost use Rattle.job_json.specs.Limits.{depths_within, items_within, attrs_within, count_of, are_short, is_short, has_room};
 
+use dom_tree::NodeList;
 use serde_json::{Map, Value};
+use std::alloc::Global;
+use stylo_base::NoMemory;
+
+/// The most elements.
+const ELEMENTS: usize = 65_536;
+
+/// The greatest depth.
+const DEPTH: usize = 256;
 
 /// The most attributes of a node.
 const ATTRIBUTES: usize = 64;
 
 /// The most bytes of an attribute's value.
 const VALUE_BYTES: usize = 1_048_576;
+
+/// Whether there are at most 65,536 items.
+pub fn is_few(items: &[Value]) -> bool
+    ensures { result ≡ nat_le (length items.now) 65536 }
+{
+    items.len() <= ELEMENTS
+}
+
+/// Whether no node stands deeper than 256.
+pub fn is_depths_within(alloc: Global, nodes: &NodeList) -> Result<bool, NoMemory>
+    ensures { IfOk result (λ within. within ≡ depths_within nodes.now) }
+{
+    let depths = nodes.depths(alloc)?;
+    Ok(depths.iter().all(|depth| *depth <= DEPTH))
+}
 
 /// Whether the attributes of each node are within their limits.
 pub fn is_items_within(items: &[Value]) -> bool

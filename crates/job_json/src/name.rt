@@ -20,10 +20,10 @@ pub fn tag_of(alloc: Global, node: &Value) -> Result<Text, Fault>
     ensures { Reads (option_and_then name_of (get (codes "tag") (view node.now))) result }
 {
     let Some(text) = node.get("tag").and_then(Value::as_str) else {
-        return Err(Fault::Shape);
+        return Err(Fault::Unreadable);
     };
     if !is_name(text) {
-        return Err(Fault::Shape);
+        return Err(Fault::Unreadable);
     }
     Ok(Text::of_str(alloc, text)?)
 }

@@ -20,7 +20,7 @@ pub fn root_of(alloc: Global, node: &Value) -> Result<NodeInput, Fault>
     ensures { ReadsAs input_node (node_at 0 (view node.now)) result }
 {
     if !has_no_parent(node) {
-        return Err(Fault::Shape);
+        return Err(Fault::Unreadable);
     }
     input_of(alloc, node)
 }
@@ -39,7 +39,7 @@ pub fn child_of(alloc: Global, index: u32, node: &Value) -> Result<Child, Fault>
     ensures earlier { IfOk result (λ child. child.parent < index) }
 {
     let Some(parent) = parent_of(index, node) else {
-        return Err(Fault::Shape);
+        return Err(Fault::Unreadable);
     };
     let input = input_of(alloc, node)?;
     Ok(Child { parent, input })
@@ -52,7 +52,7 @@ fn input_of(alloc: Global, node: &Value) -> Result<NodeInput, Fault>
     let tag = tag_of(alloc, node)?;
     let attrs = attrs_of(alloc, node)?;
     let Some(states) = states_of(node) else {
-        return Err(Fault::Shape);
+        return Err(Fault::Unreadable);
     };
     Ok(NodeInput { tag, attrs, states })
 }

@@ -17,7 +17,7 @@ pub fn nodes_of(alloc: Global, items: &[Value]) -> Result<NodeList, Fault>
     ensures { Reads (nodes_of (items_view items.now)) result }
 {
     let Some((first, rest)) = items.split_first() else {
-        return Err(Fault::Shape);
+        return Err(Fault::Unreadable);
     };
     let root = root_of(alloc, first)?;
     with_children(alloc, NodeList::of_root(alloc, root)?, rest)
