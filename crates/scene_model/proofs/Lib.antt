@@ -5,4 +5,6 @@ pub mod Found
 pub mod Climbing
 pub mod Listed
 pub mod Subtrees
+pub mod Before
 pub mod TreeOrder
+pub mod Depths
