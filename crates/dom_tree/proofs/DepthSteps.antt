@@ -6,12 +6,7 @@ use Rattle.std.proofs.lemmas.List.FromFn.{length-map-range_with_len, get_or-map-
 use Rattle.scene_model.specs.Ancestors.{depth_of}
 use Rattle.scene_model.specs.Nodes.{Node, IsParentAt, IsNodeList, scene_of}
 use Rattle.scene_model.proofs.Listed.{parent_at}
-
-depth_of-root : (nodes : List Node) → IsNodeList nodes → depth_of (scene_of nodes) 1 ≡ 1
-depth_of-root nodes w = ?
-
-depth_of-node : (nodes : List Node) (k p : ℕ) (node : Node) → IsNodeList nodes → slice_get nodes k ≡ Some node → node.parent ≡ Some p → depth_of (scene_of nodes) (k + 1) ≡ depth_of (scene_of nodes) (p + 1) + 1
-depth_of-node nodes k p node w is up = ?
+use Rattle.scene_model.proofs.Depths.{depth_of-node, depth_of-first}
 
 -- the item at a place, and what is known of it
 item_at : {X : Type 0} (xs : List X) (k : ℕ) (P : X → Type 0) → k < length xs → IfSome (slice_get xs k) P → (x : X) × (slice_get xs k ≡ Some x) × P x
@@ -29,20 +24,20 @@ parent_case nodes k o w within h =
     let (node, is, same) = item_at nodes k (λ n. o ≡ n.parent) within h in
     subst (IsParentAt k) (sym same) (parent_at nodes k node w is)
 
-pub depth_of-first : (nodes : List Node) (k : ℕ) → IsNodeList nodes → k < length nodes → IfSome (slice_get nodes k) (λ node. None ≡ node.parent) → 1 ≡ depth_of (scene_of nodes) (k + 1)
-depth_of-first nodes k w within h =
-    let first : k ≡ 0 = parent_case nodes k None w within h in
-    sym (ap (λ j. depth_of (scene_of nodes) (j + 1)) first ∙ depth_of-root nodes w)
+pub depth_of-alone : (nodes : List Node) (k : ℕ) → IsNodeList nodes → k < length nodes → IfSome (slice_get nodes k) (λ node. None ≡ node.parent) → 1 ≡ depth_of (scene_of nodes) (k + 1)
+depth_of-alone nodes k w within h =
+    let (node, is, same) = item_at nodes k (λ n. None ≡ n.parent) within h in
+    sym (depth_of-first nodes w k node is (sym same))
 
 pub is_below : (nodes : List Node) (k p : ℕ) → IsNodeList nodes → k < length nodes → IfSome (slice_get nodes k) (λ node. Some p ≡ node.parent) → IsBelow nodes k p
 is_below nodes k p w within h =
     let (node, is, same) = item_at nodes k (λ n. Some p ≡ n.parent) within h in
-    record { earlier = parent_case nodes k (Some p) w within h; deeper = depth_of-node nodes k p node w is (sym same) }
+    record { earlier = parent_case nodes k (Some p) w within h; deeper = depth_of-node nodes w k node p is (sym same) }
 
 -- No node stands deeper than there are nodes up to it.
 bound_by : (nodes : List Node) (k : ℕ) (o : Option ℕ) → IsNodeList nodes → k < length nodes → IfSome (slice_get nodes k) (λ node. o ≡ node.parent) → ((p : ℕ) → p < k → depth_of (scene_of nodes) (p + 1) ≤ p + 1) → depth_of (scene_of nodes) (k + 1) ≤ k + 1
 bound_by nodes k None w within h before =
-    let one : 1 ≡ depth_of (scene_of nodes) (k + 1) = depth_of-first nodes k w within h in omega arith
+    let one : 1 ≡ depth_of (scene_of nodes) (k + 1) = depth_of-alone nodes k w within h in omega arith
 bound_by nodes k (Some p) w within h before =
     let b : IsBelow nodes k p = is_below nodes k p w within h in
     let least : depth_of (scene_of nodes) (p + 1) ≤ p + 1 = before p b.earlier in

@@ -1,5 +1,6 @@
 //! The document of a job, within its limits.
 
+ghost use Rattle.std.specs.Prelude.{◌≤◌, IfOk, length};
 ghost use Rattle.serde_json.specs.View.{view, items_view};
 ghost use Rattle.job_json.specs.JobOf.{job_within, nodes_within};
 ghost use Rattle.job_json.specs.Reads.{Reads};
@@ -15,7 +16,8 @@ use std::alloc::Global;
 
 /// The job that a value says, if it passes no limit.
 pub fn job_of(alloc: Global, job: &Value) -> Result<Job, Fault>
-    ensures { Reads (job_within (view job.now)) result }
+    ensures job { Reads (job_within (view job.now)) result }
+    ensures fits { IfOk result (λ job. length job.nodes ≤ 65536) }
 {
     if !(is_version(job) && has_no_sheets(job) && has_no_batches(job)) {
         return Err(Fault::Unreadable);
@@ -30,7 +32,8 @@ pub fn job_of(alloc: Global, job: &Value) -> Result<Job, Fault>
 /// The nodes that the items say, if they pass no limit. Where there are too many, or their
 /// attributes are too many or too long, they are not copied.
 fn nodes_within(alloc: Global, items: &[Value]) -> Result<NodeList, Fault>
-    ensures { Reads (nodes_within (items_view items.now)) result }
+    ensures nodes { Reads (nodes_within (items_view items.now)) result }
+    ensures fits { IfOk result (λ nodes. length nodes ≤ 65536) }
 {
     if !is_few(items) || !is_items_within(items) {
         return Err(Fault::Unreadable);

@@ -84,3 +84,6 @@ fn parse(alloc: Global, bytes: &[u8]) -> Result<Value, Fault>
         Err(Fault::Unreadable)
     }
 }
+
+#[cfg(test)]
+mod tests;

@@ -1,9 +1,9 @@
 use Rattle.std.proofs.Common.{arith}
-use Rattle.dom_tree.proofs.DepthSteps.{is_below, depth_of-first, known_depth}
+use Rattle.dom_tree.proofs.DepthSteps.{is_below, depth_of-alone, known_depth}
 use Rattle.dom_tree.proofs.nodes.NodeList.depth.Goals as goal
 
 pub returns-in-None : goal.returns-in-None
-returns-in-None c = depth_of-first _ _ c.requires.shape c.requires.within c.in-None.ensures
+returns-in-None c = depth_of-alone _ _ c.requires.shape c.requires.within c.in-None.ensures
 
 pub bounds-depths-parent : goal.bounds-depths-parent
 bounds-depths-parent c =
