@@ -1,9 +1,9 @@
 -- The rows of the code against those of the model.
-use Rattle.std.proofs.Common.{◌≡◌, ℕ, ◌<◌, List, length, get_or, Some, map, slice_get, option_map, sym, ap, ◌∙◌, refl, arith}
+use Rattle.std.proofs.Common.{◌≡◌, ℕ, suc, ◌+◌, ◌<◌, List, ◌∷◌, length, get_or, drop, Some, map, slice_get, option_map, sym, ap, ◌∙◌, refl, arith, add-one, drop-cons}
 use Rattle.std.specs.List.{range_with_len}
 use Rattle.std.proofs.lemmas.List.{get_or-map, length-map}
 use Rattle.std.proofs.lemmas.List.FromFn.{get_or-range_with_len, length-range_with_len}
-use Rattle.std.proofs.lemmas.Option.{slice_get-map, slice_get-get_or}
+use Rattle.std.proofs.lemmas.Option.{slice_get-map, slice_get-get_or, slice_get_within, get_or_from_slice_get}
 use denote.Enum.Bare.{tag_one}
 use denote.Enum.Declared.{tag_of}
 use Rattle.cascade_model.specs.Table as model
@@ -41,3 +41,9 @@ place_at rows place d h lt =
     omega (arith, length-map rows property_of_row, ap length h, length-range_with_len 0 (length model.table)) in
     sym (get_or-map property_of_row rows place d 0 lt)
     ∙ (ap (λ list. get_or list place 0) h ∙ (get_or-range_with_len 0 (length model.table) place 0 within ∙ omega arith))
+
+-- what stands from a place on in a list, such as the table: the element there and the rest
+pub drop_at : {A : Type 0} (xs : List A) (i : ℕ) (x : A) → slice_get xs i ≡ Some x → drop i xs ≡ x ∷ drop (i + 1) xs
+drop_at xs i x h =
+    let within : i < length xs = slice_get_within xs i x h in
+    rw add-one (drop-cons xs i x within ∙ ap (λ y. y ∷ drop (suc i) xs) (get_or_from_slice_get xs i x x h))

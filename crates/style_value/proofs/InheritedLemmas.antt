@@ -1,8 +1,8 @@
 -- The inherited part, made row by row.
-use Rattle.std.proofs.Common.{◌≡◌, ℕ, suc, ◌<◌, ◌+◌, List, [], ◌∷◌, ◌++◌, true, false, if◌then◌else◌, Some, length, map, set, get_or, take, drop, slice_get, sym, ap, subst, ◌∙◌, refl, arith, add-one, drop-cons, append_assoc}
+use Rattle.std.proofs.Common.{◌≡◌, ℕ, ◌<◌, ◌+◌, List, [], ◌∷◌, ◌++◌, true, false, if◌then◌else◌, Some, length, map, set, get_or, take, drop, slice_get, sym, ap, subst, ◌∙◌, refl, arith, append_assoc}
 use Rattle.std.proofs.lemmas.List.{length-set, set-get_or, drop-set-lt}
 use Rattle.std.proofs.lemmas.Grind.{take-set_at}
-use Rattle.std.proofs.lemmas.Option.{slice_get_within, get_or_from_slice_get, slice_get-get_or}
+use Rattle.std.proofs.lemmas.Option.{slice_get_within, slice_get-get_or}
 use Rattle.cascade_model.specs.Value.{Value}
 use Rattle.cascade_model.specs.Table as model
 use Rattle.cascade_model.specs.Table.{table}
@@ -10,18 +10,12 @@ use Rattle.cascade_model.specs.Style.{Style, inherited_values}
 use Rattle.property_table.specs.Rows.{row_seen}
 use Rattle.property_table.specs.Values.{value_of}
 use Rattle.property_table.specs.declared.property.Row.{Row}
-use Rattle.property_table.proofs.RowLemmas.{row_at}
+use Rattle.property_table.proofs.RowLemmas.{row_at, drop_at}
 
 -- The values before a place are those of the inherited part, and those behind it are what it is made of.
 pub record IsFilled (style part : Style) (i : ℕ) : Type 0 where
   pub long : length part.values ≡ length table
   pub filled : take i part.values ++ inherited_values (drop i table) (drop i part.values) ≡ inherited_values table style.values
-
--- what is behind a place, with the element there
-drop_at : {A : Type 0} (xs : List A) (i : ℕ) (x : A) → slice_get xs i ≡ Some x → drop i xs ≡ x ∷ drop (i + 1) xs
-drop_at xs i x h =
-    let within : i < length xs = slice_get_within xs i x h in
-    rw add-one (drop-cons xs i x within ∙ ap (λ y. y ∷ drop (suc i) xs) (get_or_from_slice_get xs i x x h))
 
 -- the value of the inherited part is put at a place
 filled_set : (values part : List Value) (i : ℕ) (row : model.Row) (value : Value) → slice_get table i ≡ Some row → slice_get part i ≡ Some value → take i part ++ inherited_values (drop i table) (drop i part) ≡ values → let now : List Value = set part i (if row.inherited then value else row.initial) in take (i + 1) now ++ inherited_values (drop (i + 1) table) (drop (i + 1) now) ≡ values
