@@ -24,3 +24,7 @@ value_of-same (Keyword a) (Keyword b) h = ap Keyword (word_of-same a b cc)
 pub eq-Decides : (a b : Value) → Decides (ghosts.eq a b) (value_of a ≡ value_of b)
 eq-Decides (Keyword a) (Keyword b) =
     (λ e. ap (λ k. value_of (Keyword k)) (same_true the_type tt a b e), λ e. true_same the_type a b (word_of-same a b cc))
+
+-- the derived `==` decides whether two values are the same
+pub eq-Decides_same : (a b : Value) → Decides (ghosts.eq a b) (a ≡ b)
+eq-Decides_same a b = let same = eq-Decides a b in (λ e. value_of-same a b (same.0 e), λ h. same.1 (ap value_of h))

@@ -56,7 +56,8 @@ impl Row {
     /// All rows, in the order of the table.
     pub fn all() -> &'static [Row]
         ensures rows { map row_seen result.now ≡ table }
-        ensures places { map (λ row. property_of row.id) result.now ≡ range_with_len 0 (length table) }
+        ensures places { map (λ row. property_of row.id) result.now
+            ≡ range_with_len 0 (length table) }
     {
         &ROWS
     }

@@ -1,1 +1,3 @@
 mod Examples
+pub mod AppendLemmas
+pub mod DeclarationLemmas

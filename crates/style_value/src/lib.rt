@@ -1,2 +1,10 @@
-//! (being written)
+//! The style of an element: a value for each property.
 #![tactic(auto)]
+
+mod blockify;
+mod style;
+#[cfg(test)]
+mod tests;
+
+pub use blockify::blockified;
+pub use style::Style;

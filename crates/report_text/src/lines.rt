@@ -1,0 +1,87 @@
+//! What is printed for a batch and for an element, each line with its line feed.
+
+ghost use Rattle.std.specs.Prelude.{◌≡◌, ◌++◌, IfOk, OnOk, codes, decimal, true};
+ghost use Rattle.std.specs.Str.{chars};
+ghost use Rattle.stylo_base.specs.Ascii.{is_all_ascii};
+ghost use Rattle.cascade_model.specs.Table.{table};
+ghost use Rattle.property_table.specs.Rows.{row_seen};
+ghost use Rattle.property_table.specs.Values.{value_of};
+ghost use Rattle.report_text.specs.Lines.{batch_line, declaration, declarations, element_line, joined};
+
+use property_table::{Row, Value};
+use std::alloc::Global;
+use style_value::Style;
+use stylo_base::{NoMemory, Text};
+
+/// The line of a batch: how many of its edits were accepted and refused, and how many elements were
+/// matched and cascaded in its restyle.
+pub fn batch_line(
+    alloc: Global,
+    batch: u64,
+    accepted: u64,
+    refused: u64,
+    matched: u64,
+    cascaded: u64,
+) -> Result<Text, NoMemory>
+    ensures { IfOk result (λ t. t ≡ batch_line batch accepted refused matched cascaded) }
+{
+    let mut line = Text::new(alloc);
+    push_count(&mut line, "batch ", batch)?;
+    push_count(&mut line, ": ", accepted)?;
+    push_count(&mut line, " accepted, ", refused)?;
+    push_count(&mut line, " refused, ", matched)?;
+    push_count(&mut line, " matched, ", cascaded)?;
+    line.push_str(" cascaded\n")?;
+    Ok(line)
+}
+
+/// The line of an element: its number, its tag, and each property whose value is not the standing
+/// one.
+pub fn element_line(alloc: Global, number: u32, tag: &str, style: &Style) -> Result<Text, NoMemory>
+    ensures { IfOk result (λ t. t ≡ element_line number (chars tag.now) style.now) }
+{
+    let mut line = Text::new(alloc);
+    line.push_number(u64::from(number))?;
+    line.push_str(" ")?;
+    line.push_str(tag)?;
+    line.push_str("{")?;
+    push_declarations(&mut line, style)?;
+    line.push_str("}\n")?;
+    Ok(line)
+}
+
+/// Puts the properties whose value is not the standing one behind the line.
+fn push_declarations(line: &mut Text, style: &Style) -> Result<(), NoMemory>
+    ensures { let texts = declarations table style.now.values in
+        OnOk result (line.new ≡ line.old ++ joined (codes "; ") texts) }
+{
+    let mut separator = "";
+    for row in Row::all() {
+        let value = style.value(row.id);
+        if !value.is_same(row.standing) {
+            line.push_str(separator)?;
+            push_declaration(line, row, value)?;
+            separator = "; ";
+        }
+    }
+    Ok(())
+}
+
+/// Puts a property and its value behind the line.
+fn push_declaration(line: &mut Text, row: &Row, value: Value) -> Result<(), NoMemory>
+    ensures { let text = declaration (row_seen row.now) (value_of value) in
+        OnOk result (line.new ≡ line.old ++ text) }
+{
+    line.push_str(row.name)?;
+    line.push_str(": ")?;
+    value.write(line)
+}
+
+/// Puts a word in ASCII and a number behind the line.
+fn push_count(line: &mut Text, before: &str, count: u64) -> Result<(), NoMemory>
+    requires { is_all_ascii before.now ≡ true }
+    ensures { OnOk result (line.new ≡ line.old ++ (before.now ++ decimal count)) }
+{
+    line.push_str(before)?;
+    line.push_number(count)
+}

@@ -1,0 +1,3 @@
+pub mod StyleLemmas
+pub mod InitialLemmas
+pub mod InheritedLemmas

@@ -1,0 +1,7 @@
+use Rattle.std.proofs.Common.{arith}
+use Rattle.property_table.proofs.RowLemmas.{length-rows}
+use Rattle.style_value.proofs.InitialLemmas.{initial_at}
+use Rattle.style_value.proofs.style.initial_at.Goals as goal
+
+pub returns : goal.returns
+returns c = initial_at _ c.args.place _ c.all.ensures.rows (omega (arith, length-rows _ c.all.ensures.rows))

@@ -1,0 +1,100 @@
+//! A style, which contracts see as the list of its values in the order of the table.
+
+ghost use Rattle.std.specs.Prelude.{◌≡◌, ◌<◌, ◌↔◌, Some, IfOk, IsTrue, length, slice_get, slice_set};
+ghost use Rattle.cascade_model.specs.Table.{table, display};
+ghost use Rattle.cascade_model.specs.Style.{blockified, inherited_part, initial_style, with_changed};
+ghost use Rattle.property_table.specs.Rows.{property_of};
+ghost use Rattle.property_table.specs.Values.{value_of};
+
+use crate::blockified;
+use property_table::{COUNT, PropId, Row, Value};
+use std::alloc::Global;
+use std::marker::Model;
+use stylo_base::NoMemory;
+
+/// A value for each property.
+#[derive(Debug, Drop)]
+pub struct Style {
+    values: [Value; COUNT],
+}
+
+impl Model for Style {
+    ghost use Rattle.std.specs.Prelude.{◌≡◌, length, map};
+    ghost use Rattle.cascade_model.specs.Style as model;
+    ghost use Rattle.cascade_model.specs.Table.{table};
+    ghost use Rattle.property_table.specs.Values.{value_of};
+
+    ghost Value = { model.Style };
+
+    ghost coded = { model.style_code };
+
+    ghost view = { λ s. record { values = map value_of s.values } };
+
+    ghost invariant = { λ s. length s.values ≡ length table };
+}
+
+impl Style {
+    /// The style in which each property has its initial value.
+    pub fn initial() -> Style
+        ensures { result ≡ initial_style }
+    {
+        Style {
+            values: std::array::from_fn(initial_at),
+        }
+    }
+
+    /// The style in which each inherited property keeps its value, and each other one has its
+    /// initial value.
+    pub fn inherited_part(&self, _alloc: Global) -> Result<Style, NoMemory>
+        ensures { IfOk result (λ s. s ≡ inherited_part self.now) }
+    {
+        let mut part = Style {
+            values: self.values,
+        };
+        for row in Row::all() {
+            if !row.inherited {
+                part.set(row.id, row.initial);
+            }
+        }
+        Ok(part)
+    }
+
+    /// The value of a property.
+    pub fn value(&self, id: PropId) -> Value
+        ensures value { slice_get self.now.values (property_of id) ≡ Some (value_of result) }
+        ensures all { length self.now.values ≡ length table }
+    {
+        self.values[id.place()]
+    }
+
+    /// Gives a property a value.
+    pub fn set(&mut self, id: PropId, value: Value)
+        ensures { let values = slice_set self.old.values (property_of id) (value_of value) in
+            self.new ≡ record self.old { values = values } }
+    {
+        self.values[id.place()] = value;
+    }
+
+    /// Whether the two have the same values.
+    pub fn is_same(&self, other: &Style) -> bool
+        ensures { IsTrue result ↔ (self.now ≡ other.now) }
+    {
+        self.values == other.values
+    }
+
+    /// Makes the element a block.
+    pub fn blockify(&mut self)
+        ensures { self.new ≡ with_changed blockified display self.old }
+    {
+        let display = self.value(PropId::Display);
+        self.set(PropId::Display, blockified(display));
+    }
+}
+
+/// The initial value of the property at a place of the table.
+fn initial_at(place: usize) -> Value
+    requires { place < COUNT }
+    ensures { slice_get initial_style.values place ≡ Some (value_of result) }
+{
+    Row::all()[place].initial
+}
