@@ -1,3 +1,5 @@
 mod Examples
 pub mod Lists
+pub mod Numbers
+pub mod Found
 pub mod Climbing
