@@ -2,5 +2,7 @@
 #![tactic(auto)]
 
 mod nodes;
+mod words;
 
 pub use nodes::{Attr, Attrs, NodeInput, NodeList, States};
+pub use words::has_word;
