@@ -1,5 +1,5 @@
 -- Laws of the look-ups in any list of elements.
-use Rattle.std.proofs.Common.{◌≡◌, ℕ, ◌+◌, ◌<◌, ◌≤◌, ◌==◌, nat_eq, List, [], ◌∷◌, ◌++◌, map, filter, find, filter_map, length, Bool, true, false, cond, not, ◌||◌, is_some, Option, Some, None, option_and_then, refl, sym, ap, ◌∙◌, arith}
+use Rattle.std.proofs.Common.{◌≡◌, ℕ, ◌+◌, ◌<◌, ◌≤◌, ◌==◌, nat_eq, List, [], ◌∷◌, ◌++◌, map, filter, find, filter_map, length, Bool, true, false, cond, not, ◌||◌, is_some, Option, Some, None, option_and_then, refl, sym, ap, subst, ◌∙◌, arith}
 use Rattle.std.specs.List.{AllByRecursion, list_any, prefix_len, position_or_len, cons_option, IsDistinct}
 use Rattle.std.specs.Option.{option_map_or}
 use Rattle.std.proofs.lemmas.Bool.Decides.{nat_tests}
@@ -9,7 +9,7 @@ use Rattle.std.proofs.lemmas.List.Elements.{filter-append}
 use Rattle.scene_model.specs.Element.{Element}
 use Rattle.scene_model.specs.Lookups.{has_number, numbers, element_at, is_element, IsElement, parent_of, is_child_of, children}
 use Rattle.scene_model.specs.Ancestors.{position_of}
-use Rattle.scene_model.proofs.Lists.{filter-map, filter_same, filter_comm, each-filter, each_both}
+use Rattle.scene_model.proofs.Lists.{filter-map, filter_same, filter_comm, each_passes}
 use Rattle.scene_model.proofs.Numbers.{is_in, copies, copies_distinct, copies_none, same_number}
 
 -- tests over a mapped list
@@ -51,6 +51,13 @@ is_element-numbers doc x = sym (any-map (λ y. y == x) (λ e. e.number) doc)
 
 pub position_of-numbers : (doc : List Element) (x : ℕ) → position_of doc x ≡ position_or_len (λ y. y == x) (numbers doc)
 position_of-numbers doc x = sym (prefix_len-map (λ y. not (y == x)) (λ e. e.number) doc)
+
+pub element_at_absent : (doc : List Element) (x : ℕ) → is_element doc x ≡ false → element_at doc x ≡ None
+element_at_absent doc x h = gone (element_at doc x) (sym (is_element-at doc x) ∙ h)
+  where
+    gone : (o : Option Element) → is_some o ≡ false → o ≡ None
+    gone None k = refl
+    gone (Some e) k = cc
 
 pub parent_of-element : (doc : List Element) (x p : ℕ) → parent_of doc x ≡ Some p → IsElement doc x
 parent_of-element doc x p h = is_element-at doc x ∙ some_first (element_at doc x) h
@@ -104,6 +111,10 @@ pub children-hangs : (doc : List Element) (p : ℕ) → IsDistinct nat_eq (numbe
 children-hangs doc p d =
     ap numbers (filter_same (is_child_of p) (λ e. hangs_on doc p e.number) doc (hangs_each doc p doc (each_found doc d))) ∙ sym (filter-map (hangs_on doc p) (λ e. e.number) doc)
 
+pub each_child-parent : (doc : List Element) (p : ℕ) → IsDistinct nat_eq (numbers doc) → AllByRecursion (λ y. parent_of doc y ≡ Some p) (children doc p)
+each_child-parent doc p d =
+    subst (AllByRecursion (λ y. parent_of doc y ≡ Some p)) (sym (children-hangs doc p d)) (each_passes (λ y. parent_of doc y ≡ Some p) (hangs_on doc p) (hangs_on-parent doc p) (numbers doc))
+
 pub numbers-append : (xs ys : List Element) → numbers (xs ++ ys) ≡ numbers xs ++ numbers ys
 numbers-append xs ys = map-append (λ e. e.number) xs ys
 
@@ -118,7 +129,7 @@ copies-children doc p x d h =
 
 -- the elements of another list of numbers
 
-cond_none : {X : Type 0} (b : Bool) (o : Option X) → o ≡ None → cond b o None ≡ o
+pub cond_none : {X : Type 0} (b : Bool) (o : Option X) → o ≡ None → cond b o None ≡ o
 cond_none true o h = refl
 cond_none false o h = sym h
 

@@ -3,3 +3,7 @@ pub mod Lists
 pub mod Numbers
 pub mod Found
 pub mod Climbing
+pub mod Listed
+pub mod Subtrees
+pub mod Before
+pub mod TreeOrder

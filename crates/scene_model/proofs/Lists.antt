@@ -1,8 +1,9 @@
 -- Lemmas on lists: what holds of each element, filters and joined lists.
-use Rattle.std.proofs.Common.{◌≡◌, ◌≢◌, ℕ, zero, suc, ◌+◌, ◌<◌, ◌≤◌, ◌==◌, List, [], ◌∷◌, ◌++◌, map, filter, find, flat_map, length, take, drop, Bool, true, false, cond, not, Option, Some, None, refl, sym, ap, ◌∙◌, subst, append_assoc, append-nil, arith}
+use Rattle.std.proofs.Common.{◌≡◌, ◌≢◌, ℕ, zero, suc, ◌+◌, ◌<◌, ◌≤◌, ◌==◌, List, [], ◌∷◌, ◌++◌, map, filter, find, flat_map, length, take, drop, slice_get, Bool, true, false, cond, not, Option, Some, None, refl, sym, ap, ◌∙◌, subst, append_assoc, append-nil, arith}
 use Rattle.std.specs.List.{AllByRecursion, list_any, prefix_len}
 use Rattle.std.proofs.lemmas.List.Elements.{filter-append}
 use Rattle.std.proofs.lemmas.List.Concat.{flat_map-append}
+use Rattle.std.proofs.lemmas.Option.{same_Some}
 use Rattle.std.proofs.lemmas.Bool.{cond-true, cond-false, cases_Bool}
 use Rattle.std.proofs.lemmas.Bool.Decides.{nat_tests}
 
@@ -36,6 +37,10 @@ each_kept P false x ys h k = k
 pub each-filter : {X : Type 0} (P Q : X → Type 0) (p : X → Bool) → ((x : X) → p x ≡ true → P x → Q x) → (xs : List X) → AllByRecursion P xs → AllByRecursion Q (filter p xs)
 each-filter P Q p w [] h = tt
 each-filter P Q p w (x ∷ xs) h = each_kept Q (p x) x (filter p xs) (λ e. w x e h.0) (each-filter P Q p w xs h.1)
+
+pub each_passes : {X : Type 0} (Q : X → Type 0) (p : X → Bool) → ((x : X) → p x ≡ true → Q x) → (xs : List X) → AllByRecursion Q (filter p xs)
+each_passes Q p w [] = tt
+each_passes Q p w (x ∷ xs) = each_kept Q (p x) x (filter p xs) (w x) (each_passes Q p w xs)
 
 -- filters
 
@@ -100,3 +105,9 @@ filter-flat_map p f (x ∷ xs) = filter-append p (f x) (flat_map f xs) ∙ ap (�
 pub flat_map-flat_map : {X Y Z : Type 0} (g : Y → List Z) (f : X → List Y) (xs : List X) → flat_map g (flat_map f xs) ≡ flat_map (λ x. flat_map g (f x)) xs
 flat_map-flat_map g f [] = refl
 flat_map-flat_map g f (x ∷ xs) = flat_map-append g (f x) (flat_map f xs) ∙ ap (λ l. flat_map g (f x) ++ l) (flat_map-flat_map g f xs)
+
+-- an element with what stands before it and behind it
+pub split_at : {X : Type 0} (xs : List X) (k : ℕ) (x : X) → slice_get xs k ≡ Some x → xs ≡ take k xs ++ x ∷ drop (suc k) xs
+split_at [] k x h = absurd (cc)
+split_at (y ∷ xs) zero x h = ap (λ z. z ∷ xs) (same_Some y x h)
+split_at (y ∷ xs) (suc k) x h = ap (λ l. y ∷ l) (split_at xs k x h)

@@ -1,9 +1,10 @@
 -- Lemmas on lists of numbers: which stand in them, and how often.
-use Rattle.std.proofs.Common.{◌≡◌, ◌≢◌, ℕ, zero, suc, ◌+◌, ◌<◌, ◌≤◌, ◌==◌, nat_eq, List, [], ◌∷◌, ◌++◌, map, filter, flat_map, length, Bool, true, false, cond, not, ◌||◌, refl, sym, ap, ◌∙◌, subst, arith}
-use Rattle.std.specs.List.{AllByRecursion, list_any, IsDistinct, range_with_len}
+use Rattle.std.proofs.Common.{◌≡◌, ◌≢◌, ℕ, zero, suc, ◌+◌, ◌<◌, ◌≤◌, ◌==◌, nat_eq, List, [], ◌∷◌, ◌++◌, map, filter, flat_map, length, take, Bool, true, false, cond, not, ◌||◌, refl, sym, ap, ◌∙◌, subst, one-add, arith}
+use Rattle.std.specs.List.{AllByRecursion, list_any, IsDistinct, range_with_len, prefix_len}
 use Rattle.std.proofs.lemmas.Bool.Decides.{nat_tests}
 use Rattle.std.proofs.lemmas.Bool.{cond-true, cond-false, eq-eqb, ne_eqb, eqb-true}
 use Rattle.std.proofs.lemmas.List.Filters.{length-filter_both}
+use Rattle.scene_model.specs.Lookups.{left_of}
 use Rattle.scene_model.proofs.Lists.{filter_nothing, filter-filter, each_weaker, each-filter}
 
 -- whether a number stands in a list
@@ -35,6 +36,15 @@ pub is_in_absent : (x : ℕ) (xs : List ℕ) → AllByRecursion (λ y. x ≢ y) 
 is_in_absent x [] h = refl
 is_in_absent x (y ∷ xs) h = any_absent x y xs h.0 (is_in_absent x xs h.1)
 
+each_at : (P : ℕ → Type 0) (x y : ℕ) (xs : List ℕ) (b : Bool) → (y == x) ≡ b → P y → (is_in x xs ≡ true → P x) → (b || is_in x xs) ≡ true → P x
+each_at P x y xs true e h r k = subst P (eqb-true y x e) h
+each_at P x y xs false e h r k = r k
+
+-- what holds of each holds of one
+pub each_is_in : (P : ℕ → Type 0) (x : ℕ) (xs : List ℕ) → AllByRecursion P xs → is_in x xs ≡ true → P x
+each_is_in P x [] h k = absurd (cc)
+each_is_in P x (y ∷ xs) h k = each_at P x y xs (y == x) refl h.0 (each_is_in P x xs h.1) k
+
 -- what a test finds, a filter by it keeps
 kept_any : {X : Type 0} (p : X → Bool) (b : Bool) (x : X) (xs : List X) → p x ≡ b → list_any p (filter p xs) ≡ list_any p xs → list_any p (cond b (x ∷ filter p xs) (filter p xs)) ≡ (b || list_any p xs)
 kept_any p true x xs e h = rw e
@@ -46,6 +56,9 @@ any-filter p (x ∷ xs) = kept_any p (p x) x xs refl (any-filter p xs)
 
 pub is_in-copies : (x : ℕ) (xs : List ℕ) → is_in x (copies x xs) ≡ is_in x xs
 is_in-copies x xs = any-filter (λ y. y == x) xs
+
+pub in_copied : (x : ℕ) (xs ys : List ℕ) → copies x xs ≡ x ∷ ys → is_in x xs ≡ true
+in_copied x xs ys h = sym (is_in-copies x xs) ∙ (ap (is_in x) h ∙ ap (λ b. b || is_in x ys) (same_number x))
 
 none_kept : {X : Type 0} (p : X → Bool) (b : Bool) (x : X) (xs : List X) → (b || list_any p xs) ≡ false → (list_any p xs ≡ false → filter p xs ≡ []) → cond b (x ∷ filter p xs) (filter p xs) ≡ []
 none_kept p true x xs e h = cc
@@ -134,3 +147,16 @@ length_from_copies (suc n) xs h c =
     let one : length (copies (suc n) xs) ≡ 1 = ap length (c (suc n) (omega arith) (omega arith)) in
     let others : length rest ≡ n = length_from_copies n rest below (λ x k l. filter-filter (λ y. y == x) (λ y. not (y == suc n)) (λ y e. not_past x y n e l) xs ∙ c x k (omega arith)) in
     omega (arith, length-filter_both (λ y. y == suc n) (λ y. not (y == suc n)) (λ _. refl) xs)
+
+-- what stands left of a number
+
+left_more : (x y : ℕ) (xs : List ℕ) → (y == x) ≡ false → left_of x (y ∷ xs) ≡ y ∷ left_of x xs
+left_more x y xs h = rw h (ap (λ n. take n (y ∷ xs)) (one-add (prefix_len (λ z. not (z == x)) xs)))
+
+pub left_of_split : (x : ℕ) (xs ys : List ℕ) → AllByRecursion (λ y. y ≢ x) xs → left_of x (xs ++ x ∷ ys) ≡ xs
+left_of_split x [] ys h = ap (λ b. take (cond (not b) (1 + prefix_len (λ y. not (y == x)) ys) 0) (x ∷ ys)) (same_number x)
+left_of_split x (y ∷ xs) ys h = left_more x y (xs ++ x ∷ ys) (differs y x h.0) ∙ ap (λ l. y ∷ l) (left_of_split x xs ys h.1)
+
+pub left_of_absent : (x : ℕ) (xs : List ℕ) → AllByRecursion (λ y. y ≢ x) xs → left_of x xs ≡ xs
+left_of_absent x [] h = refl
+left_of_absent x (y ∷ xs) h = left_more x y xs (differs y x h.0) ∙ ap (λ l. y ∷ l) (left_of_absent x xs h.1)
