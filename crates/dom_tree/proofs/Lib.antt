@@ -1,2 +1,3 @@
 pub mod NodeLists
 pub mod WordLemmas
+pub mod KeptLemmas
