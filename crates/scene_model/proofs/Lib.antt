@@ -7,3 +7,4 @@ pub mod Listed
 pub mod Subtrees
 pub mod Before
 pub mod TreeOrder
+pub mod Depths

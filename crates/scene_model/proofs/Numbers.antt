@@ -1,8 +1,9 @@
 -- Lemmas on lists of numbers: which stand in them, and how often.
-use Rattle.std.proofs.Common.{◌≡◌, ◌≢◌, ℕ, zero, suc, ◌+◌, ◌<◌, ◌≤◌, ◌==◌, nat_eq, List, [], ◌∷◌, ◌++◌, map, filter, flat_map, length, take, Bool, true, false, cond, not, ◌||◌, refl, sym, ap, ◌∙◌, subst, one-add, arith}
+use Rattle.std.proofs.Common.{◌≡◌, ◌≢◌, ℕ, zero, suc, ◌+◌, ◌<◌, ◌≤◌, ◌==◌, nat_eq, List, [], ◌∷◌, ◌++◌, filter, flat_map, length, take, Bool, true, false, cond, not, ◌||◌, refl, sym, ap, ◌∙◌, subst, one-add, arith}
 use Rattle.std.specs.List.{AllByRecursion, list_any, IsDistinct, range_with_len, prefix_len}
 use Rattle.std.proofs.lemmas.Bool.Decides.{nat_tests}
-use Rattle.std.proofs.lemmas.Bool.{cond-true, cond-false, eq-eqb, ne_eqb, eqb-true}
+use Rattle.std.proofs.lemmas.Bool.{cond-true, eq-eqb, ne_eqb, eqb-true, false_from_ne_true, false≢true}
+use Rattle.std.proofs.lemmas.List.Folds.{list_any-append}
 use Rattle.std.proofs.lemmas.List.Filters.{length-filter_both}
 use Rattle.scene_model.specs.Lookups.{left_of}
 use Rattle.scene_model.proofs.Lists.{filter_nothing, filter-filter, each_weaker, each-filter}
@@ -59,6 +60,33 @@ is_in-copies x xs = any-filter (λ y. y == x) xs
 
 pub in_copied : (x : ℕ) (xs ys : List ℕ) → copies x xs ≡ x ∷ ys → is_in x xs ≡ true
 in_copied x xs ys h = sym (is_in-copies x xs) ∙ (ap (is_in x) h ∙ ap (λ b. b || is_in x ys) (same_number x))
+
+wider_kept : {X : Type 0} (p q : X → Bool) (b : Bool) (x : X) (xs : List X) → q x ≡ b → (p x ≡ true → b ≡ true) → list_any p (filter q xs) ≡ list_any p xs → list_any p (cond b (x ∷ filter q xs) (filter q xs)) ≡ (p x || list_any p xs)
+wider_kept p q true x xs e w h = ap (λ b. p x || b) h
+wider_kept p q false x xs e w h = h ∙ ap (λ b. b || list_any p xs) (sym (false_from_ne_true (p x) (λ k. false≢true (w k))))
+
+-- a wider filter keeps what a test finds
+pub any-filter_wider : {X : Type 0} (p q : X → Bool) → ((x : X) → p x ≡ true → q x ≡ true) → (xs : List X) → list_any p (filter q xs) ≡ list_any p xs
+any-filter_wider p q w [] = refl
+any-filter_wider p q w (x ∷ xs) = wider_kept p q (q x) x xs refl (w x) (any-filter_wider p q w xs)
+
+split_here : (x y : ℕ) (xs : List ℕ) (b : Bool) → (y == x) ≡ b → (b || is_in x xs) ≡ true → (is_in x xs ≡ true → (before : List ℕ) × (behind : List ℕ) × (xs ≡ before ++ x ∷ behind)) → (before : List ℕ) × (behind : List ℕ) × (y ∷ xs ≡ before ++ x ∷ behind)
+split_here x y xs true e h r = ([], xs, ap (λ z. z ∷ xs) (eqb-true y x e))
+split_here x y xs false e h r = let (before, behind, f) = r h in (y ∷ before, behind, ap (λ l. y ∷ l) f)
+
+-- a number in a list, with what stands before it and behind it
+pub split_in : (x : ℕ) (xs : List ℕ) → is_in x xs ≡ true → (before : List ℕ) × (behind : List ℕ) × (xs ≡ before ++ x ∷ behind)
+split_in x [] h = absurd (cc)
+split_in x (y ∷ xs) h = split_here x y xs (y == x) refl h (split_in x xs)
+
+at_copies : (c : ℕ → List ℕ) (y p z : ℕ) (xs : List ℕ) (b : Bool) → (z == p) ≡ b → is_in y (c p) ≡ true → is_in y (flat_map c (copies p xs)) ≡ is_in p xs → is_in y (flat_map c (cond b (z ∷ copies p xs) (copies p xs))) ≡ (b || is_in p xs)
+at_copies c y p z xs true e k h =
+    list_any-append (λ w. w == y) (c z) (flat_map c (copies p xs)) ∙ ap (λ b. b || is_in y (flat_map c (copies p xs))) (ap (λ w. is_in y (c w)) (eqb-true z p e) ∙ k)
+at_copies c y p z xs false e k h = h
+
+pub is_in-flat_map_copies : (c : ℕ → List ℕ) (y p : ℕ) (xs : List ℕ) → is_in y (c p) ≡ true → is_in y (flat_map c (copies p xs)) ≡ is_in p xs
+is_in-flat_map_copies c y p [] k = refl
+is_in-flat_map_copies c y p (z ∷ xs) k = at_copies c y p z xs (z == p) refl k (is_in-flat_map_copies c y p xs k)
 
 none_kept : {X : Type 0} (p : X → Bool) (b : Bool) (x : X) (xs : List X) → (b || list_any p xs) ≡ false → (list_any p xs ≡ false → filter p xs ≡ []) → cond b (x ∷ filter p xs) (filter p xs) ≡ []
 none_kept p true x xs e h = cc
@@ -143,7 +171,7 @@ length_from_copies zero (x ∷ xs) h c = let k : (0 < x) × (x ≤ 0) = h.0 in a
 length_from_copies (suc n) xs h c =
     let rest : List ℕ = filter (λ y. not (y == suc n)) xs in
     let below : AllByRecursion (λ y. (0 < y) × (y ≤ n)) rest =
-        each-filter (λ y. (0 < y) × (y ≤ suc n)) (λ y. (0 < y) × (y ≤ n)) (λ y. not (y == suc n)) (λ y e k. (k.0, not_last y n e k.1)) xs h in
+    each-filter (λ y. (0 < y) × (y ≤ suc n)) (λ y. (0 < y) × (y ≤ n)) (λ y. not (y == suc n)) (λ y e k. (k.0, not_last y n e k.1)) xs h in
     let one : length (copies (suc n) xs) ≡ 1 = ap length (c (suc n) (omega arith) (omega arith)) in
     let others : length rest ≡ n = length_from_copies n rest below (λ x k l. filter-filter (λ y. y == x) (λ y. not (y == suc n)) (λ y e. not_past x y n e l) xs ∙ c x k (omega arith)) in
     omega (arith, length-filter_both (λ y. y == suc n) (λ y. not (y == suc n)) (λ _. refl) xs)
