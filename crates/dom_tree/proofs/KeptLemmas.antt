@@ -24,6 +24,7 @@ use Rattle.scene_model.proofs.Numbers.{is_in}
 use Rattle.dom_tree.specs.declared.node.NamedAttr.{NamedAttr}
 use Rattle.dom_tree.specs.declared.node.Node.{Node}
 use Rattle.dom_tree.specs.declared.node.Link.{Link}
+use Rattle.dom_tree.proofs.Places.{each_at, slice_get_some}
 use Rattle.dom_tree.specs.Inputs.{state_seen}
 use Rattle.dom_tree.specs.Kept.{text_of, named_pair, element_of, elements_from, elements_of, document, IsNamed, IsWhole}
 
@@ -74,14 +75,6 @@ state_found now x e s t f h =
 
 -- attributes
 
-each_at : {X : Type 0} (P : X → Type 0) (xs : List X) (i : ℕ) (x : X) → AllByRecursion P xs → slice_get xs i ≡ Some x → P x
-each_at P [] i x h e = absurd (cc)
-each_at P (y ∷ ys) zero x h e = subst P (some_same e) h.0
-  where
-    some_same : Some y ≡ Some x → y ≡ x
-    some_same f = cc
-each_at P (y ∷ ys) (suc i) x h e = each_at P ys i x h.1 e
-
 text_at : (names : List Characters) (name : ℕ) → name < length names → slice_get names name ≡ Some (text_of names name)
 text_at names name l = slice_get-get_or names name [] l ∙ ap Some (sym (unwrap_or-slice_get names name []))
 
@@ -123,11 +116,6 @@ unkeyed names (attr ∷ attrs) text none k =
         let same : text ≡ text_of names attr.name = (tied-Decides text (text_of names attr.name)).0 e in
         let at : slice_get names attr.name ≡ Some text = text_at names attr.name k.0 ∙ ap Some (sym same) in
         false≢true (sym none ∙ (is_among-Decides text names).1 (attr.name, k.0, get_or_from_slice_get names attr.name text text at))
-
-slice_get_some : {X : Type 0} (xs : List X) (i : ℕ) → i < length xs → (x : X) × (slice_get xs i ≡ Some x)
-slice_get_some [] i h = absurd (omega arith)
-slice_get_some (x ∷ xs) zero h = (x, refl)
-slice_get_some (x ∷ xs) (suc i) h = slice_get_some xs i (omega arith)
 
 attribute_found : (names : List Characters) (now : List Element) (x : ℕ) (node : Node) (text : Characters) → element_at now x ≡ Some (element_of names x node) → attribute_of now x text ≡ finmap.find (slice_cmp nat_cmp) text (map (named_pair names) node.attrs)
 attribute_found names now x node text f =

@@ -1,3 +1,6 @@
+pub mod Places
 pub mod NodeLists
 pub mod WordLemmas
 pub mod KeptLemmas
+pub mod NamingLemmas
+pub mod LinkLemmas

@@ -128,7 +128,7 @@ word_off bs x rest gap sep u l n e g s =
     let x_text : IsUtf8 x = word_text x sep rest seps s.1 s.2 behind in
     let sep_same : chars sep ≡ sep = chars-IsAscii sep (spaces-ascii sep seps) in
     let all : chars bs ≡ gap ++ (chars x ++ (sep ++ chars rest)) =
-        ap chars e ∙ (chars_parts gap x sep rest (spaces-text gap gaps) x_text (spaces-text sep seps) ∙ (ap (λ g. g ++ (chars x ++ (chars sep ++ chars rest))) (chars-IsAscii gap (spaces-ascii gap gaps)) ∙ ap (λ s. gap ++ (chars x ++ (s ++ chars rest))) sep_same)) in
+    ap chars e ∙ (chars_parts gap x sep rest (spaces-text gap gaps) x_text (spaces-text sep seps) ∙ (ap (λ g. g ++ (chars x ++ (chars sep ++ chars rest))) (chars-IsAscii gap (spaces-ascii gap gaps)) ∙ ap (λ s. gap ++ (chars x ++ (s ++ chars rest))) sep_same)) in
     record {
       word_text = x_text;
       rest_text = rest_text x sep rest seps s.1 s.2 behind;

@@ -7,6 +7,7 @@ use Rattle.stylo_base.specs.declared.state.State.{State}
 use Rattle.stylo_base.specs.declared.state.State.TheVariants.{Hover, Active, Focus}
 use Rattle.dom_tree.specs.declared.nodes.States.{States}
 use Rattle.dom_tree.specs.declared.nodes.Attr.{Attr}
+use Rattle.dom_tree.specs.declared.nodes.NodeInput.{NodeInput}
 
 abbrev pub states_of : States → model.States
 states_of s = record { hover = s.hover; active = s.active; focus = s.focus }
@@ -26,3 +27,8 @@ abbrev pub state_seen : State → model.State
 state_seen Hover = model.hover_state
 state_seen Active = model.active_state
 state_seen Focus = model.focus_state
+
+-- the element that a node becomes, with the number of its parent
+abbrev pub input_element : ℕ → Option ℕ → NodeInput → model.Element
+input_element number parent input =
+    record { number = number; parent = parent; tag = input.tag; attrs = input.attrs; states = states_of input.states }

@@ -42,6 +42,10 @@ pub record IsNamed (names : List Characters) (node : Node) : Type 0 where
   pub tag : node.tag < length names
   pub attrs : AllByRecursion (λ attr. attr.name < length names) node.attrs
 
+-- names that were given keep their texts
+abbrev pub KeepsTexts : List Characters → List Characters → Type 0
+KeepsTexts old new = (name : ℕ) → name < length old → slice_get new name ≡ slice_get old name
+
 -- what follows from the parents of a list of elements
 abbrev pub link_of : List Element → ℕ → Link
 link_of list x = record { children = children list x; place = place_of list x }

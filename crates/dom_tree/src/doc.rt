@@ -3,11 +3,13 @@
 ghost use Rattle.std.specs.Prelude.{◌≡◌, ◌<◌, ◌≤◌, ◌-◌, IfOk, Some, length, option_map, slice_get};
 ghost use Rattle.std.specs.Str.{chars};
 ghost use Rattle.scene_model.specs.Lookups.{IsElement, attribute_of, children, has_class, is_element, numbers, parent_of, place_of, state_of, tag_of};
+ghost use Rattle.scene_model.specs.Nodes.{scene_of};
 ghost use Rattle.scene_model.specs.Valid.{IsValid};
 ghost use Rattle.dom_tree.specs.Inputs.{state_seen};
 
 use crate::node::{Link, Node};
-use crate::words;
+use crate::nodes::NodeList;
+use crate::{start, words};
 use std::alloc::Global;
 use std::marker::Model;
 use stylo_base::{Names, NoMemory, State};
@@ -42,6 +44,23 @@ impl Model for Doc {
 }
 
 impl Doc {
+    /// The document of a list of nodes. The only error is want of memory.
+    pub fn start(alloc: Global, list: &NodeList) -> Result<Doc, NoMemory>
+        requires { length list.now ≤ 65536 }
+        ensures { IfOk result (λ doc. doc ≡ scene_of list.now) }
+    {
+        let mut names = Names::new(alloc);
+        let nodes = start::name_nodes(alloc, &mut names, list)?;
+        let links = start::link_nodes(alloc, list)?;
+        let order = start::walk(alloc, list, links.as_slice())?;
+        Ok(Doc {
+            nodes,
+            links,
+            order,
+            names,
+        })
+    }
+
     /// How many elements there are.
     pub fn len(&self) -> usize
         ensures { result ≡ length self.now }

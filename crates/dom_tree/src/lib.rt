@@ -5,6 +5,7 @@ mod doc;
 mod node;
 mod nodes;
 mod numbers;
+mod start;
 mod words;
 
 pub use doc::Doc;

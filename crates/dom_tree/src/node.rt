@@ -2,8 +2,8 @@
 
 ghost use Rattle.std.specs.Prelude.{◌≡◌, ◌==◌, find, option_copied, option_map};
 
-use crate::numbers::Numbers;
 use crate::nodes::States;
+use crate::numbers::Numbers;
 use std::marker::Model;
 use stylo_base::{Name, Text};
 
