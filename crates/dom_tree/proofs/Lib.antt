@@ -4,3 +4,4 @@ pub mod WordLemmas
 pub mod KeptLemmas
 pub mod NamingLemmas
 pub mod LinkLemmas
+pub mod WalkLemmas
