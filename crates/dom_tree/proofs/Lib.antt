@@ -5,3 +5,4 @@ pub mod KeptLemmas
 pub mod NamingLemmas
 pub mod LinkLemmas
 pub mod WalkLemmas
+pub mod DocLemmas

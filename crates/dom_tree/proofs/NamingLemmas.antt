@@ -73,7 +73,7 @@ elements_kept old new k [] kept named = refl
 elements_kept old new k (node ∷ nodes) kept named =
     ap (λ e. e ∷ elements_from new (k + 1) nodes) (element_kept old new node (k + 1) kept named.0) ∙ ap (λ l. element_of old (k + 1) node ∷ l) (elements_kept old new (k + 1) nodes kept named.1)
 
-length-elements_from : (names : List Characters) (k : ℕ) (nodes : List Node) → length (elements_from names k nodes) ≡ length nodes
+pub length-elements_from : (names : List Characters) (k : ℕ) (nodes : List Node) → length (elements_from names k nodes) ≡ length nodes
 length-elements_from names k [] = refl
 length-elements_from names k (node ∷ nodes) = ap suc (length-elements_from names (k + 1) nodes)
 

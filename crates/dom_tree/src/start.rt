@@ -2,7 +2,7 @@
 
 ghost use Rattle.std.specs.Prelude.{◌≡◌, ◌++◌, ◌∷◌, ◌^◌, ◌<◌, ◌≤◌, ◌+◌, ℕ, [], IfOk, IfSome, OnOk, length, option_map, reverse, slice_get, slice_set};
 ghost use Rattle.std.specs.List.{AllByRecursion};
-ghost use Rattle.scene_model.specs.Nodes.{listed, tree_order};
+ghost use Rattle.scene_model.specs.Nodes.{IsNodeList, listed, tree_order};
 ghost use Rattle.dom_tree.specs.Inputs.{input_element};
 ghost use Rattle.dom_tree.specs.Kept.{AreLinks, IsNamed, KeepsTexts, element_of, elements_of, named_attributes};
 
@@ -115,7 +115,8 @@ fn put_child(links: &mut Vec<Link>, parent: usize, child: u32) -> Result<u32, No
 pub(crate) fn walk(alloc: Global, list: &NodeList, links: &[Link]) -> Result<Vec<u32>, NoMemory>
     requires few { length list.now ≤ 65536 }
     requires links { AreLinks (listed list.now) links.now }
-    ensures { IfOk result (λ order. order.items ≡ tree_order list.now) }
+    ensures order { IfOk result (λ order. order.items ≡ tree_order list.now) }
+    ensures shape { IsNodeList list.now }
 {
     let mut order = Vec::with_capacity(alloc, list.len())?;
     let mut ahead = Vec::new(alloc);
