@@ -1,5 +1,5 @@
 -- The style of an element is computed over its parent's.
-use Rattle.std.proofs.Common.{◌≡◌, ℕ, List, [], ◌∷◌, Option, Some, None, true, false, is_none, refl, ap, ◌∙◌}
+use Rattle.std.proofs.Common.{◌≡◌, ℕ, List, Option, Some, None, true, false, is_none, refl, ap, ◌∙◌}
 use Rattle.scene_model.specs.Element.{Element}
 use Rattle.scene_model.specs.Lookups.{parent_of}
 use Rattle.scene_model.specs.Ancestors.{up, ancestors}

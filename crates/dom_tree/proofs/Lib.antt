@@ -6,3 +6,4 @@ pub mod NamingLemmas
 pub mod LinkLemmas
 pub mod WalkLemmas
 pub mod DocLemmas
+pub mod DepthSteps

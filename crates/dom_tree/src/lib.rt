@@ -3,6 +3,7 @@
 
 mod doc;
 mod node;
+mod depths;
 mod nodes;
 mod numbers;
 mod start;

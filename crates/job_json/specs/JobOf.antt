@@ -1,12 +1,15 @@
 -- What the bytes of an input say.
-use Rattle.std.specs.Prelude.{ℕ, List, [], Bool, if◌then◌else◌, ◌&&◌, Option, Some, None, option_and_then, codes}
+use Rattle.std.specs.Prelude.{ℕ, List, [], ◌≡◌, ◌⊎◌, if◌then◌else◌, Option, Some, None, option_and_then, codes, Result, Ok, Err}
 use Rattle.std.specs.Str.{is_utf8}
 use Rattle.serde_json.specs.Data.{Data, Items, no_items}
 use Rattle.serde_json.specs.Read.{read as read_json}
 use Rattle.serde_json.specs.Find.{get, as_array}
 use Rattle.scene_model.specs.Element.{Characters}
-use Rattle.job_json.specs.Job.{Job}
-use Rattle.job_json.specs.Shape.{job_from}
+use Rattle.scene_model.specs.Nodes.{Node}
+use Rattle.job_json.specs.declared.Job.{Job}
+use Rattle.job_json.specs.declared.JobFault.{JobFault}
+use Rattle.job_json.specs.declared.JobFault.TheVariants.{NotJson, Shape, NoMemory}
+use Rattle.job_json.specs.Shape.{job_from, nodes_of}
 use Rattle.job_json.specs.Limits.{is_within}
 
 pub data Verdict : Type 0 where
@@ -27,14 +30,34 @@ items_or_none (Some items) = items
 abbrev pub node_items : Data → Items
 node_items value = items_or_none (option_and_then as_array (get (codes "nodes") value))
 
+-- the nodes that pass no limit
+abbrev pub nodes_within : Items → Option (List Node)
+nodes_within items = option_and_then (λ nodes. if is_within items nodes then Some nodes else None) (nodes_of items)
+
+abbrev pub if_within : Items → Job → Option Job
+if_within items job = if is_within items job.nodes then Some job else None
+
+-- the job that a value says, if it has the shape of one and passes no limit
+abbrev pub job_within : Data → Option Job
+job_within value = option_and_then (if_within (node_items value)) (job_from value)
+
 -- A job past a limit counts as one of another shape, and the pointer is the empty one, in this profile.
-abbrev pub verdict_on : Data → Option Job → Verdict
-verdict_on value None = bad_shape []
-verdict_on value (Some job) = if is_within (node_items value) job.nodes then good job else bad_shape []
+abbrev pub verdict_on : Option Job → Verdict
+verdict_on None = bad_shape []
+verdict_on (Some job) = good job
 
 abbrev pub verdict_from : Option Data → Verdict
 verdict_from None = not_json
-verdict_from (Some value) = verdict_on value (job_from value)
+verdict_from (Some value) = verdict_on (job_within value)
 
 unfoldable pub verdict_of : List ℕ → Verdict
 verdict_of bytes = verdict_from (reading bytes)
+
+abbrev pub answer_to : Verdict → Result Job JobFault
+answer_to not_json = Err NotJson
+answer_to (bad_shape path) = Err (Shape path)
+answer_to (good job) = Ok job
+
+-- the answer to a verdict, or want of memory in its place
+abbrev pub IsDue : Verdict → Result Job JobFault → Type 0
+IsDue verdict result = (result ≡ answer_to verdict) ⊎ (result ≡ Err NoMemory)

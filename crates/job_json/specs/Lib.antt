@@ -1,4 +1,5 @@
-pub mod Job
 pub mod Shape
 pub mod Limits
 pub mod JobOf
+pub mod Reads
+pub mod Children

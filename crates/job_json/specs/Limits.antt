@@ -3,9 +3,8 @@ use Rattle.std.specs.Prelude.{ℕ, ◌+◌, nat_le, ◌&&◌, Bool, true, List, 
 use Rattle.std.specs.List.{list_all}
 use Rattle.serde_json.specs.Data.{Data, Items, no_items, item, Members, no_members, member}
 use Rattle.serde_json.specs.Find.{get, as_array, as_object, as_str}
-use Rattle.scene_model.specs.Nodes.{Node, scene_of}
-use Rattle.scene_model.specs.Lookups.{numbers}
-use Rattle.scene_model.specs.Ancestors.{depth_of}
+use Rattle.scene_model.specs.Nodes.{Node}
+use Rattle.dom_tree.specs.Depths.{depths_of}
 
 -- how many attributes a node has: an object has each key once
 abbrev pub count_of : Members → ℕ
@@ -36,7 +35,7 @@ items_within (item value rest) = attrs_within (get (codes "attrs") value) && ite
 
 -- no element stands deeper than 256 levels, where the root has depth 1
 abbrev pub depths_within : List Node → Bool
-depths_within nodes = list_all (λ x. nat_le (depth_of (scene_of nodes) x) 256) (numbers (scene_of nodes))
+depths_within nodes = list_all (λ depth. nat_le depth 256) (depths_of nodes)
 
 -- at most 65,536 elements, each within its limits
 abbrev pub is_within : Items → List Node → Bool

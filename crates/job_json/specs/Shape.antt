@@ -7,7 +7,7 @@ use Rattle.serde_json.specs.Data.{Data, Items, no_items, item, Members, no_membe
 use Rattle.serde_json.specs.Find.{get, as_number, as_u64, as_str, as_array, as_object}
 use Rattle.scene_model.specs.Element.{Characters, Attributes, States}
 use Rattle.scene_model.specs.Nodes.{Node}
-use Rattle.job_json.specs.Job.{Job}
+use Rattle.job_json.specs.declared.Job.{Job}
 
 -- Texts come as their bytes in UTF-8.
 
@@ -31,11 +31,15 @@ abbrev pub parent_from : ℕ → Option Data → Option (Option ℕ)
 parent_from k None = if k == 0 then Some None else None
 parent_from k (Some value) = option_and_then (λ p. if nat_lt p k then Some (Some p) else None) (whole value)
 
--- each key a name, each value a text
+-- a key that is a name, with a value that is a text
+abbrev pub pair_from : List ℕ → Data → Option (Characters × Characters)
+pair_from key value = if is_name key then option_map (λ text. (chars key, chars text)) (as_str value) else None
+
+-- each member such a pair
 abbrev pub pairs_of : Members → Option (List (Characters × Characters))
 pairs_of no_members = Some []
 pairs_of (member key value rest) =
-    if is_name key then option_and_then (λ text. option_map (λ pairs. (chars key, chars text) ∷ pairs) (pairs_of rest)) (as_str value) else None
+    option_and_then (λ pair. option_map (λ pairs. pair ∷ pairs) (pairs_of rest)) (pair_from key value)
 
 abbrev pub attrs_from : Option Data → Option Attributes
 attrs_from None = Some map.empty
@@ -57,10 +61,18 @@ abbrev pub states_from : Option Data → Option States
 states_from None = Some no_states
 states_from (Some value) = option_and_then (states_with no_states) (as_array value)
 
+-- a node, its parent left out
+abbrev pub node_from : Data → Option Node
+node_from value =
+    option_and_then (λ tag. option_and_then (λ attrs. option_map (λ states. record { parent = None; tag = tag; attrs = attrs; states = states }) (states_from (get (codes "states") value))) (attrs_from (get (codes "attrs") value))) (option_and_then name_of (get (codes "tag") value))
+
+abbrev pub under : Option ℕ → Node → Node
+under parent node = record node { parent = parent }
+
 -- the node at a place of the list
 abbrev pub node_at : ℕ → Data → Option Node
 node_at k value =
-    option_and_then (λ tag. option_and_then (λ parent. option_and_then (λ attrs. option_map (λ states. record { parent = parent; tag = tag; attrs = attrs; states = states }) (states_from (get (codes "states") value))) (attrs_from (get (codes "attrs") value))) (parent_from k (get (codes "parent") value))) (option_and_then name_of (get (codes "tag") value))
+    option_and_then (λ parent. option_map (under parent) (node_from value)) (parent_from k (get (codes "parent") value))
 
 abbrev pub nodes_from : ℕ → Items → Option (List Node)
 nodes_from k no_items = Some []
@@ -79,15 +91,19 @@ is_version value = option_is_one (option_and_then whole (get (codes "version") v
     option_is_one None = false
     option_is_one (Some n) = n == 1
 
+-- a list with nothing in it
+abbrev pub has_no_items : Option Items → Bool
+has_no_items None = false
+has_no_items (Some no_items) = true
+has_no_items (Some (item value rest)) = false
+
+abbrev pub is_empty_array : Data → Bool
+is_empty_array value = has_no_items (as_array value)
+
 -- a list that may be absent, and has nothing in it in this profile
 abbrev pub is_empty_list : Option Data → Bool
 is_empty_list None = true
-is_empty_list (Some value) = has_no_items (as_array value)
-  where
-    has_no_items : Option Items → Bool
-    has_no_items None = false
-    has_no_items (Some no_items) = true
-    has_no_items (Some (item value rest)) = false
+is_empty_list (Some value) = is_empty_array value
 
 -- what a JSON value says as a job, if it has the shape of one
 abbrev pub job_from : Data → Option Job
