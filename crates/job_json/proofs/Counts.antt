@@ -1,5 +1,5 @@
 -- How many items a list has, and how many members an object.
-use Rattle.std.proofs.Common.{◌≡◌, ◌==◌, List, [], ◌∷◌, length, Some, refl, sym, true, false, arith}
+use Rattle.std.proofs.Common.{◌≡◌, ◌==◌, List, [], ◌∷◌, length, Some, refl, arith}
 use Rattle.std.specs.declared.alloc.Global.{Global}
 use Rattle.std.specs.Prelude.{String}
 use Rattle.std.proofs.lemmas.Bool.Decides.{nat_tests}

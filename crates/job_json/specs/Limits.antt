@@ -2,7 +2,7 @@
 use Rattle.std.specs.Prelude.{ℕ, ◌+◌, nat_le, ◌&&◌, Bool, true, List, length, Option, Some, None, codes}
 use Rattle.std.specs.List.{list_all}
 use Rattle.serde_json.specs.Data.{Data, Items, no_items, item, Members, no_members, member}
-use Rattle.serde_json.specs.Find.{get, as_array, as_object, as_str}
+use Rattle.serde_json.specs.Find.{get, as_object, as_str}
 use Rattle.scene_model.specs.Nodes.{Node}
 use Rattle.dom_tree.specs.Depths.{depths_of}
 

@@ -22,10 +22,16 @@ fn read_as(alloc: Global, bytes: &[u8]) -> Answer {
         return Answer::Other;
     }
     match read(alloc, bytes) {
-        Ok(_) => Answer::Good,
-        Err(JobFault::NotJson) => Answer::NotJson,
-        Err(JobFault::Shape(path)) if path.as_str().is_empty() => Answer::Shape,
-        Err(_) => Answer::Other,
+        Ok(_job) => Answer::Good,
+        Err(fault) => fault_as(&fault),
+    }
+}
+
+fn fault_as(fault: &JobFault) -> Answer {
+    match fault {
+        JobFault::NotJson => Answer::NotJson,
+        JobFault::Shape(path) if path.as_str().is_empty() => Answer::Shape,
+        _ => Answer::Other,
     }
 }
 
