@@ -1,0 +1,52 @@
+-- Pieces that are written one after another.
+use Rattle.std.proofs.Common.{◌≡◌, ℕ, ◌+◌, ◌<◌, ◌≤◌, List, [], ◌∷◌, ◌++◌, length, take, drop, Option, Some, None, refl, sym, ap, ◌∙◌, append_assoc, append-nil, arith, length-append, subst, take-append-drop, get_or, zero-add, add-one, suc}
+use Rattle.std.specs.List.{flat_map}
+use Rattle.std.proofs.lemmas.Grind.{flat_map-append}
+use Rattle.std.proofs.lemmas.List.{take-append-le}
+use Rattle.std.proofs.Math.Seq.{take-suc, drop-cons, take-append_seam}
+use Rattle.std.specs.Io.KnownBytes.{Appends}
+use Rattle.style_cli.specs.Loops.{GrewByFront}
+
+pub Appends-nothing : (a : Option (List ℕ)) → Appends a a []
+Appends-nothing None = tt
+Appends-nothing (Some x) = sym (append-nil x)
+
+pub Appends-both : (a b c : Option (List ℕ)) (bs cs : List ℕ) → Appends a b bs → Appends b c cs → Appends a c (bs ++ cs)
+Appends-both None b c bs cs p q = tt
+Appends-both (Some x) None c bs cs p q = absurd p
+Appends-both (Some x) (Some y) None bs cs p q = absurd q
+Appends-both (Some x) (Some y) (Some z) bs cs p q = q ∙ ap (λ l. l ++ cs) p ∙ append_assoc x bs cs
+
+-- the first so many bytes of some bytes and others
+take_both : (bs cs : List ℕ) (n : ℕ) → take (length bs + n) (bs ++ cs) ≡ bs ++ take n cs
+take_both [] cs n = ap (λ m. take m cs) (zero-add n)
+take_both (b ∷ bs) cs n =
+    let one_more : length (b ∷ bs) + n ≡ suc (length bs + n) = omega arith in
+    ap (λ m. take m (b ∷ (bs ++ cs))) one_more ∙ ap (λ l. b ∷ l) (take_both bs cs n)
+
+-- a front of what comes next is a front of the whole
+pub front_after : (a b c : Option (List ℕ)) (bs next rest whole : List ℕ) → whole ≡ bs ++ (next ++ rest) → Appends a b bs → GrewByFront b c next → GrewByFront a c whole
+front_after a b c bs next rest whole e first second =
+    let n : ℕ = second.0 in
+    let cut : take (length bs + n) whole ≡ bs ++ take n next =
+    ap (take (length bs + n)) e ∙ take_both bs (next ++ rest) n ∙ ap (λ l. bs ++ l) (take-append-le n next rest second.1) in (
+      length bs + n,
+      omega (arith, second.1, ap length e, length-append bs (next ++ rest), length-append next rest),
+      subst (Appends a c) (sym cut) (Appends-both a b c bs (take n next) first second.2),
+    )
+
+pub front_itself : (a b : Option (List ℕ)) (bs rest whole : List ℕ) → whole ≡ bs ++ rest → Appends a b bs → GrewByFront a b whole
+front_itself a b bs rest whole e first =
+    (length bs, omega (arith, ap length e, length-append bs rest), subst (Appends a b) (sym (ap (take (length bs)) e ∙ take-append_seam bs rest)) first)
+
+-- of a list: what its first k elements are written as, the next one, and the rest
+pub flat_split : {X : Type 0} (f : X → List ℕ) (xs : List X) (k : ℕ) (d : X) → k < length xs → flat_map f xs ≡ flat_map f (take k xs) ++ (f (get_or xs k d) ++ flat_map f (drop (k + 1) xs))
+flat_split f xs k d below =
+    ap (flat_map f) (sym (take-append-drop k xs)) ∙ flat_map-append f (take k xs) (drop k xs) ∙ ap (λ l. flat_map f (take k xs) ++ flat_map f l) (drop-cons xs k d below ∙ ap (λ m. get_or xs k d ∷ drop m xs) (sym (add-one k)))
+
+pub flat_rest : {X : Type 0} (f : X → List ℕ) (xs : List X) (k : ℕ) → flat_map f xs ≡ flat_map f (take k xs) ++ flat_map f (drop k xs)
+flat_rest f xs k = ap (flat_map f) (sym (take-append-drop k xs)) ∙ flat_map-append f (take k xs) (drop k xs)
+
+pub flat_more : {X : Type 0} (f : X → List ℕ) (xs : List X) (k : ℕ) (d : X) → k < length xs → flat_map f (take (k + 1) xs) ≡ flat_map f (take k xs) ++ f (get_or xs k d)
+flat_more f xs k d below =
+    ap (λ m. flat_map f (take m xs)) (add-one k) ∙ ap (flat_map f) (take-suc xs k d below) ∙ flat_map-append f (take k xs) (get_or xs k d ∷ []) ∙ ap (λ l. flat_map f (take k xs) ++ l) (append-nil (f (get_or xs k d)))

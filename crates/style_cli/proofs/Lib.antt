@@ -1,0 +1,4 @@
+pub mod Told
+pub mod Fronts
+pub mod Walk
+pub mod Printed

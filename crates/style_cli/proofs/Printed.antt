@@ -1,0 +1,68 @@
+-- The lines of a job, one after another.
+use Rattle.std.proofs.Common.{◌≡◌, ℕ, ◌+◌, ◌<◌, ◌≤◌, zero, suc, List, [], ◌∷◌, ◌++◌, map, length, get_or, Option, Result, Ok, Err, OnOk, OnErr, refl, sym, ap, ◌∙◌, subst, arith, append-nil}
+use Rattle.std.specs.Prelude.{encode_utf8_all, codes}
+use Rattle.std.specs.List.{flat_map}
+use Rattle.std.specs.Io.KnownBytes.{Appends}
+use Rattle.std.proofs.lemmas.List.{length-map}
+use Rattle.scene_model.specs.Element.{Element}
+use Rattle.scene_model.specs.Lookups.{numbers, tag_of}
+use Rattle.scene_model.specs.Nodes.{scene_of}
+use Rattle.cascade_model.specs.Style.{Style}
+use Rattle.cascade_model.specs.StyleOf.{style_of}
+use Rattle.report_text.specs.Lines.{batch_line, element_line}
+use Rattle.job_json.specs.declared.Job.{Job}
+use Rattle.style_cli.specs.Loops.{GrewByFront}
+use Rattle.style_cli.specs.Text.{line_at, text_of}
+use Rattle.style_cli.proofs.Fronts.{Appends-nothing, Appends-both, front_after}
+
+-- an element's line in UTF-8
+abbrev pub line_bytes : List Element → ℕ → List ℕ
+line_bytes doc x = encode_utf8_all (line_at doc x)
+
+pub on_err : {T E : Type 0} (r : Result T E) (P : Type 0) → P → OnErr r P
+on_err (Ok x) P p = tt
+on_err (Err e) P p = p
+
+pub line_is : (doc : List Element) (x : ℕ) (line tag : List ℕ) (style : Style) → line ≡ element_line x tag style → tag ≡ tag_of doc x → style ≡ style_of doc x → encode_utf8_all line ≡ line_bytes doc x
+line_is doc x line tag style made named styled =
+    ap encode_utf8_all (made ∙ ap (λ t. element_line x t style) named ∙ ap (element_line x (tag_of doc x)) styled)
+
+-- two lists that are alike by place
+pub alike_at : {A : Type 0} (value : A → Style) (style : ℕ → Style) (items : List A) (order : List ℕ) (k : ℕ) (item : A) → map value items ≡ map style order → k < length order → item ≡ get_or items k item → value item ≡ style (get_or order k 0)
+alike_at value style [] [] k item e below is = absurd (omega arith)
+alike_at value style [] (x ∷ order) k item e below is = cc
+alike_at value style (s ∷ items) [] k item e below is = cc
+alike_at value style (s ∷ items) (x ∷ order) zero item e below is = let first : value s ≡ style x = cc in ap value is ∙ first
+alike_at value style (s ∷ items) (x ∷ order) (suc k) item e below is =
+    let rest : map value items ≡ map style order = cc in alike_at value style items order k item rest (omega arith) is
+
+flat_map-map : {X Y : Type 0} (f : Y → List ℕ) (g : X → Y) (xs : List X) → flat_map f (map g xs) ≡ flat_map (λ x. f (g x)) xs
+flat_map-map f g [] = refl
+flat_map-map f g (x ∷ xs) = ap (λ l. f (g x) ++ l) (flat_map-map f g xs)
+
+text_as : (doc : List Element) (job : Job) → doc ≡ scene_of job.nodes → text_of job ≡ encode_utf8_all (batch_line 0 0 0 (length doc) (length doc)) ++ flat_map (line_bytes doc) (numbers doc)
+unfolding text_of
+text_as doc job e =
+    ap (λ d. encode_utf8_all (batch_line 0 0 0 (length d) (length d)) ++ flat_map encode_utf8_all (map (line_at d) (numbers d))) (sym e) ∙ ap (λ l. encode_utf8_all (batch_line 0 0 0 (length doc) (length doc)) ++ l) (flat_map-map encode_utf8_all (line_at doc) (numbers doc))
+
+-- the text of a job is the line of the batch and the lines of the elements
+pub text_is : (doc : List Element) (job : Job) (order line : List ℕ) (count : ℕ) → doc ≡ scene_of job.nodes → order ≡ numbers doc → count ≡ length order → line ≡ batch_line 0 0 0 count count → text_of job ≡ encode_utf8_all line ++ flat_map (line_bytes doc) order
+text_is doc job order line count e is many made =
+    let size : count ≡ length doc = many ∙ ap length is ∙ simp length-map in
+    text_as doc job e ∙ ap (λ n. encode_utf8_all (batch_line 0 0 0 n n) ++ flat_map (line_bytes doc) (numbers doc)) (sym size) ∙ ap (λ l. encode_utf8_all l ++ flat_map (line_bytes doc) (numbers doc)) (sym made) ∙ ap (λ l. encode_utf8_all line ++ flat_map (line_bytes doc) l) (sym is)
+
+-- a front of the first piece is a front of the whole
+pub front_first : (a b : Option (List ℕ)) (first rest whole : List ℕ) → whole ≡ first ++ rest → GrewByFront a b first → GrewByFront a b whole
+front_first a b first rest whole e grew = front_after a a b [] first rest whole e (Appends-nothing a) grew
+
+-- and a front of what comes last is one too
+pub front_last : (a b c : Option (List ℕ)) (first last whole : List ℕ) → whole ≡ first ++ last → Appends a b first → GrewByFront b c last → GrewByFront a c whole
+front_last a b c first last whole e done grew = front_after a b c first last [] whole (e ∙ ap (λ l. first ++ l) (sym (append-nil last))) done grew
+
+pub whole_last : {T E : Type 0} (r : Result T E) (a b c : Option (List ℕ)) (first last whole : List ℕ) → whole ≡ first ++ last → Appends a b first → OnOk r (Appends b c last) → OnOk r (Appends a c whole)
+whole_last (Ok x) a b c first last whole e done more = subst (Appends a c) (sym e) (Appends-both a b c first last done more)
+whole_last (Err x) a b c first last whole e done more = tt
+
+pub front_of_last : {T E : Type 0} (r : Result T E) (a b c : Option (List ℕ)) (first last whole : List ℕ) → whole ≡ first ++ last → Appends a b first → OnErr r (GrewByFront b c last) → OnErr r (GrewByFront a c whole)
+front_of_last (Ok x) a b c first last whole e done more = tt
+front_of_last (Err x) a b c first last whole e done more = front_last a b c first last whole e done more

@@ -1,0 +1,74 @@
+-- The style of an element over the one that is known of its parent.
+use Rattle.std.proofs.Common.{◌≡◌, ℕ, ◌+◌, ◌<◌, ◌==◌, ◌||◌, Bool, true, false, List, [], ◌∷◌, ◌++◌, map, length, take, drop, get_or, Option, Some, None, Result, Ok, Err, IfOk, refl, sym, ap, ◌∙◌, arith, take-append-drop, add-one, subst}
+use Rattle.std.proofs.lemmas.List.{map-append}
+use Rattle.std.proofs.lemmas.List.Folds.{list_any-append}
+use Rattle.std.proofs.lemmas.Bool.{eqb-true}
+use Rattle.std.proofs.Math.Seq.{drop-cons, take-suc}
+use Rattle.scene_model.specs.Element.{Element}
+use Rattle.scene_model.specs.Lookups.{parent_of, numbers, IsElement}
+use Rattle.scene_model.specs.Valid.{IsValid}
+use Rattle.scene_model.proofs.Numbers.{is_in, same_number}
+use Rattle.scene_model.proofs.Found.{is_element-numbers}
+use Rattle.scene_model.proofs.ParentBefore.{parent_before}
+use Rattle.cascade_model.specs.Table.{display}
+use Rattle.cascade_model.specs.Style.{Style, initial_style, inherited_part, with_changed, blockified}
+use Rattle.cascade_model.specs.StyleOf.{style_of}
+use Rattle.cascade_model.proofs.StyleAlong.{style_of-child, style_of-root}
+
+pub over_none : (doc : List Element) (x : ℕ) (style part first : Style) → IsValid doc → parent_of doc x ≡ None
+    → style ≡ with_changed blockified display part → part ≡ inherited_part first → first ≡ initial_style → style ≡ style_of doc x
+over_none doc x style part first valid none made from initial =
+    made ∙ ap (with_changed blockified display) (from ∙ ap inherited_part initial) ∙ sym (style_of-root doc valid x none)
+
+same_in : (a b : Style) → ◌≡◌ {A = Option Style} (Some a) (Some b) → a ≡ b
+same_in a b e = cc
+
+pub over_parent : {E : Type 0} (doc : List Element) (x p : ℕ) (known : Option Style) (over : Style) (result : Result Style E) → IsValid doc → parent_of doc x ≡ Some p
+    → known ≡ Some (style_of doc p) → known ≡ Some over → IfOk result (λ style. style ≡ inherited_part over) → IfOk result (λ style. style ≡ style_of doc x)
+over_parent doc x p known over (Err e) valid parent is found made = tt
+over_parent doc x p known over (Ok style) valid parent is found made =
+    made ∙ ap inherited_part (same_in over (style_of doc p) (sym found ∙ is)) ∙ sym (style_of-child doc valid x p parent)
+
+-- the numbers in tree order, round the k-th
+split_order : (doc : List Element) (order : List ℕ) (k : ℕ) → order ≡ numbers doc → k < length order → numbers doc ≡ take k order ++ get_or order k 0 ∷ drop (k + 1) order
+split_order doc order k e below =
+    sym e ∙ sym (take-append-drop k order) ∙ ap (λ l. take k order ++ l) (drop-cons order k 0 below ∙ ap (λ m. get_or order k 0 ∷ drop m order) (sym (add-one k)))
+
+or_true : (b rest : Bool) → rest ≡ true → (b || rest) ≡ true
+or_true true rest h = refl
+or_true false rest h = h
+
+among_split : (x : ℕ) (before after : List ℕ) → is_in x (before ++ x ∷ after) ≡ true
+among_split x [] after = ap (λ b. b || is_in x after) (same_number x)
+among_split x (y ∷ before) after = or_true (y == x) (is_in x (before ++ x ∷ after)) (among_split x before after)
+
+pub element_in_order : (doc : List Element) (order : List ℕ) (k : ℕ) → order ≡ numbers doc → k < length order → IsElement doc (get_or order k 0)
+element_in_order doc order k e below =
+    is_element-numbers doc (get_or order k 0) ∙ ap (is_in (get_or order k 0)) (split_order doc order k e below) ∙ among_split (get_or order k 0) (take k order) (drop (k + 1) order)
+
+pub parent_in_order : (doc : List Element) (order : List ℕ) (k p : ℕ) → IsValid doc → order ≡ numbers doc → k < length order → parent_of doc (get_or order k 0) ≡ Some p → is_in p (take k order) ≡ true
+parent_in_order doc order k p valid e below parent =
+    parent_before doc (take k order) (get_or order k 0) (drop (k + 1) order) p valid (split_order doc order k e below) parent
+
+pub styled_more : {A : Type 0} (value : A → Style) (style : ℕ → Style) (items new : List A) (last : A) (order : List ℕ) (k : ℕ) → k < length order → new ≡ items ++ last ∷ []
+    → map value items ≡ map style (take k order) → value last ≡ style (get_or order k 0) → map value new ≡ map style (take (k + 1) order)
+styled_more value style items new last order k below e old same =
+    ap (map value) e ∙ map-append value items (last ∷ []) ∙ ap (λ l. l ++ value last ∷ []) old ∙ ap (λ s. map style (take k order) ++ s ∷ []) same ∙ sym (ap (λ m. map style (take m order)) (add-one k) ∙ ap (map style) (take-suc order k 0 below) ∙ map-append style (take k order) (get_or order k 0 ∷ []))
+
+or_cases : (b a : Bool) → (a || (b || false)) ≡ true → b ≡ false → a ≡ true
+or_cases b true h none = refl
+or_cases true false h none = cc
+or_cases false false h none = h
+
+in_more : (order : List ℕ) (k q : ℕ) → k < length order → is_in q (take (k + 1) order) ≡ (is_in q (take k order) || ((get_or order k 0 == q) || false))
+in_more order k q below = ap (λ m. is_in q (take m order)) (add-one k) ∙ ap (is_in q) (take-suc order k 0 below) ∙ list_any-append (λ y. y == q) (take k order) (get_or order k 0 ∷ [])
+
+known_by : (style : ℕ → Style) (old new : ℕ → Option Style) (x q : ℕ) (b before : Bool) → (x == q) ≡ b → (before ≡ true → old q ≡ Some (style q)) → new x ≡ Some (style x)
+    → ((x == q) ≡ false → new q ≡ old q) → (before || (b || false)) ≡ true → new q ≡ Some (style q)
+known_by style old new x q true before e kept at apart there = subst (λ y. new y ≡ Some (style y)) (eqb-true x q e) at
+known_by style old new x q false before e kept at apart there = apart e ∙ kept (or_cases false before there refl)
+
+pub known_more : (style : ℕ → Style) (old new : ℕ → Option Style) (order : List ℕ) (k : ℕ) → k < length order → ((q : ℕ) → is_in q (take k order) ≡ true → old q ≡ Some (style q))
+    → new (get_or order k 0) ≡ Some (style (get_or order k 0)) → ((q : ℕ) → (get_or order k 0 == q) ≡ false → new q ≡ old q) → (q : ℕ) → is_in q (take (k + 1) order) ≡ true → new q ≡ Some (style q)
+known_more style old new order k below kept at apart q there =
+    known_by style old new (get_or order k 0) q (get_or order k 0 == q) (is_in q (take k order)) refl (kept q) at (apart q) (sym (in_more order k q below) ∙ there)

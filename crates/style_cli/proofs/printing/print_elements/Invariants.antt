@@ -1,0 +1,13 @@
+use Rattle.std.proofs.Common.{◌≤◌, take}
+use Rattle.std.specs.Prelude.{encode_utf8_all}
+use Rattle.std.specs.List.{flat_map}
+use Rattle.std.specs.Io.KnownBytes.{Appends}
+use Rattle.style_cli.specs.Text.{line_at}
+use Rattle.style_cli.proofs.printing.print_elements.Given as goal
+
+-- the lines so far are written
+abbrev pub invariant-loop-index : goal.invariant-loop-index
+invariant-loop-index g l = record {
+  later : g.K.Sink.faults l.initial.sink ≤ g.K.Sink.faults l.sink;
+  written : Appends (g.K.Sink.held l.initial.sink) (g.K.Sink.held l.sink) (flat_map (λ x. encode_utf8_all (line_at l.doc x)) (take l.index l.order));
+}

@@ -1,0 +1,106 @@
+-- What the program answers, and what it writes.
+use Rattle.std.specs.Prelude.{◌≡◌, ◌≢◌, ℕ, ◌+◌, ◌≤◌, nat_le, ◌⊎◌, List, [], length, take, Option, Some, None, IfSome, if◌then◌else◌}
+use Rattle.std.specs.Option.{option_map_or}
+use Rattle.std.specs.Io.KnownBytes.{Appends}
+use Rattle.job_json.specs.declared.Job.{Job}
+use Rattle.job_json.specs.JobOf.{Verdict, not_json, bad_shape, good, verdict_of}
+use Rattle.stylo_base.specs.declared.refusal.Kind.TheVariants.{Input}
+use Rattle.style_cli.specs.declared.status.Status.{Status}
+use Rattle.style_cli.specs.declared.status.Status.TheVariants.{Done, ReadFault, Usage, NotJson, NotAJob, Limit, WriteFault, NoMemory}
+use Rattle.style_cli.specs.Loops.{GrewByFront}
+use Rattle.style_cli.specs.Text.{text_of}
+
+-- how many bytes an input may have
+abbrev pub input_limit : ℕ
+input_limit = 67108864
+
+abbrev pub job_if_good : Verdict → Option Job
+job_if_good not_json = None
+job_if_good (bad_shape path) = None
+job_if_good (good job) = Some job
+
+-- the job that an input within the limit spells
+abbrev pub job_in : List ℕ → Option Job
+job_in bytes = if nat_le (length bytes) input_limit then job_if_good (verdict_of bytes) else None
+
+-- what is written for an input: the text of its job, if it is one
+abbrev pub due_text : List ℕ → List ℕ
+due_text bytes = option_map_or text_of (job_in bytes) []
+
+abbrev pub due_by : Verdict → Status
+due_by not_json = NotJson
+due_by (bad_shape path) = NotAJob path
+due_by (good job) = Done
+
+-- the status that an input calls for, where nothing fails
+abbrev pub due_status : List ℕ → Status
+due_status bytes = if nat_le (length bytes) input_limit then due_by (verdict_of bytes) else Limit Input input_limit
+
+-- an input, where its bytes are told, was read whole and within the limit, and came to this
+abbrev pub IsReadAs : Option (List ℕ) → Verdict → Type 0
+IsReadAs left verdict = IfSome left (λ bytes. (length bytes ≤ input_limit) × (verdict_of bytes ≡ verdict))
+
+-- it has more bytes than the limit
+abbrev pub IsTooLong : Option (List ℕ) → Type 0
+IsTooLong left = IfSome left (λ bytes. input_limit + 1 ≤ length bytes)
+
+-- it is a job
+abbrev pub IsJob : Option (List ℕ) → Type 0
+IsJob left = IfSome left (λ bytes. (job : Job) × (job_in bytes ≡ Some job))
+
+-- it was read to its end
+abbrev pub IsReadToEnd : Option (List ℕ) → Option (List ℕ) → Type 0
+IsReadToEnd old new = IfSome old (λ bytes. new ≡ Some [])
+
+-- an output grew by the whole text that is due for an input
+abbrev pub IsPrinted : Option (List ℕ) → Option (List ℕ) → Option (List ℕ) → Type 0
+IsPrinted left old new = IfSome left (λ bytes. Appends old new (due_text bytes))
+
+-- it grew by a front of that text
+abbrev pub IsPartlyPrinted : Option (List ℕ) → Option (List ℕ) → Option (List ℕ) → Type 0
+IsPartlyPrinted left old new = IfSome left (λ bytes. GrewByFront old new (due_text bytes))
+
+-- Beside what an input calls for there are three answers: want of memory, a fault of the source, and one of the sink, where there is a job.
+abbrev pub IsAnswerTo : List ℕ → Status → Type 0
+IsAnswerTo bytes status =
+    (status ≡ due_status bytes) ⊎ ((status ≡ NoMemory) ⊎ ((status ≡ ReadFault) ⊎ ((status ≡ WriteFault) × (due_status bytes ≡ Done))))
+
+-- the statuses that can come before the first line is written
+abbrev pub IsEarly : Status → Type 0
+IsEarly ReadFault = Unit {0}
+IsEarly Usage = Unit {0}
+IsEarly NotJson = Unit {0}
+IsEarly (NotAJob path) = Unit {0}
+IsEarly (Limit kind number) = Unit {0}
+IsEarly Done = ⊥
+IsEarly WriteFault = ⊥
+IsEarly NoMemory = ⊥
+
+-- the statuses with which no job was read
+abbrev pub IsUnread : Status → Type 0
+IsUnread ReadFault = Unit {0}
+IsUnread NotJson = Unit {0}
+IsUnread (NotAJob path) = Unit {0}
+IsUnread (Limit kind number) = Unit {0}
+IsUnread NoMemory = Unit {0}
+IsUnread Done = ⊥
+IsUnread Usage = ⊥
+IsUnread WriteFault = ⊥
+
+-- what each of them says of an input; nothing of it is the cause of a fault or of want of memory
+abbrev pub IsRefused : Status → List ℕ → Type 0
+IsRefused NotJson bytes = (length bytes ≤ input_limit) × (verdict_of bytes ≡ not_json)
+IsRefused (NotAJob path) bytes = (length bytes ≤ input_limit) × (verdict_of bytes ≡ bad_shape path)
+IsRefused (Limit kind number) bytes = (kind ≡ Input) × ((number ≡ input_limit) × (input_limit + 1 ≤ length bytes))
+IsRefused status bytes = Unit {0}
+
+-- the exit status of the process
+abbrev pub exit_number : Status → ℕ
+exit_number Done = 0
+exit_number ReadFault = 1
+exit_number Usage = 2
+exit_number NotJson = 3
+exit_number (NotAJob path) = 4
+exit_number (Limit kind number) = 5
+exit_number WriteFault = 6
+exit_number NoMemory = 7

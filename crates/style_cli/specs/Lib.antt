@@ -1,0 +1,5 @@
+pub mod Words
+pub mod Text
+pub mod Loops
+pub mod Answer
+pub mod Known

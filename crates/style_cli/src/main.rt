@@ -1,0 +1,41 @@
+//! `style run`: reads a job in JSON from standard input, and writes the computed style of every
+//! element to standard output.
+#![tactic(auto)]
+
+mod printing;
+mod reading;
+mod status;
+mod styles;
+#[cfg(test)]
+mod tests;
+mod top;
+mod words;
+mod writing;
+
+use io_edges::{StdSink, StdSource};
+pub use status::Status;
+use std::env;
+use std::process::ExitCode;
+pub use top::run;
+
+/// Makes the real ends and runs over them. Says on standard error what went wrong.
+fn main(rt: HostRuntime) -> ExitCode {
+    let status = match arguments(&rt) {
+        Ok(words) => {
+            let mut source = StdSource::new(rt.stdin());
+            let mut sink = StdSink::new(rt.stdout());
+            run(&rt, rt.alloc(), words, &mut source, &mut sink)
+        }
+        Err(status) => status,
+    };
+    let _ = status.report(&rt);
+    ExitCode::from(status.number())
+}
+
+/// The words of the command line. Words that are not UTF-8 are none.
+fn arguments(rt: &HostRuntime) -> Result<Vec<String>, Status> {
+    let Ok(args) = env::args(rt) else {
+        return Err(Status::Usage);
+    };
+    args.collect(rt.alloc()).map_err(|_| Status::NoMemory)
+}

@@ -1,0 +1,69 @@
+//! The text of a job, written a line at a time.
+
+ghost use Rattle.std.specs.Prelude.{◌≡◌, ◌≤◌, List, IsErrOf, OnErr, OnOk, encode_utf8_all, length, map};
+ghost use Rattle.std.specs.List.{flat_map};
+ghost use Rattle.std.specs.Io.KnownBytes.{Appends};
+ghost use Rattle.std.specs.Arc.{arc_value};
+ghost use Rattle.io_edges.specs.Cause.{HasCause};
+ghost use Rattle.scene_model.specs.Lookups.{numbers};
+ghost use Rattle.cascade_model.specs.StyleOf.{style_of};
+ghost use Rattle.style_cli.specs.Loops.{GrewByFront};
+ghost use Rattle.style_cli.specs.Text.{line_at, text_of};
+
+use crate::styles::style_all;
+use crate::writing::write_all;
+use dom_tree::Doc;
+use io_edges::{Sink, SinkRefused};
+use job_json::Job;
+use report_text::{batch_line, element_line};
+use std::alloc::Global;
+use std::sync::Arc;
+use style_value::Style;
+use stylo_base::Text;
+
+/// Writes the text of a job, each line as soon as it is made.
+pub fn print_job<K: Sink>(alloc: Global, job: &Job, sink: &mut K) -> Result<(), SinkRefused>
+    requires { length job.now.nodes ≤ 65536 }
+    ensures ok { OnOk result (Appends (K.held sink.old) (K.held sink.new) (text_of job.now)) }
+    ensures err { OnErr result (GrewByFront (K.held sink.old) (K.held sink.new) (text_of job.now)) }
+    ensures cause { HasCause (K.faults sink.old) (K.faults sink.new) (IsErrOf result SinkRefused.Failed) }
+{
+    let doc = Doc::start(alloc, &job.nodes)?;
+    let order = doc.tree_order(alloc)?;
+    let styles = style_all(alloc, &doc)?;
+    let count = order.len() as u64;
+    write_line(sink, &batch_line(alloc, 0, 0, 0, count, count)?)?;
+    print_elements(alloc, &doc, &order, &styles, sink)
+}
+
+/// Writes the line of each element, in tree order.
+fn print_elements<K: Sink>(
+    alloc: Global,
+    doc: &Doc,
+    order: &[u32],
+    styles: &[Arc<Style>],
+    sink: &mut K,
+) -> Result<(), SinkRefused>
+    requires order { order.now ≡ numbers doc.now }
+    requires styles { map arc_value styles.now ≡ map (style_of doc.now) order.now }
+    ensures ok { OnOk result (Appends (K.held sink.old) (K.held sink.new) (flat_map (λ x. encode_utf8_all (line_at doc.now x)) order.now)) }
+    ensures err { OnErr result (GrewByFront (K.held sink.old) (K.held sink.new) (flat_map (λ x. encode_utf8_all (line_at doc.now x)) order.now)) }
+    ensures cause { HasCause (K.faults sink.old) (K.faults sink.new) (IsErrOf result SinkRefused.Failed) }
+{
+    for index in 0..order.len() {
+        let number = order[index];
+        let style: &Style = &styles[index];
+        let line = element_line(alloc, number, doc.tag(number), style)?;
+        write_line(sink, &line)?;
+    }
+    Ok(())
+}
+
+/// Writes a line.
+fn write_line<K: Sink>(sink: &mut K, line: &Text) -> Result<(), SinkRefused>
+    ensures ok { OnOk result (Appends (K.held sink.old) (K.held sink.new) (encode_utf8_all line.now)) }
+    ensures err { OnErr result (GrewByFront (K.held sink.old) (K.held sink.new) (encode_utf8_all line.now)) }
+    ensures cause { HasCause (K.faults sink.old) (K.faults sink.new) (IsErrOf result SinkRefused.Failed) }
+{
+    write_all(sink, line.as_str().as_bytes())
+}

@@ -1,0 +1,72 @@
+//! Reads a source to its end, or to one byte past the limit of the input.
+
+ghost use Rattle.std.specs.Prelude.{◌+◌, ◌≤◌, length, IfOk, IsErrOf};
+ghost use Rattle.io_edges.specs.Cause.{HasCause};
+ghost use Rattle.style_cli.specs.Loops.{IsReadWhole, LosesFront, LosesAtMost};
+
+use io_edges::{Failed, Source};
+use std::alloc::{AllocError, Global};
+
+/// The most bytes of an input.
+pub const INPUT_LIMIT: usize = 67_108_864;
+
+/// The most bytes of one read.
+const PIECE: usize = 4096;
+
+/// Why there is no input.
+#[derive(Clone, Copy, Debug, PartialEq, Eq)]
+pub enum Stop {
+    /// The source failed.
+    Fault,
+    /// The input is longer than the limit.
+    TooLong,
+    /// There was no memory.
+    NoMemory,
+}
+
+impl From<Failed> for Stop {
+    ghost use Rattle.std.specs.Prelude.{◌≡◌};
+    ghost use Rattle.style_cli.specs.declared.reading.Stop.TheVariants.{Fault};
+
+    ghost from_gives = { λ _ e. e ≡ Fault };
+
+    fn from(_error: Failed) -> Stop {
+        Stop::Fault
+    }
+}
+
+impl From<AllocError> for Stop {
+    ghost use Rattle.std.specs.Prelude.{◌≡◌};
+    ghost use Rattle.style_cli.specs.declared.reading.Stop.TheVariants.{NoMemory};
+
+    ghost from_gives = { λ _ e. e ≡ NoMemory };
+
+    fn from(_error: AllocError) -> Stop {
+        Stop::NoMemory
+    }
+}
+
+/// All the bytes that the source has left, at most `INPUT_LIMIT`. It never reads more than one byte
+/// past the limit.
+pub fn read_all<S: Source>(alloc: Global, source: &mut S) -> Result<Vec<u8>, Stop>
+    ensures whole { IfOk result (λ bytes. IsReadWhole (S.left source.old) (S.left source.new) bytes.items) }
+    ensures fits { IfOk result (λ bytes. length bytes.items ≤ INPUT_LIMIT) }
+    ensures too_long { IsErrOf result Stop.TooLong → LosesFront (INPUT_LIMIT + 1) (S.left source.old) (S.left source.new) }
+    ensures most { LosesAtMost (INPUT_LIMIT + 1) (S.left source.old) (S.left source.new) }
+    ensures cause { HasCause (S.faults source.old) (S.faults source.new) (IsErrOf result Stop.Fault) }
+{
+    let mut found = Vec::new(alloc);
+    let mut buffer = [0u8; PIECE];
+    'reading: loop {
+        let room = PIECE.min(INPUT_LIMIT + 1 - found.len());
+        let piece = &mut buffer[..room];
+        let count = source.read(piece)?;
+        if count == 0 {
+            return Ok(found);
+        }
+        if count > INPUT_LIMIT - found.len() {
+            return Err(Stop::TooLong);
+        }
+        found.extend_from_slice(&piece[..count])?;
+    }
+}

@@ -1,0 +1,151 @@
+//! `run` over ends in memory.
+
+use crate::{Status, run};
+use io_edges::{MemorySink, MemorySource};
+use std::alloc::{AllocError, Global};
+use std::test::Fail;
+
+const LINE: [&str; 2] = ["style", "run"];
+
+/// What a run answers and what its sink holds.
+#[derive(Drop)]
+struct Outcome {
+    status: u8,
+    held: Vec<u8>,
+}
+
+/// Runs over an input, with the numbers of the reads and of the writes that fail.
+fn outcome(
+    rt: &HostRuntime,
+    words: &[&str],
+    input: &[u8],
+    read_fails: &[u64],
+    write_fails: &[u64],
+) -> Result<Outcome, Fail> {
+    let alloc = rt.alloc();
+    let mut owned = Vec::new(alloc);
+    for word in words {
+        owned.push(String::from_str(alloc, word)?)?;
+    }
+    let mut source = MemorySource::whole(alloc, input, read_fails)?;
+    let mut sink = MemorySink::whole(alloc, write_fails)?;
+    let status = run(rt, alloc, owned, &mut source, &mut sink);
+    let held = Vec::from_slice(alloc, sink.held())?;
+    Ok(Outcome {
+        status: status.number(),
+        held,
+    })
+}
+
+/// A chain of so many nodes, each the child of the one before it.
+fn chain(alloc: Global, count: u32) -> Result<String, AllocError> {
+    let mut job = String::from_str(alloc, "{\"version\":1,\"nodes\":[{\"tag\":\"a\"}")?;
+    for parent in 0..count.saturating_sub(1) {
+        let node = format!(in alloc; ",{{\"tag\":\"a\",\"parent\":{parent}}}")?;
+        job.push_str(node.as_str())?;
+    }
+    job.push_str("]}")?;
+    Ok(job)
+}
+
+const ONE: &[u8] = b"{\"version\":1,\"nodes\":[{\"tag\":\"a\"}]}";
+
+const TWO: &[u8] = b"{\"version\":1,\"nodes\":[{\"tag\":\"html\"},{\"tag\":\"p\",\"parent\":0}]}";
+
+const TWO_LINES: [&str; 3] = [
+    "batch 0: 0 accepted, 0 refused, 2 matched, 2 cascaded\n",
+    "1 html{display: block}\n",
+    "2 p{}\n",
+];
+
+#[test]
+fn jobs(rt: HostRuntime) -> Result<(), Fail> {
+    let one = outcome(&rt, &LINE, ONE, &[], &[])?;
+    assert_eq!(rt; one.status, 0);
+    assert_eq!(rt;
+        one.held.as_slice(),
+        b"batch 0: 0 accepted, 0 refused, 1 matched, 1 cascaded\n1 a{display: block}\n".as_slice()
+    );
+
+    let four =
+        b"{\"nodes\":[{\"tag\":\"html\"},{\"tag\":\"p\",\"parent\":0},{\"tag\":\"q\",\"parent\":0},{\"tag\":\"i\",\"parent\":1}],\"version\":1}";
+    let four = outcome(&rt, &LINE, four, &[], &[])?;
+    assert_eq!(rt; four.status, 0);
+    assert_eq!(rt;
+        four.held.as_slice(),
+        b"batch 0: 0 accepted, 0 refused, 4 matched, 4 cascaded\n1 html{display: block}\n2 p{}\n4 i{}\n3 q{}\n".as_slice()
+    );
+
+    let deepest = chain(rt.alloc(), 256)?;
+    assert_eq!(rt;
+        outcome(&rt, &LINE, deepest.as_bytes(), &[], &[])?.status,
+        0
+    );
+    let too_deep = chain(rt.alloc(), 257)?;
+    let refused = outcome(&rt, &LINE, too_deep.as_bytes(), &[], &[])?;
+    assert_eq!(rt; refused.status, 4);
+    assert!(rt; refused.held.is_empty());
+    Ok(())
+}
+
+#[test]
+fn refusals(rt: HostRuntime) -> Result<(), Fail> {
+    let inputs: [(&[u8], u8); 7] = [
+        (b"{", 3),
+        (b"", 3),
+        (b"{\"version\":1,\"nodes\":[]}", 4),
+        (
+            b"{\"version\":1,\"nodes\":[{\"tag\":\"a\"},{\"tag\":\"b\"}]}",
+            4,
+        ),
+        (b"{\"version\":2,\"nodes\":[{\"tag\":\"a\"}]}", 4),
+        (b"\"\xff\"", 3),
+        (b"\"\\ud800\"", 3),
+    ];
+    for (input, status) in inputs {
+        let refused = outcome(&rt, &LINE, input, &[], &[1])?;
+        assert_eq!(rt; refused.status, status);
+        assert!(rt; refused.held.is_empty());
+    }
+    let words: [&[&str]; 4] = [
+        &["style"],
+        &["style", "walk"],
+        &["style", "run", "run"],
+        &["style", "--help"],
+    ];
+    for line in words {
+        assert_eq!(rt; outcome(&rt, line, ONE, &[1], &[])?.status, 2);
+    }
+    let long = vec![in rt.alloc(); b' '; 67_108_865]?;
+    let refused = outcome(&rt, &LINE, &long, &[], &[])?;
+    assert_eq!(rt; refused.status, 5);
+    assert!(rt; refused.held.is_empty());
+    Ok(())
+}
+
+#[test]
+fn faults(rt: HostRuntime) -> Result<(), Fail> {
+    assert_eq!(rt; outcome(&rt, &LINE, ONE, &[1], &[])?.status, 1);
+    let long = chain(rt.alloc(), 250)?;
+    let cut = outcome(&rt, &LINE, long.as_bytes(), &[2], &[])?;
+    assert_eq!(rt; cut.status, 1);
+    assert!(rt; cut.held.is_empty());
+
+    let mut wanted = String::new(rt.alloc());
+    for (failing, line) in (1..).zip(TWO_LINES) {
+        let failed = outcome(&rt, &LINE, TWO, &[], &[failing])?;
+        assert_eq!(rt; failed.status, 6);
+        assert_eq!(rt; failed.held.as_slice(), wanted.as_bytes());
+        wanted.push_str(line)?;
+    }
+    let done = outcome(&rt, &LINE, TWO, &[], &[4])?;
+    assert_eq!(rt; done.status, 0);
+    assert_eq!(rt; done.held.as_slice(), wanted.as_bytes());
+    Ok(())
+}
+
+#[test]
+fn numbers(rt: HostRuntime) {
+    assert_eq!(rt; Status::NoMemory.number(), 7);
+    assert_eq!(rt; Status::Limit(stylo_base::Kind::Input, 1).number(), 5);
+}

@@ -1,0 +1,105 @@
+//! All that the program does, over any ends.
+
+ghost use Rattle.std.specs.Prelude.{◌≡◌, ◌≢◌, ◌≤◌, ◌⊎◌, ◌↔◌, ℕ, List, None, Some, Err, IfErr, IfOk, IfSome, OnOk, length, map, string_bytes};
+ghost use Rattle.io_edges.specs.Cause.{HasCause, Rose};
+ghost use Rattle.stylo_base.specs.declared.refusal.Kind.{Kind};
+ghost use Rattle.job_json.specs.JobOf.{not_json, bad_shape};
+ghost use Rattle.style_cli.specs.Words.{line_of};
+ghost use Rattle.style_cli.specs.Answer.{IsReadAs, IsTooLong, IsJob, IsPrinted, IsPartlyPrinted, IsReadToEnd, IsAnswerTo, IsEarly, IsUnread, IsRefused, input_limit, job_in};
+
+use crate::printing::print_job;
+use crate::reading::{INPUT_LIMIT, Stop, read_all};
+use crate::status::Status;
+use crate::words::read_line;
+use io_edges::{Sink, SinkRefused, Source};
+use job_json::{Job, JobFault};
+use std::alloc::Global;
+use std::thread::Threads;
+use stylo_base::Kind;
+
+/// Reads the job that `source` has left, and writes each element's style to `sink`.
+///
+/// The words are tested first, of which the first is the program's name. Then the source is read to
+/// its end, or to one byte past 67,108,864, and then each line is written as soon as it is made, in
+/// one write where the sink takes whole pieces. It never waits.
+pub fn run<R: Threads + Sync, S: Source, K: Sink>(
+    rt: &R,
+    alloc: Global,
+    words: Vec<String>,
+    source: &mut S,
+    sink: &mut K,
+) -> Status
+    // The words are the only cause of Usage, which reads nothing.
+    ensures usage { (result ≡ Status.Usage) ↔ (line_of (map string_bytes words.items) ≡ None) }
+    ensures unread { result ≡ Status.Usage → S.left source.new ≡ S.left source.old }
+
+    // A fault of reading or writing is told only where the counts of faults rose in this call.
+    ensures read_fault { result ≡ Status.ReadFault → Rose (S.faults source.old) (S.faults source.new) }
+    ensures write_fault { result ≡ Status.WriteFault → Rose (K.faults sink.old) (K.faults sink.new) }
+
+    // The other refusals are told by the input alone.
+    ensures not_json { result ≡ Status.NotJson → IsReadAs (S.left source.old) not_json }
+    ensures not_a_job { (path : List ℕ) → result ≡ Status.NotAJob path
+        → IsReadAs (S.left source.old) (bad_shape path) }
+    ensures limit { (kind : Kind) (number : ℕ) → result ≡ Status.Limit kind number
+        → (kind ≡ Kind.Input) × ((number ≡ input_limit) × IsTooLong (S.left source.old)) }
+    ensures job { result ≡ Status.WriteFault → IsJob (S.left source.old) }
+
+    // And an input gets the status that it calls for, whatever the sink does.
+    ensures due { (bytes : List ℕ) → S.left source.old ≡ Some bytes
+        → line_of (map string_bytes words.items) ≢ None → IsAnswerTo bytes result }
+
+    // With Done the sink holds what it held before and then exactly the job's text, and the input
+    // was read to its end.
+    ensures done { result ≡ Status.Done → IsJob (S.left source.old)
+        × (IsPrinted (S.left source.old) (K.held sink.old) (K.held sink.new) × IsReadToEnd (S.left source.old) (S.left source.new)) }
+    ensures front { (result ≡ Status.WriteFault) ⊎ (result ≡ Status.NoMemory)
+        → IsPartlyPrinted (S.left source.old) (K.held sink.old) (K.held sink.new) }
+    ensures kept { IsEarly result → K.held sink.new ≡ K.held sink.old }
+
+    // A command line and a job, with no fault of either end, are answered by Done, if there is memory.
+    ensures complete { (bytes : List ℕ) → S.left source.old ≡ Some bytes → IsJob (S.left source.old)
+        → line_of (map string_bytes words.items) ≢ None
+        → ¬ Rose (S.faults source.old) (S.faults source.new) → ¬ Rose (K.faults sink.old) (K.faults sink.new)
+        → (result ≡ Status.Done) ⊎ (result ≡ Status.NoMemory) }
+{
+    let _ = rt;
+    if read_line(&words).is_none() {
+        return Status::Usage;
+    }
+    let job = match read_job(alloc, source) {
+        Ok(job) => job,
+        Err(status) => return status,
+    };
+    match print_job(alloc, &job, sink) {
+        Ok(()) => Status::Done,
+        Err(SinkRefused::Failed) => Status::WriteFault,
+        Err(SinkRefused::NoMemory) => Status::NoMemory,
+    }
+}
+
+/// The job that the source has left, or why there is none.
+fn read_job<S: Source>(alloc: Global, source: &mut S) -> Result<Job, Status>
+    ensures job { IfOk result (λ job. IfSome (S.left source.old) (λ bytes. job_in bytes ≡ Some job)) }
+    ensures end { OnOk result (IsReadToEnd (S.left source.old) (S.left source.new)) }
+    ensures fits { IfOk result (λ job. length job.nodes ≤ 65536) }
+    ensures unread { IfErr result IsUnread }
+    ensures refused { IfErr result (λ status. IfSome (S.left source.old) (IsRefused status)) }
+    ensures limit { (kind : Kind) (number : ℕ) → result ≡ Err (Status.Limit kind number)
+        → (kind ≡ Kind.Input) × (number ≡ input_limit) }
+    ensures cause { HasCause (S.faults source.old) (S.faults source.new) (result ≡ Err Status.ReadFault) }
+{
+    let bytes = match read_all(alloc, source) {
+        Ok(bytes) => bytes,
+        Err(Stop::Fault) => return Err(Status::ReadFault),
+        Err(Stop::TooLong) => return Err(Status::Limit(Kind::Input, INPUT_LIMIT as u64)),
+        Err(Stop::NoMemory) => return Err(Status::NoMemory),
+    };
+    match job_json::read(alloc, &bytes) {
+        Ok(job) => Ok(job),
+        Err(JobFault::NotJson) => Err(Status::NotJson),
+        Err(JobFault::Shape(path)) => Err(Status::NotAJob(path)),
+        Err(JobFault::Limit(kind, number)) => Err(Status::Limit(kind, number)),
+        Err(JobFault::NoMemory) => Err(Status::NoMemory),
+    }
+}
