@@ -4,6 +4,7 @@ use crate::{Status, run};
 use io_edges::{MemorySink, MemorySource};
 use std::alloc::{AllocError, Global};
 use std::test::Fail;
+use std::thread::Threads;
 
 const LINE: [&str; 2] = ["style", "run"];
 
@@ -15,8 +16,8 @@ struct Outcome {
 }
 
 /// Runs over an input, with the numbers of the reads and of the writes that fail.
-fn outcome(
-    rt: &HostRuntime,
+fn run_over<R: Threads + Sync + AllocGlobal>(
+    rt: &R,
     words: &[&str],
     input: &[u8],
     read_fails: &[u64],
@@ -60,7 +61,7 @@ const TWO_LINES: [&str; 3] = [
 
 #[test]
 fn jobs(rt: HostRuntime) -> Result<(), Fail> {
-    let one = outcome(&rt, &LINE, ONE, &[], &[])?;
+    let one = run_over(&rt, &LINE, ONE, &[], &[])?;
     assert_eq!(rt; one.status, 0);
     assert_eq!(rt;
         one.held.as_slice(),
@@ -69,7 +70,7 @@ fn jobs(rt: HostRuntime) -> Result<(), Fail> {
 
     let four =
         b"{\"nodes\":[{\"tag\":\"html\"},{\"tag\":\"p\",\"parent\":0},{\"tag\":\"q\",\"parent\":0},{\"tag\":\"i\",\"parent\":1}],\"version\":1}";
-    let four = outcome(&rt, &LINE, four, &[], &[])?;
+    let four = run_over(&rt, &LINE, four, &[], &[])?;
     assert_eq!(rt; four.status, 0);
     assert_eq!(rt;
         four.held.as_slice(),
@@ -78,11 +79,11 @@ fn jobs(rt: HostRuntime) -> Result<(), Fail> {
 
     let deepest = chain(rt.alloc(), 256)?;
     assert_eq!(rt;
-        outcome(&rt, &LINE, deepest.as_bytes(), &[], &[])?.status,
+        run_over(&rt, &LINE, deepest.as_bytes(), &[], &[])?.status,
         0
     );
     let too_deep = chain(rt.alloc(), 257)?;
-    let refused = outcome(&rt, &LINE, too_deep.as_bytes(), &[], &[])?;
+    let refused = run_over(&rt, &LINE, too_deep.as_bytes(), &[], &[])?;
     assert_eq!(rt; refused.status, 4);
     assert!(rt; refused.held.is_empty());
     Ok(())
@@ -103,7 +104,7 @@ fn refusals(rt: HostRuntime) -> Result<(), Fail> {
         (b"\"\\ud800\"", 3),
     ];
     for (input, status) in inputs {
-        let refused = outcome(&rt, &LINE, input, &[], &[1])?;
+        let refused = run_over(&rt, &LINE, input, &[], &[1])?;
         assert_eq!(rt; refused.status, status);
         assert!(rt; refused.held.is_empty());
     }
@@ -114,10 +115,10 @@ fn refusals(rt: HostRuntime) -> Result<(), Fail> {
         &["style", "--help"],
     ];
     for line in words {
-        assert_eq!(rt; outcome(&rt, line, ONE, &[1], &[])?.status, 2);
+        assert_eq!(rt; run_over(&rt, line, ONE, &[1], &[])?.status, 2);
     }
     let long = vec![in rt.alloc(); b' '; 67_108_865]?;
-    let refused = outcome(&rt, &LINE, &long, &[], &[])?;
+    let refused = run_over(&rt, &LINE, &long, &[], &[])?;
     assert_eq!(rt; refused.status, 5);
     assert!(rt; refused.held.is_empty());
     Ok(())
@@ -125,20 +126,20 @@ fn refusals(rt: HostRuntime) -> Result<(), Fail> {
 
 #[test]
 fn faults(rt: HostRuntime) -> Result<(), Fail> {
-    assert_eq!(rt; outcome(&rt, &LINE, ONE, &[1], &[])?.status, 1);
+    assert_eq!(rt; run_over(&rt, &LINE, ONE, &[1], &[])?.status, 1);
     let long = chain(rt.alloc(), 250)?;
-    let cut = outcome(&rt, &LINE, long.as_bytes(), &[2], &[])?;
+    let cut = run_over(&rt, &LINE, long.as_bytes(), &[2], &[])?;
     assert_eq!(rt; cut.status, 1);
     assert!(rt; cut.held.is_empty());
 
     let mut wanted = String::new(rt.alloc());
     for (failing, line) in (1..).zip(TWO_LINES) {
-        let failed = outcome(&rt, &LINE, TWO, &[], &[failing])?;
+        let failed = run_over(&rt, &LINE, TWO, &[], &[failing])?;
         assert_eq!(rt; failed.status, 6);
         assert_eq!(rt; failed.held.as_slice(), wanted.as_bytes());
         wanted.push_str(line)?;
     }
-    let done = outcome(&rt, &LINE, TWO, &[], &[4])?;
+    let done = run_over(&rt, &LINE, TWO, &[], &[4])?;
     assert_eq!(rt; done.status, 0);
     assert_eq!(rt; done.held.as_slice(), wanted.as_bytes());
     Ok(())
