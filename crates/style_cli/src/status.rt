@@ -45,7 +45,7 @@ impl Status {
     }
 
     /// Says on standard error what went wrong, in one line. Nothing at `Done`.
-    pub fn report(&self, rt: &impl Eprint) -> io::Result<()> {
+    pub(crate) fn report(&self, rt: &impl Eprint) -> io::Result<()> {
         match self {
             Status::Done => Ok(()),
             Status::ReadFault => eprintln!(rt; "style: cannot read the input"),
