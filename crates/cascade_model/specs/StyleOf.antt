@@ -1,5 +1,5 @@
 -- The style of each element: from the root down, each over the style of its parent.
-use Rattle.std.specs.Prelude.{ℕ, List, [], ◌∷◌, Bool, is_none}
+use Rattle.std.specs.Prelude.{ℕ, List, [], ◌∷◌, Bool, Option, Some, None, is_none}
 use Rattle.scene_model.specs.Element.{Element}
 use Rattle.scene_model.specs.Lookups.{parent_of}
 use Rattle.scene_model.specs.Ancestors.{ancestors}
@@ -16,3 +16,8 @@ style_along doc (x ∷ above) = computed (is_none (parent_of doc x)) (style_alon
 
 unfoldable pub style_of : List Element → ℕ → Style
 style_of doc x = style_along doc (x ∷ ancestors doc x)
+
+-- what an element's style is over: its parent's, and all initial values at the root
+abbrev pub parent_style : List Element → Option ℕ → Style
+parent_style doc None = initial_style
+parent_style doc (Some p) = style_of doc p

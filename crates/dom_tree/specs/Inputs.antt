@@ -3,8 +3,11 @@ use Rattle.std.specs.Prelude.{ℕ, List, Option, map}
 use Rattle.std.specs.FinMap as finmap
 use Rattle.scene_model.specs.Element as model
 use Rattle.scene_model.specs.Nodes.{Node}
+use Rattle.stylo_base.specs.declared.state.State.{State}
+use Rattle.stylo_base.specs.declared.state.State.TheVariants.{Hover, Active, Focus}
 use Rattle.dom_tree.specs.declared.nodes.States.{States}
 use Rattle.dom_tree.specs.declared.nodes.Attr.{Attr}
+use Rattle.dom_tree.specs.declared.nodes.NodeInput.{NodeInput}
 
 abbrev pub states_of : States → model.States
 states_of s = record { hover = s.hover; active = s.active; focus = s.focus }
@@ -18,3 +21,14 @@ attributes_of list = finmap.from_entries (map pair_of list)
 
 abbrev pub node_of : Option ℕ → model.Characters → model.Attributes → States → Node
 node_of parent tag attrs states = record { parent = parent; tag = tag; attrs = attrs; states = states_of states }
+
+-- a state by its word in the model
+abbrev pub state_seen : State → model.State
+state_seen Hover = model.hover_state
+state_seen Active = model.active_state
+state_seen Focus = model.focus_state
+
+-- the element that a node becomes, with the number of its parent
+abbrev pub input_element : ℕ → Option ℕ → NodeInput → model.Element
+input_element number parent input =
+    record { number = number; parent = parent; tag = input.tag; attrs = input.attrs; states = states_of input.states }

@@ -1,3 +1,4 @@
 pub mod Inputs
 pub mod Rows
+pub mod Kept
 pub mod Depths

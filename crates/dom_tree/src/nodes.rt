@@ -58,6 +58,13 @@ impl Attrs {
     {
         Attrs { list }
     }
+
+    /// The attributes, in their order.
+    pub(crate) fn as_slice(&self) -> &[Attr]
+        ensures { attributes_of result.now ≡ self.now }
+    {
+        self.list.as_slice()
+    }
 }
 
 /// A node without its parent.
@@ -70,9 +77,9 @@ pub struct NodeInput {
 
 /// A node with the index of its parent.
 #[derive(Debug, Drop)]
-struct Row {
-    parent: Option<u32>,
-    input: NodeInput,
+pub(crate) struct Row {
+    pub parent: Option<u32>,
+    pub input: NodeInput,
 }
 
 /// A list of nodes that is not empty: the first is the root, and each other one stands behind its
@@ -98,6 +105,9 @@ impl Model for NodeList {
 }
 
 impl NodeList {
+    ghost use Rattle.std.specs.Prelude.{map as mapped};
+    ghost use Rattle.dom_tree.specs.Rows.{row_node};
+
     /// The list of a root alone.
     pub fn of_root(alloc: Global, root: NodeInput) -> Result<NodeList, NoMemory>
         ensures { IfOk result (λ list. list ≡ node_of None root.tag root.attrs root.states ∷ []) }
@@ -137,5 +147,13 @@ impl NodeList {
         ensures { IfSome (slice_get self.now index) (λ node. result ≡ node.parent) }
     {
         self.rows[index].parent
+    }
+
+    /// The nodes with their parents.
+    pub(crate) fn rows(&self) -> &[Row]
+        ensures rows { mapped row_node result.now ≡ self.now }
+        ensures shape { IsNodeList self.now }
+    {
+        self.rows.as_slice()
     }
 }

@@ -1,5 +1,5 @@
 -- The depth of each node of a list in the document that it stands for.
-use Rattle.std.proofs.Common.{◌≡◌, ℕ, ◌+◌, List, Option, Some, None, option_map, slice_get, ap, ◌∙◌}
+use Rattle.std.proofs.Common.{◌≡◌, ℕ, ◌+◌, List, Some, None, option_map, slice_get, ap, ◌∙◌}
 use Rattle.scene_model.specs.Lookups.{parent_of}
 use Rattle.scene_model.specs.Ancestors.{depth_of}
 use Rattle.scene_model.specs.Nodes.{Node, IsNodeList, scene_of}

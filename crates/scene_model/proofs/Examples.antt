@@ -1,8 +1,8 @@
 -- The definitions computed on small documents.
-use Rattle.std.proofs.Common.{◌≡◌, ℕ, List, [], ◌∷◌, Option, Some, None, refl, true, false}
+use Rattle.std.proofs.Common.{◌≡◌, ℕ, List, [], ◌∷◌, Option, Some, None, refl, false}
 use Rattle.std.specs.Prelude.{codes}
 use Rattle.std.specs.FinMap as map
-use Rattle.scene_model.specs.Element.{Element, States}
+use Rattle.scene_model.specs.Element.{States}
 use Rattle.scene_model.specs.Words.{words}
 use Rattle.scene_model.specs.Lookups.{numbers, children, place_of, siblings}
 use Rattle.scene_model.specs.Ancestors.{ancestors}

@@ -1,8 +1,7 @@
 -- Laws of the look-ups in any list of elements.
-use Rattle.std.proofs.Common.{◌≡◌, ℕ, ◌+◌, ◌<◌, ◌≤◌, ◌==◌, nat_eq, List, [], ◌∷◌, ◌++◌, map, filter, find, filter_map, length, Bool, true, false, cond, not, ◌||◌, is_some, Option, Some, None, option_and_then, refl, sym, ap, subst, ◌∙◌, arith}
+use Rattle.std.proofs.Common.{◌≡◌, ℕ, ◌+◌, ◌==◌, nat_eq, List, [], ◌∷◌, ◌++◌, map, filter, find, filter_map, Bool, true, false, cond, not, ◌||◌, is_some, Option, Some, None, option_and_then, refl, sym, ap, subst, ◌∙◌}
 use Rattle.std.specs.List.{AllByRecursion, list_any, prefix_len, position_or_len, cons_option, IsDistinct}
 use Rattle.std.specs.Option.{option_map_or}
-use Rattle.std.proofs.lemmas.Bool.Decides.{nat_tests}
 use Rattle.std.proofs.lemmas.Bool.{eqb-true, cond-true, cond-false}
 use Rattle.std.proofs.lemmas.List.{map-append}
 use Rattle.std.proofs.lemmas.List.Elements.{filter-append}
@@ -10,7 +9,7 @@ use Rattle.scene_model.specs.Element.{Element}
 use Rattle.scene_model.specs.Lookups.{has_number, numbers, element_at, is_element, IsElement, parent_of, is_child_of, children}
 use Rattle.scene_model.specs.Ancestors.{position_of}
 use Rattle.scene_model.proofs.Lists.{filter-map, filter_same, filter_comm, each_passes}
-use Rattle.scene_model.proofs.Numbers.{is_in, copies, copies_distinct, copies_none, same_number}
+use Rattle.scene_model.proofs.Numbers.{is_in, copies, copies_distinct, same_number}
 
 -- tests over a mapped list
 

@@ -8,3 +8,4 @@ pub mod Subtrees
 pub mod Before
 pub mod TreeOrder
 pub mod Depths
+pub mod ParentBefore

@@ -1,17 +1,16 @@
 -- Laws of a list of nodes as elements: each has the number of its place, from 1, and each parent is before its child.
-use Rattle.std.proofs.Common.{◌≡◌, ◌≢◌, ℕ, zero, suc, ◌+◌, ◌-◌, ◌<◌, ◌≤◌, ◌==◌, nat_eq, List, [], ◌∷◌, ◌++◌, map, filter, find, length, take, drop, Bool, true, false, cond, Option, Some, None, All, option_map, option_and_then, slice_get, refl, sym, ap, subst, subst₂, ◌∙◌, arith, add-zero}
+use Rattle.std.proofs.Common.{◌≡◌, ◌≢◌, ℕ, zero, suc, ◌+◌, ◌-◌, ◌<◌, ◌≤◌, ◌==◌, nat_eq, List, [], ◌∷◌, ◌++◌, filter, length, take, drop, Decides, false, Option, Some, None, All, option_map, option_and_then, slice_get, refl, sym, ap, subst, subst₂, ◌∙◌, arith}
 use Rattle.std.specs.List.{AllByRecursion, IsDistinct, range_with_len}
 use Rattle.std.specs.List.Sorted.{IsStrictlyIncreasing}
-use Rattle.std.proofs.lemmas.Bool.Decides.{nat_tests}
 use Rattle.std.specs.Option.{option_map_or}
 use Rattle.std.proofs.lemmas.Bool.{cond-true, cond-false, eq-eqb, false_from_ne_true}
-use Rattle.std.proofs.lemmas.List.{append-nil, length-take-le}
+use Rattle.std.proofs.lemmas.List.{append-nil, length-take-le, length_push}
 use Rattle.std.proofs.lemmas.List.Elements.{All-from_recursion}
 use Rattle.std.proofs.lemmas.List.FromFn.{length-range_with_len, get_or-range_with_len}
 use Rattle.std.proofs.lemmas.List.Kept.{IsStrictlyIncreasing-filter}
 use Rattle.std.proofs.lemmas.Option.{same_Some, slice_get_within}
 use Rattle.scene_model.specs.Element.{Element}
-use Rattle.scene_model.specs.Lookups.{has_number, numbers, element_at, is_element, IsElement, parent_of, is_child_of, children, beside, siblings, left_of, place_of}
+use Rattle.scene_model.specs.Lookups.{numbers, element_at, is_element, IsElement, parent_of, is_child_of, children, beside, siblings, left_of, place_of}
 use Rattle.scene_model.specs.Nodes.{Node, IsParentAt, HaveParentsFrom, IsNodeList, listed_from, listed}
 use Rattle.scene_model.proofs.Lists.{each_weaker, each-filter, split_at}
 use Rattle.scene_model.proofs.Numbers.{is_in, each-range, distinct-range, is_in-range, each_is_in, differs, left_of_split}
@@ -228,9 +227,9 @@ children_split : (nodes : List Node) (k : ℕ) (node : Node) (p : ℕ) → slice
 children_split nodes k node p h e =
     let short : length (take k nodes) ≡ k = length-take-le k nodes (omega (arith, slice_get_within nodes k node h)) in
     let apart : listed nodes ≡ listed (take k nodes) ++ listed_from k (node ∷ drop (suc k) nodes) =
-        ap listed (split_at nodes k node h) ∙ (listed-append (take k nodes) (node ∷ drop (suc k) nodes) ∙ ap (λ m. listed (take k nodes) ++ listed_from m (node ∷ drop (suc k) nodes)) short) in
+    ap listed (split_at nodes k node h) ∙ (listed-append (take k nodes) (node ∷ drop (suc k) nodes) ∙ ap (λ m. listed (take k nodes) ++ listed_from m (node ∷ drop (suc k) nodes)) short) in
     let here : children (listed_from k (node ∷ drop (suc k) nodes)) (p + 1) ≡ (k + 1) ∷ children (listed_from (k + 1) (drop (suc k) nodes)) (p + 1) =
-        children-append (numbered k node ∷ []) (listed_from (k + 1) (drop (suc k) nodes)) (p + 1) ∙ ap (λ l. l ++ children (listed_from (k + 1) (drop (suc k) nodes)) (p + 1)) (last_child k node (p + 1) p e refl) in
+    children-append (numbered k node ∷ []) (listed_from (k + 1) (drop (suc k) nodes)) (p + 1) ∙ ap (λ l. l ++ children (listed_from (k + 1) (drop (suc k) nodes)) (p + 1)) (last_child k node (p + 1) p e refl) in
     ap (λ l. children l (p + 1)) apart ∙ (children-append (listed (take k nodes)) (listed_from k (node ∷ drop (suc k) nodes)) (p + 1) ∙ ap (λ l. children (listed (take k nodes)) (p + 1) ++ l) here)
 
 pub siblings-listed : (nodes : List Node) (k : ℕ) (node : Node) (p : ℕ) → slice_get nodes k ≡ Some node → node.parent ≡ Some p → siblings (listed nodes) (k + 1) ≡ children (listed nodes) (p + 1)
@@ -248,7 +247,7 @@ pub left_of-listed : (nodes : List Node) (k : ℕ) (node : Node) (p : ℕ) → s
 left_of-listed nodes k node p h e =
     let short : length (take k nodes) ≡ k = length-take-le k nodes (omega (arith, slice_get_within nodes k node h)) in
     let below : AllByRecursion (λ y. y ≢ k + 1) (children (listed (take k nodes)) (p + 1)) =
-        each_weaker (λ y. (0 < y) × (y ≤ length (take k nodes))) (λ y. y ≢ k + 1) (λ y b f. let same : y ≡ k + 1 = f in omega arith) (children (listed (take k nodes)) (p + 1)) (each_child-within (take k nodes) (p + 1)) in
+    each_weaker (λ y. (0 < y) × (y ≤ length (take k nodes))) (λ y. y ≢ k + 1) (λ y b f. let same : y ≡ k + 1 = f in omega arith) (children (listed (take k nodes)) (p + 1)) (each_child-within (take k nodes) (p + 1)) in
     ap (left_of (k + 1)) (siblings-listed nodes k node p h e ∙ children_split nodes k node p h e) ∙ left_of_split (k + 1) (children (listed (take k nodes)) (p + 1)) (children (listed_from (k + 1) (drop (suc k) nodes)) (p + 1)) below
 
 pub place_of-listed : (nodes : List Node) (k : ℕ) (node : Node) (p : ℕ) → slice_get nodes k ≡ Some node → node.parent ≡ Some p → place_of (listed nodes) (k + 1) ≡ length (children (listed (take k nodes)) (p + 1))
@@ -257,3 +256,28 @@ place_of-listed nodes k node p h e = ap length (left_of-listed nodes k node p h 
 pub place_of-listed_root : (nodes : List Node) (k : ℕ) (node : Node) → slice_get nodes k ≡ Some node → node.parent ≡ None → place_of (listed nodes) (k + 1) ≡ 0
 place_of-listed_root nodes k node h e =
     ap (λ l. length (left_of (k + 1) l)) (siblings-listed_root nodes k node h e) ∙ ap length (left_of_split (k + 1) [] [] tt)
+
+-- what makes a list of nodes
+
+have-append : (k : ℕ) (nodes others : List Node) → HaveParentsFrom k nodes → HaveParentsFrom (k + length nodes) others → HaveParentsFrom k (nodes ++ others)
+have-append k [] others h j = subst (λ m. HaveParentsFrom m others) (omega arith) j
+have-append k (node ∷ nodes) others h j = (h.0, have-append (k + 1) nodes others h.1 (subst (λ m. HaveParentsFrom m others) (omega arith) j))
+
+have-take : (k i : ℕ) (nodes : List Node) → HaveParentsFrom k nodes → HaveParentsFrom k (take i nodes)
+have-take k zero nodes h = tt
+have-take k (suc i) [] h = tt
+have-take k (suc i) (node ∷ nodes) h = (h.0, have-take (k + 1) i nodes h.1)
+
+pub IsNodeList-one : (node : Node) → node.parent ≡ None → IsNodeList (node ∷ [])
+IsNodeList-one node h = record { some = omega arith; parents = (subst (IsParentAt 0) (sym h) refl, tt) }
+
+pub IsNodeList-push : (nodes : List Node) (node : Node) → IsNodeList nodes → IsParentAt (length nodes) node.parent → IsNodeList (nodes ++ node ∷ [])
+IsNodeList-push nodes node v h =
+    record { some = omega (arith, length_push nodes node, v.some); parents = have-append 0 nodes (node ∷ []) v.parents (subst (λ m. HaveParentsFrom m (node ∷ [])) (omega arith) (h, tt)) }
+
+pub IsNodeList-take : (nodes : List Node) (k : ℕ) → IsNodeList nodes → 0 < k → k ≤ length nodes → IsNodeList (take k nodes)
+IsNodeList-take nodes k v h j =
+    record { some = omega (arith, length-take-le k nodes j); parents = have-take 0 k nodes v.parents }
+
+pub decides-listed : (nodes : List Node) (x : ℕ) → Decides (is_element (listed nodes) x) ((0 < x) × (x ≤ length nodes))
+decides-listed nodes x = (within-listed nodes x, λ h. is_element-listed nodes x h.0 h.1)

@@ -1,8 +1,8 @@
 -- Lemmas on lists of numbers: which stand in them, and how often.
-use Rattle.std.proofs.Common.{◌≡◌, ◌≢◌, ℕ, zero, suc, ◌+◌, ◌<◌, ◌≤◌, ◌==◌, nat_eq, List, [], ◌∷◌, ◌++◌, map, filter, flat_map, length, take, Bool, true, false, cond, not, ◌||◌, refl, sym, ap, ◌∙◌, subst, one-add, arith}
+use Rattle.std.proofs.Common.{◌≡◌, ◌≢◌, ℕ, zero, suc, ◌+◌, ◌<◌, ◌≤◌, ◌==◌, nat_eq, List, [], ◌∷◌, ◌++◌, filter, flat_map, length, take, Bool, true, false, cond, not, ◌||◌, refl, sym, ap, ◌∙◌, subst, one-add, arith}
 use Rattle.std.specs.List.{AllByRecursion, list_any, IsDistinct, range_with_len, prefix_len}
 use Rattle.std.proofs.lemmas.Bool.Decides.{nat_tests}
-use Rattle.std.proofs.lemmas.Bool.{cond-true, cond-false, eq-eqb, ne_eqb, eqb-true, false_from_ne_true, false≢true}
+use Rattle.std.proofs.lemmas.Bool.{cond-true, eq-eqb, ne_eqb, eqb-true, false_from_ne_true, false≢true}
 use Rattle.std.proofs.lemmas.List.Folds.{list_any-append}
 use Rattle.std.proofs.lemmas.List.Filters.{length-filter_both}
 use Rattle.scene_model.specs.Lookups.{left_of}
@@ -171,7 +171,7 @@ length_from_copies zero (x ∷ xs) h c = let k : (0 < x) × (x ≤ 0) = h.0 in a
 length_from_copies (suc n) xs h c =
     let rest : List ℕ = filter (λ y. not (y == suc n)) xs in
     let below : AllByRecursion (λ y. (0 < y) × (y ≤ n)) rest =
-        each-filter (λ y. (0 < y) × (y ≤ suc n)) (λ y. (0 < y) × (y ≤ n)) (λ y. not (y == suc n)) (λ y e k. (k.0, not_last y n e k.1)) xs h in
+    each-filter (λ y. (0 < y) × (y ≤ suc n)) (λ y. (0 < y) × (y ≤ n)) (λ y. not (y == suc n)) (λ y e k. (k.0, not_last y n e k.1)) xs h in
     let one : length (copies (suc n) xs) ≡ 1 = ap length (c (suc n) (omega arith) (omega arith)) in
     let others : length rest ≡ n = length_from_copies n rest below (λ x k l. filter-filter (λ y. y == x) (λ y. not (y == suc n)) (λ y e. not_past x y n e l) xs ∙ c x k (omega arith)) in
     omega (arith, length-filter_both (λ y. y == suc n) (λ y. not (y == suc n)) (λ _. refl) xs)

@@ -1,17 +1,16 @@
 -- Laws of the subtrees of a list of elements: each number stands once in the whole, with its children behind it.
-use Rattle.std.proofs.Common.{◌≡◌, ◌≢◌, ℕ, zero, suc, ◌+◌, ◌<◌, ◌≤◌, ◌==◌, nat_eq, List, [], ◌∷◌, ◌++◌, map, filter, find, filter_map, flat_map, length, take, drop, Bool, true, false, cond, ◌||◌, Option, Some, None, All, option_map, option_and_then, slice_get, refl, sym, ap, subst, ◌∙◌, append-nil, append_assoc, inl, inr, arith}
+use Rattle.std.proofs.Common.{◌≡◌, ◌≢◌, ℕ, zero, suc, ◌+◌, ◌<◌, ◌≤◌, ◌==◌, nat_eq, List, [], ◌∷◌, ◌++◌, filter, flat_map, Bool, true, false, cond, ◌||◌, Some, None, refl, sym, ap, subst, ◌∙◌, append-nil, append_assoc, inl, inr, arith}
 use Rattle.std.specs.List.{AllByRecursion, IsDistinct}
-use Rattle.std.proofs.lemmas.Bool.{cond-true, cond-false, cases_lt, cases_eq, eqb-true}
+use Rattle.std.proofs.lemmas.Bool.{cases_lt, eqb-true}
 use Rattle.std.proofs.lemmas.Option.{same_Some, none-some}
 use Rattle.std.proofs.lemmas.List.Concat.{flat_map-append}
 use Rattle.std.proofs.lemmas.List.Folds.{list_any-append}
 use Rattle.scene_model.specs.Element.{Element}
-use Rattle.scene_model.specs.Lookups.{numbers, element_at, is_element, IsElement, parent_of, children}
-use Rattle.scene_model.specs.Nodes.{Node, IsNodeList, listed, subtree, tree_order, scene_of}
-use Rattle.scene_model.proofs.Lists.{each_weaker, each_both, each-flat_map, flat_map_same, flat_map_nothing, flat_map_itself, filter-flat_map, flat_map-flat_map, filter_nothing, filter-filter}
-use Rattle.scene_model.proofs.Numbers.{is_in, copies, in_copied, split_in, any-filter_wider, is_in-flat_map_copies, copies_absent, differs, same_number, length_from_copies, distinct_from_copies}
-use Rattle.scene_model.proofs.Found.{hangs_on, hangs_on-some, hangs_on-none, hangs_on-parent, copies-children, each_child-parent}
-use Rattle.scene_model.proofs.Listed.{distinct-listed, parent-below, root-listed, each_child, is_element-listed}
+use Rattle.scene_model.specs.Lookups.{numbers, parent_of, children}
+use Rattle.scene_model.specs.Nodes.{subtree}
+use Rattle.scene_model.proofs.Lists.{each_weaker, each_both, each-flat_map, flat_map_same, flat_map_itself, filter-flat_map, flat_map-flat_map, filter-filter}
+use Rattle.scene_model.proofs.Numbers.{is_in, copies, in_copied, split_in, any-filter_wider, is_in-flat_map_copies, copies_absent, differs, same_number}
+use Rattle.scene_model.proofs.Found.{hangs_on, hangs_on-some, hangs_on-none, copies-children, each_child-parent}
 
 -- what the walk needs of the list: no number twice, and each child's number is above its parent's and at most n
 pub record Grows (es : List Element) (n : ℕ) : Type 0 where
@@ -79,7 +78,7 @@ module _ (es : List Element) (n : ℕ) (g : Grows es n) where
   unfolding under
   hanging_here l x r =
       let each : AllByRecursion (λ y. filter (hangs_on es x) (subtree es l y) ≡ y ∷ []) (children es x) =
-          each_weaker (λ y. (parent_of es y ≡ Some x) × ((x < y) × (y ≤ n))) (λ y. filter (hangs_on es x) (subtree es l y) ≡ y ∷ []) (λ y b. one_child x l y b.1.1 b.1.0 b.0 (r y b.1.1 b.1.0)) (children es x) (each_next x) in
+      each_weaker (λ y. (parent_of es y ≡ Some x) × ((x < y) × (y ≤ n))) (λ y. filter (hangs_on es x) (subtree es l y) ≡ y ∷ []) (λ y b. one_child x l y b.1.1 b.1.0 b.0 (r y b.1.1 b.1.0)) (children es x) (each_next x) in
       let none : copies x (under l x) ≡ [] = none_above x (under l x) (each_under l x) in
       filter-flat_map (hangs_on es x) (subtree es l) (children es x) ∙ (flat_map_itself (λ y. filter (hangs_on es x) (subtree es l y)) (children es x) each ∙ (sym (append-nil (children es x)) ∙ ap (λ c. children es x ++ flat_map (children es) c) (sym none)))
 
@@ -87,7 +86,7 @@ module _ (es : List Element) (n : ℕ) (g : Grows es n) where
   unfolding under
   hanging_below p l x d r =
       let each : AllByRecursion (λ y. filter (hangs_on es p) (subtree es l y) ≡ flat_map (children es) (copies p (subtree es l y))) (children es x) =
-          each_weaker (λ y. (parent_of es y ≡ Some x) × ((x < y) × (y ≤ n))) (λ y. filter (hangs_on es p) (subtree es l y) ≡ flat_map (children es) (copies p (subtree es l y))) (λ y b. other_child p l y x b.0 d (r y b.1.1 b.1.0)) (children es x) (each_next x) in
+      each_weaker (λ y. (parent_of es y ≡ Some x) × ((x < y) × (y ≤ n))) (λ y. filter (hangs_on es p) (subtree es l y) ≡ flat_map (children es) (copies p (subtree es l y))) (λ y b. other_child p l y x b.0 d (r y b.1.1 b.1.0)) (children es x) (each_next x) in
       filter-flat_map (hangs_on es p) (subtree es l) (children es x) ∙ (flat_map_same (λ y. filter (hangs_on es p) (subtree es l y)) (λ y. flat_map (children es) (copies p (subtree es l y))) (children es x) each ∙ (sym (flat_map-flat_map (children es) (λ y. copies p (subtree es l y)) (children es x)) ∙ ap (flat_map (children es)) (sym (filter-flat_map (λ z. z == p) (subtree es l) (children es x)))))
 
   hanging_under : (p l x : ℕ) (b : Bool) → (x == p) ≡ b → ((y : ℕ) → y ≤ n → x < y → HangsAlike p l y) → filter (hangs_on es p) (under l x) ≡ flat_map (children es) (cond b (x ∷ copies p (under l x)) (copies p (under l x)))
@@ -131,8 +130,8 @@ module _ (es : List Element) (n : ℕ) (t : IsTree es n) where
   copies_up_to zero x h k l = absurd (omega arith)
   copies_up_to (suc m) x h k l =
       elim (cases_lt 1 x) [
-        inl a ↦ (let (q, e, b, c) = t.parents x a l in copies_next x q e (copies_up_to m q (omega arith) b (omega arith)))
-      | inr a ↦ (let first : 1 ≡ x = omega arith in subst (λ y. copies y (subtree es n 1) ≡ y ∷ []) first copies_first)
+        | inl a ↦ (let (q, e, b, c) = t.parents x a l in copies_next x q e (copies_up_to m q (omega arith) b (omega arith)))
+        | inr a ↦ (let first : 1 ≡ x = omega arith in subst (λ y. copies y (subtree es n 1) ≡ y ∷ []) first copies_first)
       ]
 
   pub copies-whole : (x : ℕ) → 0 < x → x ≤ n → copies x (subtree es n 1) ≡ x ∷ []
@@ -148,8 +147,8 @@ module _ (es : List Element) (n : ℕ) (t : IsTree es n) where
   child_of_none : (q y : ℕ) → (0 < q → n < q) → (parent_of es y ≡ Some q) × ((q < y) × (y ≤ n)) → ⊥
   child_of_none q y h b =
       elim (cases_lt 1 y) [
-        inl a ↦ (let (r, e, f, g) = t.parents y a b.1.1 in let same : r ≡ q = same_Some r q (sym e ∙ b.0) in let l = b.1.0 in let k = b.1.1 in omega arith)
-      | inr a ↦ (let first : y ≡ 1 = omega (arith, b.1.0) in none-some q (sym t.root ∙ (ap (parent_of es) (sym first) ∙ b.0)))
+        | inl a ↦ (let (r, e, f, g) = t.parents y a b.1.1 in let same : r ≡ q = same_Some r q (sym e ∙ b.0) in let l = b.1.0 in let k = b.1.1 in omega arith)
+        | inr a ↦ (let first : y ≡ 1 = omega (arith, b.1.0) in none-some q (sym t.root ∙ (ap (parent_of es) (sym first) ∙ b.0)))
       ]
 
   children_none : (q : ℕ) → (0 < q → n < q) → children es q ≡ []
@@ -163,11 +162,11 @@ module _ (es : List Element) (n : ℕ) (t : IsTree es n) where
   pub hangs_on-whole : (q : ℕ) → filter (hangs_on es q) (subtree es n 1) ≡ children es q
   hangs_on-whole q =
       elim (cases_lt 0 q) [
-        inl a ↦ (elim (cases_lt n q) [
-          inl b ↦ out q (λ _. b)
-        | inr b ↦ hangs_on_whole q (copies-whole q a b)
+        | inl a ↦ (elim (cases_lt n q) [
+          | inl b ↦ out q (λ _. b)
+          | inr b ↦ hangs_on_whole q (copies-whole q a b)
         ])
-      | inr a ↦ out q (λ c. absurd (omega arith))
+        | inr a ↦ out q (λ c. absurd (omega arith))
       ]
     where
       out : (r : ℕ) → (0 < r → n < r) → filter (hangs_on es r) (subtree es n 1) ≡ children es r
@@ -184,7 +183,7 @@ module _ (es : List Element) (n : ℕ) (t : IsTree es n) where
   unfolding IsRunOf
   run_within x q before behind cs ds h k e f =
       let top : subtree es n q ≡ q ∷ (flat_map (subtree es n) cs ++ (subtree es n x ++ flat_map (subtree es n) ds)) =
-          subtree-law es n t.grows q h k ∙ ap (λ l. q ∷ l) (ap (flat_map (subtree es n)) f ∙ flat_map-append (subtree es n) cs (x ∷ ds)) in
+      subtree-law es n t.grows q h k ∙ ap (λ l. q ∷ l) (ap (flat_map (subtree es n)) f ∙ flat_map-append (subtree es n) cs (x ∷ ds)) in
       (before ++ q ∷ flat_map (subtree es n) cs, flat_map (subtree es n) ds ++ behind, e ∙ (ap (λ l. before ++ (l ++ behind)) top ∙ simp append_assoc))
 
   run_up_to : (m x : ℕ) → x ≤ m → 0 < x → x ≤ n → IsRunOf x
@@ -192,8 +191,8 @@ module _ (es : List Element) (n : ℕ) (t : IsTree es n) where
   run_up_to zero x h k l = absurd (omega arith)
   run_up_to (suc m) x h k l =
       elim (cases_lt 1 x) [
-        inl a ↦ (let (q, e, b, c) = t.parents x a l in let (before, behind, f) = run_up_to m q (omega arith) b (omega arith) in let (cs, ds, g) = split_in x (children es q) (child_in x q e) in run_within x q before behind cs ds b (omega arith) f g)
-      | inr a ↦ (let first : 1 ≡ x = omega arith in ([], [], ap (subtree es n) first ∙ sym (append-nil (subtree es n x))))
+        | inl a ↦ (let (q, e, b, c) = t.parents x a l in let (before, behind, f) = run_up_to m q (omega arith) b (omega arith) in let (cs, ds, g) = split_in x (children es q) (child_in x q e) in run_within x q before behind cs ds b (omega arith) f g)
+        | inr a ↦ (let first : 1 ≡ x = omega arith in ([], [], ap (subtree es n) first ∙ sym (append-nil (subtree es n x))))
       ]
 
   -- each subtree is one run of the whole

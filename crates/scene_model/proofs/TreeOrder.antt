@@ -1,21 +1,23 @@
 -- Laws of the tree order of a list of nodes, and of the document that it stands for.
-use Rattle.std.proofs.Common.{◌≡◌, ◌≢◌, ℕ, zero, suc, ◌+◌, ◌<◌, ◌≤◌, ◌==◌, nat_eq, List, [], ◌∷◌, ◌++◌, map, filter, find, filter_map, flat_map, length, take, drop, Bool, true, false, cond, ◌||◌, Option, Some, None, All, option_map, option_and_then, slice_get, refl, sym, ap, subst, ◌∙◌, append-nil, inl, inr, is_some, arith}
+use Rattle.std.proofs.Common.{◌≡◌, ℕ, zero, suc, ◌+◌, ◌<◌, ◌≤◌, ◌==◌, nat_eq, List, [], ◌∷◌, ◌++◌, filter, flat_map, length, take, true, false, cond, ◌||◌, Option, Some, None, All, option_map, option_and_then, unwrap_or, codes, Decides, slice_get, refl, sym, ap, subst, ◌∙◌, inl, inr, is_some, arith}
 use Rattle.std.specs.List.{AllByRecursion, IsDistinct}
+use Rattle.std.specs.FinMap as map
 use Rattle.std.specs.Option.{option_map_or}
-use Rattle.std.proofs.lemmas.Bool.{cond-true, cond-false, cases_lt, cases_eq, eq-eqb, false_from_ne_true}
+use Rattle.std.proofs.lemmas.Bool.{cond-true, cases_lt, cases_eq, eq-eqb, false_from_ne_true}
 use Rattle.std.proofs.lemmas.List.{length-map}
 use Rattle.std.proofs.lemmas.List.Elements.{All-from_recursion, filter_agree}
-use Rattle.scene_model.specs.Element.{Element}
-use Rattle.scene_model.specs.Lookups.{numbers, element_at, is_element, IsElement, parent_of, children, beside, siblings, left_of, place_of}
+use Rattle.scene_model.specs.Element.{Characters, State, has_state}
+use Rattle.scene_model.specs.Words.{has_word}
+use Rattle.scene_model.specs.Lookups.{numbers, element_at, is_element, IsElement, parent_of, children, beside, siblings, left_of, place_of, tag_of, attribute_of, has_class, state_of}
 use Rattle.scene_model.specs.Ancestors.{position_of, ancestors}
 use Rattle.scene_model.specs.Valid.{IsValid}
 use Rattle.scene_model.specs.Nodes.{Node, IsNodeList, listed, subtree, tree_order, scene_of}
 use Rattle.scene_model.proofs.Lists.{each_weaker}
 use Rattle.scene_model.proofs.Numbers.{is_in, in_copied, each_is_in, differs, same_number, length_from_copies, distinct_from_copies}
 use Rattle.scene_model.proofs.Found.{hangs_on, element_at-filter_map, numbers-filter_map, children-hangs, is_element-at, position_of-numbers, cond_none}
-use Rattle.scene_model.proofs.Listed.{distinct-listed, parent-below, parent-listed, root-listed, each_child, is_element-listed, within-listed, element_at-listed_none, parent-element, only_root-listed, place_of-listed, place_of-listed_root}
+use Rattle.scene_model.proofs.Listed.{distinct-listed, parent-below, parent-listed, root-listed, each_child, is_element-listed, within-listed, element_at-listed_none, parent-element, only_root-listed, siblings-listed, left_of-listed, place_of-listed, place_of-listed_root}
 use Rattle.scene_model.proofs.Before.{place_in, parent_placed}
-use Rattle.scene_model.proofs.Subtrees.{Grows, IsTree, subtree-law, each_below, copies-whole, copies-whole_none, hangs_on-whole, each_whole, run-whole, in_subtree-parent}
+use Rattle.scene_model.proofs.Subtrees.{IsTree, subtree-law, each_below, copies-whole, copies-whole_none, hangs_on-whole, each_whole, run-whole, in_subtree-parent}
 use Rattle.scene_model.proofs.Climbing.{ancestors-root, ancestors-child}
 
 pub IsTree-listed : (nodes : List Node) → IsNodeList nodes → IsTree (listed nodes) (length nodes)
@@ -26,8 +28,8 @@ module _ (nodes : List Node) (v : IsNodeList nodes) where
   by_range : (P : ℕ → Type 0) → ((x : ℕ) → 0 < x → x ≤ length nodes → P x) → ((x : ℕ) → (0 < x → length nodes < x) → P x) → (x : ℕ) → P x
   by_range P inside outside x =
       elim (cases_lt 0 x) [
-        inl a ↦ (elim (cases_lt (length nodes) x) [ inl b ↦ outside x (λ _. b) | inr b ↦ inside x a b ])
-      | inr a ↦ outside x (λ c. absurd (omega arith))
+        | inl a ↦ (elim (cases_lt (length nodes) x) [ inl b ↦ outside x (λ _. b) | inr b ↦ inside x a b ])
+        | inr a ↦ outside x (λ c. absurd (omega arith))
       ]
 
   pub subtree-listed : (x : ℕ) → 0 < x → x ≤ length nodes → subtree (listed nodes) (length nodes) x ≡ x ∷ flat_map (subtree (listed nodes) (length nodes)) (children (listed nodes) x)
@@ -84,6 +86,21 @@ module _ (nodes : List Node) (v : IsNodeList nodes) where
   pub parent_of-scene_of : (x : ℕ) → parent_of (scene_of nodes) x ≡ parent_of (listed nodes) x
   parent_of-scene_of x = ap (option_and_then (λ e. e.parent)) (element_at-scene_of x)
 
+  pub tag_of-scene_of : (x : ℕ) → tag_of (scene_of nodes) x ≡ tag_of (listed nodes) x
+  tag_of-scene_of x = ap (λ o. unwrap_or (option_map (λ e. e.tag) o) []) (element_at-scene_of x)
+
+  pub attribute_of-scene_of : (x : ℕ) (name : Characters) → attribute_of (scene_of nodes) x name ≡ attribute_of (listed nodes) x name
+  attribute_of-scene_of x name = ap (option_and_then (λ e. map.get e.attrs name)) (element_at-scene_of x)
+
+  pub has_class-scene_of : (x : ℕ) (class : Characters) → has_class (scene_of nodes) x class ≡ has_class (listed nodes) x class
+  has_class-scene_of x class = ap (λ o. option_map_or (has_word class) o false) (attribute_of-scene_of x (codes "class"))
+
+  pub state_of-scene_of : (x : ℕ) (state : State) → state_of (scene_of nodes) x state ≡ state_of (listed nodes) x state
+  state_of-scene_of x state = ap (λ o. option_map_or (λ e. has_state e.states state) o false) (element_at-scene_of x)
+
+  pub root-scene_of : parent_of (scene_of nodes) 1 ≡ None
+  root-scene_of = parent_of-scene_of 1 ∙ root-listed nodes v
+
   pub children-scene_of : (p : ℕ) → children (scene_of nodes) p ≡ children (listed nodes) p
   unfolding tree_order
   children-scene_of p =
@@ -100,6 +117,13 @@ module _ (nodes : List Node) (v : IsNodeList nodes) where
   pub place_of-scene_of : (x : ℕ) → place_of (scene_of nodes) x ≡ place_of (listed nodes) x
   place_of-scene_of x = ap (λ l. length (left_of x l)) (siblings-scene_of x)
 
+  pub siblings-child : (k : ℕ) (node : Node) (p : ℕ) → slice_get nodes k ≡ Some node → node.parent ≡ Some p → siblings (scene_of nodes) (k + 1) ≡ children (listed nodes) (p + 1)
+  siblings-child k node p h e = siblings-scene_of (k + 1) ∙ siblings-listed nodes k node p h e
+
+  -- left of a node are its parent's children that the list has before it
+  pub left_of-child : (k : ℕ) (node : Node) (p : ℕ) → slice_get nodes k ≡ Some node → node.parent ≡ Some p → left_of (k + 1) (siblings (scene_of nodes) (k + 1)) ≡ children (listed (take k nodes)) (p + 1)
+  left_of-child k node p h e = ap (left_of (k + 1)) (siblings-scene_of (k + 1)) ∙ left_of-listed nodes k node p h e
+
   -- a node's place is how many of its parent's children the list has before it
   pub place_of-child : (k : ℕ) (node : Node) (p : ℕ) → slice_get nodes k ≡ Some node → node.parent ≡ Some p → place_of (scene_of nodes) (k + 1) ≡ length (children (listed (take k nodes)) (p + 1))
   place_of-child k node p h e = place_of-scene_of (k + 1) ∙ place_of-listed nodes k node p h e
@@ -115,6 +139,9 @@ module _ (nodes : List Node) (v : IsNodeList nodes) where
   pub within-scene_of : (x : ℕ) → IsElement (scene_of nodes) x → (0 < x) × (x ≤ length nodes)
   within-scene_of x h = within-listed nodes x (sym (is_element-scene_of x) ∙ h)
 
+  pub decides-scene_of : (x : ℕ) → Decides (is_element (scene_of nodes) x) ((0 < x) × (x ≤ length nodes))
+  decides-scene_of x = (within-scene_of x, λ h. IsElement-scene_of x h.0 h.1)
+
   place_in_scene : (x : ℕ) → position_of (scene_of nodes) x ≡ place_in (tree_order nodes) x
   place_in_scene x = position_of-numbers (scene_of nodes) x ∙ ap (λ l. place_in l x) numbers-scene_of
 
@@ -125,7 +152,7 @@ module _ (nodes : List Node) (v : IsNodeList nodes) where
       let b = parent-below nodes v x p e in
       let there : is_in x (tree_order nodes) ≡ true = in_copied x (tree_order nodes) [] (once_in_order x (omega arith) b.2) in
       let l : place_in (tree_order nodes) p < place_in (tree_order nodes) x =
-          parent_placed (listed nodes) (length nodes) 1 x p (distinct-listed nodes) (root-listed nodes v) there e in
+      parent_placed (listed nodes) (length nodes) 1 x p (distinct-listed nodes) (root-listed nodes v) there e in
       rw (place_in_scene p, place_in_scene x) l
 
   first_in_order : place_in (tree_order nodes) 1 ≡ 0
@@ -141,6 +168,7 @@ module _ (nodes : List Node) (v : IsNodeList nodes) where
     where
       parents_elements : (x p : ℕ) → parent_of (scene_of nodes) x ≡ Some p → IsElement (scene_of nodes) p
       parents_elements x p h = is_element-scene_of p ∙ parent-element nodes v x p (sym (parent_of-scene_of x) ∙ h)
+
       root_first : (x : ℕ) → IsElement (scene_of nodes) x → parent_of (scene_of nodes) x ≡ None → position_of (scene_of nodes) x ≡ 0
       root_first x is h =
           let first : x ≡ 1 = only_root-listed nodes v x (sym (is_element-scene_of x) ∙ is) (sym (parent_of-scene_of x) ∙ h) in
@@ -174,7 +202,7 @@ module _ (nodes : List Node) (v : IsNodeList nodes) where
   unfolding IsInUnder
   in_root x y h k d e =
       let absent : is_in y (subtree (listed nodes) (length nodes) x) ≡ false =
-          false_from_ne_true (is_in y (subtree (listed nodes) (length nodes) x)) (root_in x y h k d e) in
+      false_from_ne_true (is_in y (subtree (listed nodes) (length nodes) x)) (root_in x y h k d e) in
       let none : is_in x (ancestors (scene_of nodes) y) ≡ false = ap (is_in x) (ancestors-root (scene_of nodes) IsValid-scene_of y (parent_of-scene_of y ∙ e)) in
       absent ∙ (sym none ∙ ap (λ b. b || is_in x (ancestors (scene_of nodes) y)) (sym (differs y x d)))
 

@@ -8,6 +8,7 @@ use Rattle.std.proofs.lemmas.Str.{encode_ascii, encodes-chars, encodes_same, ins
 use Rattle.std.proofs.lemmas.Str.Ascii.{lowercase_is, lowercase_ascii}
 use Rattle.stylo_base.specs.AsciiCase.{ascii_lower}
 
+-- a number is that of an ASCII character or not
 low_or_high : (n : ℕ) → (n < 128) ⊎ (128 ≤ n)
 low_or_high n = grind arith
 
@@ -59,5 +60,6 @@ same_lower a b r u v h = (
   λ e. h.1 (lower_bytes a u ∙ (ap encode_utf8_all e ∙ sym (lower_bytes b v))),
 )
 
+-- the same as a test
 pub lower_test : (a b : List ℕ) (r : Bool) → IsUtf8 a → IsUtf8 b → IsTrue r ↔ (map to_ascii_lowercase a ≡ map to_ascii_lowercase b) → r ≡ bytes_eq (ascii_lower (chars a)) (ascii_lower (chars b))
 lower_test a b r u v h = same_from_decides r _ (same_lower a b r u v h) (bytes_eq-Decides _ _)

@@ -71,16 +71,18 @@ any_step : (b r : Bool) (n l : ℕ) → nat_lt n l ≡ r → nat_lt (cond (not b
 any_step true r n l h = grind (arith, nat_tests)
 any_step false r n l h = rw (← h) (grind (arith, nat_tests))
 
--- a text is among the texts exactly where it has a place
+-- the place of a text lies among the texts exactly where the text is there
 any_before : (text : List ℕ) (texts : List (List ℕ)) → nat_lt (prefix_len (λ cs. not (bytes_eq text cs)) texts) (length texts) ≡ is_among text texts
 any_before text [] = refl
 any_before text (t ∷ ts) =
     any_step (bytes_eq text t) (is_among text ts) (prefix_len (λ cs. not (bytes_eq text cs)) ts) (length ts) (any_before text ts)
 
+-- whether such a place is one
 is_some-cond : (b : Bool) (n : ℕ) → is_some (cond b (Some n) None) ≡ b
 is_some-cond true n = refl
 is_some-cond false n = refl
 
+-- a text is among the texts exactly where it has a place
 pub is_some-position : (text : List ℕ) (texts : List (List ℕ)) → is_some (position (bytes_eq text) texts) ≡ is_among text texts
 is_some-position text texts =
     let n = prefix_len (λ cs. not (bytes_eq text cs)) texts in
@@ -153,10 +155,11 @@ seen_push text u keys new kept now b e v absent =
     let longer : new ≡ keys ++ kept ∷ [] = e ∙ cond-false _ keys (keys ++ kept ∷ []) fresh in
     ap seen longer ∙ (map_push (λ s. chars (string_bytes s)) keys kept ∙ (ap (λ ts. ts ++ chars (string_bytes kept) ∷ []) v ∙ ap (λ bs. now ++ chars bs ∷ []) b))
 
--- what a new name leaves: the list, the look-ups and that each text stands once
+-- the list after a new name
 pub interned_new : (text : List ℕ) (old new : List (List ℕ)) → new ≡ old ++ text ∷ [] → is_among text old ≡ false → new ≡ interned old text
 interned_new text old new e absent = e ∙ sym (cond-false (is_among text old) old (old ++ text ∷ []) absent)
 
+-- the longer list is still one of names
 pub AreNamed-push : (text : List ℕ) (old new : List (List ℕ)) → new ≡ old ++ text ∷ [] → is_among text old ≡ false → StandOnce old → length old < 2 ^ 32 → AreNamed new
 AreNamed-push text old new e absent once few =
     subst AreNamed (sym e) (record { once = StandOnce-push old text once absent; few = omega (arith, length_push old text) })

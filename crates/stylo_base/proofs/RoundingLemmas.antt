@@ -8,6 +8,7 @@ record NearBelow (n d q : ℕ) : Type 0 where
   low : 2 * (q * d) ≤ 2 * n + d
   high : 2 * n < 2 * (q * d) + d
 
+-- `half_up` is so
 half_up_near : (n d : ℕ) → 0 < d → NearBelow n d (half_up n d)
 half_up_near n d h =
     let m = 2 * n + d in
@@ -15,6 +16,7 @@ half_up_near n d h =
     let rest : m % (2 * d) < 2 * d = mod-lt m (omega arith) in
     record { low = omega (arith, whole, rest); high = omega (arith, whole, rest) }
 
+-- and no other number is
 half_up_alone : (n d q : ℕ) → 0 < d → NearBelow n d q → q ≡ half_up n d
 half_up_alone n d q h near =
     let m = 2 * n + d in
@@ -22,17 +24,21 @@ half_up_alone n d q h near =
     let below : half_up n d < q + 1 = div_below m (2 * d) (q + 1) (omega arith) (omega (arith, near.low, near.high)) in
     omega arith
 
+-- how far two numbers are apart
 abs_difference : (n m : ℕ) → unsigned_abs (pos n -ℤ pos m) ≡ (n - m) + (m - n)
 abs_difference n m = omega (arith, ints)
 
+-- the same of their negatives
 neg_gap : (n q d : ℕ) → unsigned_abs (negsuc n -ℤ (neg_ℤ (pos q) *ℤ pos d)) ≡ (suc n - q * d) + (q * d - suc n)
 neg_gap n zero d = omega (arith, ints)
 neg_gap n (suc q) d = omega (arith, ints)
 
+-- the size of a negative product
 neg_size : (q d : ℕ) → unsigned_abs (neg_ℤ (pos q) *ℤ pos d) ≡ q * d
 neg_size zero d = omega (arith, ints)
 neg_size (suc q) d = omega (arith, ints)
 
+-- `rounded` is the nearest
 pub rounded-near : (z : ℤ) (d : ℕ) → 0 < d → IsNearest z d (rounded z d)
 rounded-near (pos n) d h =
     let near = half_up_near n d h in
@@ -46,6 +52,7 @@ rounded-near (negsuc n) d h =
     let size = neg_size q d in
     record { near = omega (arith, gap, near.low, near.high); away = λ e. omega (arith, gap, size, near.low, near.high) }
 
+-- how far a number is from a negative
 opposite_gap : (n m : ℕ) → unsigned_abs (pos n -ℤ neg_ℤ (pos m)) ≡ n + m
 opposite_gap n zero = omega (arith, ints)
 opposite_gap n (suc m) = omega (arith, ints)
@@ -58,6 +65,7 @@ none_across n q d h near = omega (arith, near)
 below_near : (n m d gap : ℕ) → 0 < d → gap ≡ (n - m) + (m - n) → 2 * gap ≤ d → (2 * gap ≡ d → n < m) → 2 * n < 2 * m + d
 below_near n m d gap h e near away = grind arith
 
+-- no other number is the nearest
 pub rounded-alone : (z : ℤ) (d : ℕ) (r : ℤ) → 0 < d → IsNearest z d r → r ≡ rounded z d
 rounded-alone (pos n) d (pos q) h near =
     let gap : unsigned_abs (pos n -ℤ pos (q * d)) ≡ (n - q * d) + (q * d - n) = abs_difference n (q * d) in
@@ -76,11 +84,14 @@ rounded-alone (negsuc n) d (negsuc q) h near =
     let size = neg_size (suc q) d in
     ap (λ x. neg_ℤ (pos x)) (half_up_alone (suc n) d (suc q) h (record { low = omega (arith, gap, near.near); high = below_near (suc n) (suc q * d) d _ h gap near.near (λ e. omega (arith, size, near.away e)) }))
 
+-- `clamped` lies in the range
 pub clamped-in : (z : ℤ) → IsInRange (clamped z)
 clamped-in z = record { low = omega (arith, ints, clamps); high = omega (arith, ints, clamps) }
 
+-- a number of the range stays
 pub clamped-same : (z : ℤ) → IsInRange z → clamped z ≡ z
 clamped-same z h = omega (arith, ints, clamps)
 
+-- no number of the range is nearer
 pub clamped-near : (z w : ℤ) → IsInRange w → unsigned_abs (z -ℤ clamped z) ≤ unsigned_abs (z -ℤ w)
 clamped-near z w h = omega (arith, ints, clamps)

@@ -1,9 +1,12 @@
 //! The states that an element may be in.
 
-/// A state that the document sets on an element, as `:hover` asks for it.
+/// A state of an element, which the document sets.
 #[derive(Clone, Copy, Debug, PartialEq, Eq)]
 pub enum State {
+    /// `:hover` holds.
     Hover,
+    /// `:active` holds.
     Active,
+    /// `:focus` holds.
     Focus,
 }

@@ -1,0 +1,30 @@
+use Rattle.std.proofs.Common.{arith, ◌∙◌, sym, ap, ◌++◌, ◌∷◌, [], ℕ}
+use Rattle.scene_model.proofs.Listed.{length-listed}
+use Rattle.dom_tree.proofs.WalkLemmas.{walk_begins, next_inside, walk_goes_on, walk_nears_end, walk_ends, linked_children, IsWalk}
+use Rattle.dom_tree.proofs.start.walk.Goals as goal
+
+pub loop-x-init : goal.loop-x-init
+loop-x-init c =
+    walk_begins _ _ _ c.len.ensures.shape c.in_ok-order.ensures.items (c.in_ok-push.ensures.items ∙ ap (λ l. l ++ 1 ∷ []) c.new-ahead.ensures.items)
+
+pub bounds-links-x : goal.bounds-links-x
+bounds-links-x c =
+    let next = next_inside _ c.len.ensures.shape _ _ _ _ c.loop-x.invariant c.in-Some.ensures.items in
+    omega (arith, c.requires.links.count, length-listed c.args.list.now)
+
+pub loop-x-smaller : goal.loop-x-smaller
+loop-x-smaller c =
+    let shape = c.len.ensures.shape in
+    let popped = c.in-Some.ensures.items in
+    let next = next_inside _ shape _ _ _ _ c.loop-x.invariant popped in
+    let linked = linked_children _ _ _ c.index-links-x.result _ c.requires.links next c.as_slice.ensures in
+    let later = walk_goes_on _ shape _ _ _ _ c.loop-x.invariant popped _ _ _ c.in_ok-push-2.ensures.items c.in_ok-put_reversed.ensures linked in
+    walk_nears_end _ _ _ _ _ _ c.loop-x.invariant later c.in_ok-push-2.ensures.items
+
+pub loop-x-preserved : goal.loop-x-preserved
+loop-x-preserved c =
+    let shape = c.len.ensures.shape in
+    let popped = c.in-Some.ensures.items in
+    let next = next_inside _ shape _ _ _ _ c.loop-x.invariant popped in
+    let linked = linked_children _ _ _ c.index-links-x.result _ c.requires.links next c.as_slice.ensures in
+    walk_goes_on _ shape _ _ _ _ c.loop-x.invariant popped _ _ _ c.in_ok-push-2.ensures.items c.in_ok-put_reversed.ensures linked
