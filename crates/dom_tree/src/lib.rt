@@ -1,9 +1,9 @@
 //! The document: the list of nodes that it is made of, and its elements with their look-ups.
 #![tactic(auto)]
 
+mod depths;
 mod doc;
 mod node;
-mod depths;
 mod nodes;
 mod numbers;
 mod start;

@@ -4,7 +4,7 @@ use std::alloc::{AllocError, AllocFailed};
 use stylo_base::NoMemory;
 
 /// Why a reading stops.
-#[derive(Clone, Copy, Debug, PartialEq, Eq)]
+#[derive(Clone, Copy, Debug)]
 pub enum Fault {
     /// What is read says nothing of what is asked: a value is absent or of another shape, or the
     /// bytes are no JSON.

@@ -1,11 +1,10 @@
 //! What jobs of different shapes give.
 
-use crate::node::root_of;
 use crate::{JobFault, read};
-use dom_tree::States;
-use serde_json::Value;
+use dom_tree::Doc;
 use std::alloc::{AllocError, Global};
 use std::test::Fail;
+use stylo_base::State;
 
 /// An answer of `read`, its job or its pointer left out.
 #[derive(Clone, Copy, Debug, PartialEq, Eq)]
@@ -224,30 +223,34 @@ fn limits(rt: HostRuntime) -> Result<(), Fail> {
 fn documents(rt: HostRuntime) -> Result<(), Fail> {
     let alloc = rt.alloc();
     let text =
-        br#"{"version":1,"nodes":[{"tag":"a"},{"tag":"b","parent":0},{"tag":"c","parent":1},{"tag":"d","parent":0}]}"#;
+        br#"{"version":1,"nodes":[{"tag":"a"},{"tag":"b","parent":0},{"tag":"c","parent":0},{"tag":"d","parent":1}]}"#;
     let Ok(job) = read(alloc, text) else {
         return Err(Fail::from("there is a job"));
     };
     assert_eq!(rt;
         job.nodes.depths(alloc)?.as_slice(),
-        [1, 2, 3, 2].as_slice()
+        [1, 2, 2, 3].as_slice()
     );
-    let node = Value::from_str(
-        alloc,
-        r#"{"tag":"p","tag":"q","attrs":{"id":"1","class":"a b","id":"2"},"states":["focus","hover","focus"]}"#,
-    )?;
-    let root = root_of(alloc, &node)?;
-    assert_eq!(rt; root.tag.as_str(), "q");
-    assert_eq!(rt;
-        root.states,
-        States {
-            hover: true,
-            active: false,
-            focus: true
-        }
-    );
-    let attrs = format!(in alloc; "{:?}", root.attrs)?;
-    assert!(rt; attrs.contains("\"class\" }, value: Text { inner: \"a b\""));
-    assert!(rt; attrs.contains("\"id\" }, value: Text { inner: \"2\""));
+    let doc = Doc::start(alloc, &job.nodes)?;
+    assert_eq!(rt; doc.tree_order(alloc)?.as_slice(), [1, 2, 4, 3].as_slice());
+    Ok(())
+}
+
+#[test]
+fn node_members(rt: HostRuntime) -> Result<(), Fail> {
+    let alloc = rt.alloc();
+    let text =
+        br#"{"version":1,"nodes":[{"tag":"p","tag":"q","attrs":{"id":"1","class":"a b","id":"2"},"states":["focus","hover","focus"]}]}"#;
+    let Ok(job) = read(alloc, text) else {
+        return Err(Fail::from("there is a job"));
+    };
+    let doc = Doc::start(alloc, &job.nodes)?;
+    assert!(rt; doc.contains(1));
+    assert_eq!(rt; doc.tag(1), "q");
+    assert!(rt; doc.attribute(1, "id") == Some("2"));
+    assert!(rt; doc.attribute(1, "class") == Some("a b"));
+    assert!(rt; doc.attribute(1, "lang").is_none());
+    assert!(rt; doc.state(1, State::Hover) && doc.state(1, State::Focus));
+    assert!(rt; !doc.state(1, State::Active));
     Ok(())
 }
