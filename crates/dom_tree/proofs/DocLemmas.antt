@@ -22,11 +22,10 @@ document_of_list list names nodes order e f =
     ap (λ es. filter_map (element_at es) order) e ∙ ap (λ o. filter_map (element_at (listed list)) o) f
 
 within-Decides : (x n : ℕ) → Decides (nat_lt 0 x && nat_le x n) ((0 < x) × (x ≤ n))
-within-Decides x n =
-    (
-      λ h. (let parts = and_parts (nat_lt 0 x) (nat_le x n) h in (ltb-true 0 x parts.0, leb-true x n parts.1)),
-      λ h. and_from (nat_lt 0 x) (nat_le x n) (lt-ltb 0 x h.0) (le-leb x n h.1),
-    )
+within-Decides x n = (
+  λ h. (let parts = and_parts (nat_lt 0 x) (nat_le x n) h in (ltb-true 0 x parts.0, leb-true x n parts.1)),
+  λ h. and_from (nat_lt 0 x) (nat_le x n) (lt-ltb 0 x h.0) (le-leb x n h.1),
+)
 
 module _ (list : List model.Node) (v : IsNodeList list) where
   links_in_tree : (links : List Link) → AreLinks (listed list) links → AreLinks (scene_of list) links

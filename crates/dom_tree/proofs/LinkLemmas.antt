@@ -30,8 +30,7 @@ no_links list links e = record { count = ap length e; each = λ i h. absurd (ome
 links_after : (links hung longer : List Link) (p k i : ℕ) (here last : Link) → length links ≡ k → p < k → hung ≡ slice_set links p here → longer ≡ hung ++ last ∷ [] → (length longer ≡ k + 1) × (i ≡ p → slice_get longer i ≡ Some here) × (i < k → i ≢ p → slice_get longer i ≡ slice_get links i) × (i ≡ k → slice_get longer i ≡ Some last)
 links_after links hung longer p k i here last count l e f =
     let same : length hung ≡ k = ap length e ∙ (length-set links p here ∙ count) in
-    let front : i < k → slice_get longer i ≡ slice_get (slice_set links p here) i = λ h. ap (λ l. slice_get l i) f ∙ (get_push_below hung i last (omega arith) ∙ ap (λ l. slice_get l i) e) in
-    (
+    let front : i < k → slice_get longer i ≡ slice_get (slice_set links p here) i = λ h. ap (λ l. slice_get l i) f ∙ (get_push_below hung i last (omega arith) ∙ ap (λ l. slice_get l i) e) in (
       ap length f ∙ (length_push hung last ∙ ap (λ n. n + 1) same),
       λ h. front (omega arith) ∙ (ap (slice_get (slice_set links p here)) h ∙ get_set_same links p here (omega arith)),
       λ h other. front h ∙ get_set_other links p i here (λ g. other (sym g)),
@@ -114,17 +113,17 @@ module _ (list : List Node) (v : IsNodeList list) (k : ℕ) (node : Node) (at : 
           by_place : (i : ℕ) → i < k + 1 → slice_get longer i ≡ Some (link_so_far list (k + 1) i)
           by_place i h =
               elim (cases_eq i p) [
-                inl e ↦ at_parent i e
-              | inr e ↦ (elim (cases_eq i k) [ inl f ↦ at_last i f | inr f ↦ at_other i (omega arith) e ])
+                | inl e ↦ at_parent i e
+                | inr e ↦ (elim (cases_eq i k) [ inl f ↦ at_last i f | inr f ↦ at_other i (omega arith) e ])
               ]
 
   root_linked : (links longer : List Link) (children_new : Numbers) → node.parent ≡ None → AreLinksSoFar list k links → children_new ≡ [] → longer ≡ links ++ record { children = children_new; place = 0 } ∷ [] → AreLinksSoFar list (k + 1) longer
   root_linked links longer children_new above so_far new_is longer_is =
       let first : k ≡ 0 = subst (IsParentAt k) above (parent_at list k node v at) in
       let alone : children (listed (take (k + 1) list)) (k + 1) ≡ [] =
-          ap (λ l. children (listed l) (k + 1)) (taken list k node at) ∙ (children_push_root (take k list) node (k + 1) above ∙ ap (λ n. children (listed (take n list)) (k + 1)) first) in
+      ap (λ l. children (listed l) (k + 1)) (taken list k node at) ∙ (children_push_root (take k list) node (k + 1) above ∙ ap (λ n. children (listed (take n list)) (k + 1)) first) in
       let one : record { children = children_new; place = 0 } ≡ link_so_far list (k + 1) k =
-          ap (λ c. record { children = c; place = 0 }) (new_is ∙ sym alone) ∙ ap (λ n. record { children = children (listed (take (k + 1) list)) (k + 1); place = n }) (sym (place_of-listed_root list k node at above)) in
+      ap (λ c. record { children = c; place = 0 }) (new_is ∙ sym alone) ∙ ap (λ n. record { children = children (listed (take (k + 1) list)) (k + 1); place = n }) (sym (place_of-listed_root list k node at above)) in
       record {
         count = ap length longer_is ∙ (length_push links (record { children = children_new; place = 0 }) ∙ ap (λ n. n + 1) so_far.count);
         each = λ i h. (let here : i ≡ k = omega arith in ap (λ l. slice_get l i) longer_is ∙ (get_push_last links i (record { children = children_new; place = 0 }) (here ∙ sym so_far.count) ∙ (ap Some one ∙ ap (λ j. Some (link_so_far list (k + 1) j)) (sym here))));

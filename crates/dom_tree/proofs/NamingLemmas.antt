@@ -94,7 +94,7 @@ elements_push old new nodes longer list rows k row node parent so_far named kept
     let known : length nodes ≡ k = sym (length-elements_from old 0 nodes) ∙ (ap length so_far ∙ (length-listed (take k list) ∙ so_many)) in
     let more : take (k + 1) list ≡ take k list ++ row_node row ∷ [] = subst (λ l. take (k + 1) l ≡ take k l ++ row_node row ∷ []) view (row_at rows k row l is) in
     let here : element_of new (k + 1) node ≡ numbered (length (take k list)) (row_node row) =
-        element (k + 1) ∙ (ap (λ p. input_element (k + 1) p row.input) above ∙ ap (λ m. numbered m (row_node row)) (sym so_many)) in
+    element (k + 1) ∙ (ap (λ p. input_element (k + 1) p row.input) above ∙ ap (λ m. numbered m (row_node row)) (sym so_many)) in
     ap (elements_of new) e ∙ (elements_from-push new 0 k nodes node (omega arith) ∙ (ap (λ l. l ++ element_of new (k + 1) node ∷ []) (elements_kept old new 0 nodes kept named ∙ so_far) ∙ (ap (λ x. listed (take k list) ++ x ∷ []) here ∙ (sym (listed_push (take k list) (row_node row)) ∙ ap listed (sym more)))))
 
 pub nodes_named_push : (old new : List Characters) (nodes longer : List Node) (node : Node) → AllByRecursion (IsNamed old) nodes → KeepsTexts old new → IsNamed new node → longer ≡ nodes ++ node ∷ [] → AllByRecursion (IsNamed new) longer

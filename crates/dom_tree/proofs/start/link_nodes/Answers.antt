@@ -18,10 +18,10 @@ loop-index-preserved c =
     let told = c.len-index-end.ensures.count in
     let longer = c.in_ok-push.ensures.items in
     elim c.match-parent.branch [
-      in-Some+in_ok-place-in-Some w ↦
-        child_step _ _ w.in-Some.parent w.in_ok-place-in-Some.place _ w.put_child.new.links.items _ c.new.result c.len-index-end.ensures.shape (omega (arith, told)) w.in-Some.ensures c.loop-index.invariant w.in_ok-place-in-Some.ensures.place w.in_ok-place-in-Some.ensures.links c.new.ensures (cc (longer, w.links-is, w.place-is))
-    | in-None w ↦
-        root_step _ _ _ _ c.new.result c.len-index-end.ensures.shape (omega (arith, told)) w.in-None.ensures c.loop-index.invariant c.new.ensures (cc (longer, w.links-is, w.place-is))
+      | in-Some+in_ok-place-in-Some w ↦
+          child_step _ _ w.in-Some.parent w.in_ok-place-in-Some.place _ w.put_child.new.links.items _ c.new.result c.len-index-end.ensures.shape (omega (arith, told)) w.in-Some.ensures c.loop-index.invariant w.in_ok-place-in-Some.ensures.place w.in_ok-place-in-Some.ensures.links c.new.ensures (cc (longer, w.links-is, w.place-is))
+      | in-None w ↦
+          root_step _ _ _ _ c.new.result c.len-index-end.ensures.shape (omega (arith, told)) w.in-None.ensures c.loop-index.invariant c.new.ensures (cc (longer, w.links-is, w.place-is))
     ]
 
 pub returns : goal.returns
