@@ -4,3 +4,7 @@ pub mod Ancestors
 pub mod Words
 pub mod Valid
 pub mod Nodes
+pub mod Selector
+pub mod Comparisons
+pub mod Holds
+pub mod Specificity

@@ -1,0 +1,6 @@
+pub mod Token
+pub mod Preprocess
+pub mod Reading
+pub mod Brackets
+pub mod Rules
+pub mod SelectorList
