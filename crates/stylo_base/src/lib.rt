@@ -2,13 +2,20 @@
 //! numbers, and the words of limits and refusals.
 #![tactic(auto)]
 
+mod ascii_case;
+mod fixed;
+pub mod laws;
 mod memory;
 mod names;
 mod path_text;
 mod refusal;
 mod state;
+#[cfg(test)]
+mod tests;
 mod text;
 
+pub use ascii_case::eq_ascii_case;
+pub use fixed::Fixed;
 pub use memory::NoMemory;
 pub use names::{Name, Names};
 pub use path_text::PathText;

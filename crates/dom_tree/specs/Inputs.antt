@@ -1,0 +1,20 @@
+-- What the types of the code stand for.
+use Rattle.std.specs.Prelude.{ℕ, List, Option, map}
+use Rattle.std.specs.FinMap as finmap
+use Rattle.scene_model.specs.Element as model
+use Rattle.scene_model.specs.Nodes.{Node}
+use Rattle.dom_tree.specs.declared.nodes.States.{States}
+use Rattle.dom_tree.specs.declared.nodes.Attr.{Attr}
+
+abbrev pub states_of : States → model.States
+states_of s = record { hover = s.hover; active = s.active; focus = s.focus }
+
+abbrev pub pair_of : Attr → model.Characters × model.Characters
+pair_of attr = (attr.name, attr.value)
+
+-- the map of a list of attributes: the first with a name decides
+abbrev pub attributes_of : List Attr → model.Attributes
+attributes_of list = finmap.from_entries (map pair_of list)
+
+abbrev pub node_of : Option ℕ → model.Characters → model.Attributes → States → Node
+node_of parent tag attrs states = record { parent = parent; tag = tag; attrs = attrs; states = states_of states }

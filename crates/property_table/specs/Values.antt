@@ -1,0 +1,8 @@
+-- What a value stands for.
+use Rattle.cascade_model.specs.Value as model
+use Rattle.property_table.specs.Words.{word_of}
+use Rattle.property_table.specs.declared.value.Value.{Value}
+use Rattle.property_table.specs.declared.value.Value.TheVariants.{Keyword}
+
+abbrev pub value_of : Value → model.Value
+value_of (Keyword word) = model.keyword (word_of word)

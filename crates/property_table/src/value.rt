@@ -1,0 +1,34 @@
+//! What a property can be computed to be.
+
+ghost use Rattle.std.specs.Prelude.{◌≡◌, ◌++◌, ◌↔◌, IsTrue, OnErr, OnOk};
+ghost use Rattle.cascade_model.specs.Value.{same_value, written};
+ghost use Rattle.property_table.specs.Values.{value_of};
+
+use crate::Keyword;
+use stylo_base::{NoMemory, Text};
+
+/// A computed value.
+#[derive(Clone, Copy, Debug, PartialEq, Eq)]
+pub enum Value {
+    Keyword(Keyword),
+}
+
+impl Value {
+    /// Whether the two are the same value.
+    pub fn is_same(self, other: Value) -> bool
+        ensures same { IsTrue result ↔ (value_of self ≡ value_of other) }
+        ensures test { result ≡ same_value (value_of self) (value_of other) }
+    {
+        self == other
+    }
+
+    /// Puts the value behind `text`, as it is printed.
+    pub fn write(self, text: &mut Text) -> Result<(), NoMemory>
+        ensures ok { OnOk result (text.new ≡ text.old ++ written (value_of self)) }
+        ensures err { OnErr result (text.new ≡ text.old) }
+    {
+        match self {
+            Value::Keyword(keyword) => text.push_str(keyword.text()),
+        }
+    }
+}
