@@ -3,4 +3,3 @@ pub mod Preprocess
 pub mod Reading
 pub mod Brackets
 pub mod Rules
-pub mod SelectorList

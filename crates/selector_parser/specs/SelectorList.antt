@@ -32,8 +32,8 @@ pub data AreWhite : List Token → Type 0 where
 
 -- One selector or more, with commas between them and white space round them.
 pub data SelectorList : List Token → Selectors → Type 0 where
-  last : (before tokens behind : List Token) (selector : Selector) → AreWhite before → SelectorOf tokens selector → AreWhite behind
-      → SelectorList (before ++ (tokens ++ behind)) (more selector no_more)
-  next : (before tokens behind : List Token) (separator : Token) (rest : List Token) (selector : Selector) (selectors : Selectors)
-      → AreWhite before → SelectorOf tokens selector → AreWhite behind → separator.kind ≡ comma → SelectorList rest selectors
-      → SelectorList (before ++ (tokens ++ (behind ++ separator ∷ rest))) (more selector selectors)
+  last : (tokens before own after : List Token) (selector : Selector) → tokens ≡ before ++ (own ++ after) → AreWhite before → SelectorOf own selector → AreWhite after
+      → SelectorList tokens (more selector no_more)
+  next : (tokens before own after : List Token) (separator : Token) (rest : List Token) (selector : Selector) (selectors : Selectors)
+      → tokens ≡ before ++ (own ++ (after ++ separator ∷ rest)) → AreWhite before → SelectorOf own selector → AreWhite after
+      → separator.kind ≡ comma → SelectorList rest selectors → SelectorList tokens (more selector selectors)
