@@ -1,2 +1,16 @@
-//! (being written)
+//! Tokens: the preprocessing of a text, and the tokens that it reads as (css-syntax-3, sections 3
+//! and 4).
+//!
+//! In this profile there are white space, hashes, identifiers, the marks `, : ; ( ) [ ] { }`, and
+//! every other character alone; there are no escapes.
 #![tactic(auto)]
+
+mod bracket;
+mod kind;
+mod token;
+mod token_list;
+
+pub use bracket::Bracket;
+pub use kind::Kind;
+pub use token::{Span, Token, name_of, value_of};
+pub use token_list::TokenList;

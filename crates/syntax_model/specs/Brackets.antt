@@ -56,11 +56,14 @@ closer_text square = 93
 closer_text round = 41
 closer_text curly = 125
 
--- the closers that the end of input adds; they stand in no span
+-- the closer that the end of input adds; it stands in no span
+abbrev pub closer : Bracket → Token
+closer bracket = record { kind = closer_kind bracket; spelling = closer_text bracket ∷ []; name = []; value = None; span = None }
+
+-- the closers of what is open
 abbrev pub closers : List Bracket → List Token
 closers [] = []
-closers (bracket ∷ pending) =
-    record { kind = closer_kind bracket; spelling = closer_text bracket ∷ []; name = []; value = None; span = None } ∷ closers pending
+closers (bracket ∷ pending) = closer bracket ∷ closers pending
 
 -- outside brackets no token is of a kind that passes
 abbrev pub AvoidsOutside : (Kind → Bool) → List Bracket → List Token → Type 0
