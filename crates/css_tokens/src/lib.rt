@@ -6,11 +6,21 @@
 #![tactic(auto)]
 
 mod bracket;
+mod characters;
+mod input;
 mod kind;
+pub mod laws;
+mod reading;
+mod scan;
+#[cfg(test)]
+mod tests;
 mod token;
 mod token_list;
+mod token_text;
 
 pub use bracket::Bracket;
+pub use input::preprocess;
 pub use kind::Kind;
+pub use reading::tokens;
 pub use token::{Span, Token, name_of, value_of};
 pub use token_list::TokenList;

@@ -1,11 +1,13 @@
 //! Tokens.
 
-ghost use Rattle.std.specs.Prelude.{◌≡◌, IfOk, None};
+ghost use Rattle.std.specs.Prelude.{◌≡◌, ◌+◌, ◌^◌, ◌<◌, IfOk, length};
 ghost use Rattle.std.specs.Option.{option_map};
 ghost use Rattle.syntax_model.specs.Brackets.{closer};
 ghost use Rattle.css_tokens.specs.Kinds.{bracket_of, kind_of};
-ghost use Rattle.css_tokens.specs.Seen.{span_of};
+ghost use Rattle.syntax_model.specs.Reading.{name_in, spelling_in, token_of};
+ghost use Rattle.css_tokens.specs.Seen.{span_of, spelling_by};
 
+use crate::token_text::name_in;
 use crate::{Bracket, Kind};
 use std::alloc::Global;
 use std::marker::Model;
@@ -41,6 +43,28 @@ impl Model for Token {
 }
 
 impl Token {
+    /// The token of a kind whose text begins at a place.
+    pub(crate) fn of_piece(
+        alloc: Global,
+        start: usize,
+        kind: Kind,
+        piece: &[char],
+    ) -> Result<Token, NoMemory>
+        requires fits { start + length piece.now < 2 ^ 64 }
+        requires spelled { spelling_by (kind_of kind) (name_in (kind_of kind) piece.now) ≡ spelling_in (kind_of kind) piece.now }
+        ensures { IfOk result (λ t. t ≡ token_of start (kind_of kind) piece.now) }
+    {
+        Ok(Token {
+            kind,
+            name: name_in(alloc, kind, piece)?,
+            value: None,
+            span: Some(Span {
+                start,
+                end: start + piece.len(),
+            }),
+        })
+    }
+
     /// The closer of a bracket that the end of input adds. It stands nowhere, and takes no memory.
     pub fn closer(alloc: Global, bracket: Bracket) -> Token
         ensures { result ≡ closer (bracket_of bracket) }

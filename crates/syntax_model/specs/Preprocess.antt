@@ -1,5 +1,6 @@
 -- Preprocessing of the input (css-syntax-3, section 3.3).
-use Rattle.std.specs.Prelude.{ℕ, ◌==◌, List, [], ◌∷◌, Bool, true, false, if◌then◌else◌}
+use Rattle.std.specs.Prelude.{ℕ, ◌==◌, List, [], ◌∷◌, Bool, true, false, not, ◌||◌, if◌then◌else◌}
+use Rattle.std.specs.List.{list_all}
 use Rattle.scene_model.specs.Element.{Characters}
 
 -- CR and FF become LF, and the LF of a CR LF goes; U+0000 becomes U+FFFD
@@ -10,3 +11,7 @@ preprocessed_behind is_behind_cr (c ∷ cs) =
 
 abbrev pub preprocessed : Characters → Characters
 preprocessed text = preprocessed_behind false text
+
+-- no CR, FF or U+0000 stands in the text
+abbrev pub is_preprocessed : Characters → Bool
+is_preprocessed text = list_all (λ c. not ((c == 13) || ((c == 12) || (c == 0)))) text
