@@ -14,22 +14,16 @@ pub enum Kind {
     Function,
     AtKeyword,
     /// `#` and a name; it may be used as an id where the name is an identifier.
-    Hash {
-        is_id: bool,
-    },
+    Hash { is_id: bool },
     String,
     BadString,
     Url,
     BadUrl,
     /// A character that is no other token.
     Delim(char),
-    Number {
-        is_integer: bool,
-    },
+    Number { is_integer: bool },
     Percentage,
-    Dimension {
-        is_integer: bool,
-    },
+    Dimension { is_integer: bool },
     /// A run of white space.
     Whitespace,
     /// `<!--`
