@@ -1,0 +1,7 @@
+pub mod BracketLemmas
+pub mod CutLemmas
+pub mod CutterLemmas
+pub mod DeclarationLemmas
+pub mod OneDeclarationList
+pub mod OneRuleList
+pub mod SheetLemmas

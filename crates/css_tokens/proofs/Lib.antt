@@ -1,0 +1,4 @@
+pub mod ScanLemmas
+pub mod CharacterLemmas
+pub mod InputLemmas
+pub mod ReadingLemmas

@@ -1,0 +1,40 @@
+-- The kinds and brackets of the code, as those of the definitions.
+use Rattle.syntax_model.specs.Token as model
+use Rattle.syntax_model.specs.Brackets as model_bracket
+use Rattle.css_tokens.specs.declared.kind.Kind.{Kind}
+use Rattle.css_tokens.specs.declared.kind.Kind.TheVariants.{Ident, Function, AtKeyword, Hash, String, BadString, Url, BadUrl, Delim, Number, Percentage, Dimension, Whitespace, Cdo, Cdc, Colon, Semicolon, Comma, OpenSquare, CloseSquare, OpenRound, CloseRound, OpenCurly, CloseCurly}
+use Rattle.css_tokens.specs.declared.bracket.Bracket.{Bracket}
+use Rattle.css_tokens.specs.declared.bracket.Bracket.TheVariants.{Square, Round, Curly}
+
+-- the kind that a `Kind` is
+abbrev pub kind_of : Kind → model.Kind
+kind_of Ident = model.ident
+kind_of Function = model.function
+kind_of AtKeyword = model.at_keyword
+kind_of (Hash is_id) = model.hash is_id
+kind_of String = model.string
+kind_of BadString = model.bad_string
+kind_of Url = model.url
+kind_of BadUrl = model.bad_url
+kind_of (Delim c) = model.delim c
+kind_of (Number is_integer) = model.number is_integer
+kind_of Percentage = model.percentage
+kind_of (Dimension is_integer) = model.dimension is_integer
+kind_of Whitespace = model.whitespace
+kind_of Cdo = model.cdo
+kind_of Cdc = model.cdc
+kind_of Colon = model.colon
+kind_of Semicolon = model.semicolon
+kind_of Comma = model.comma
+kind_of OpenSquare = model.open_square
+kind_of CloseSquare = model.close_square
+kind_of OpenRound = model.open_round
+kind_of CloseRound = model.close_round
+kind_of OpenCurly = model.open_curly
+kind_of CloseCurly = model.close_curly
+
+-- the bracket that a `Bracket` is
+abbrev pub bracket_of : Bracket → model_bracket.Bracket
+bracket_of Square = model_bracket.square
+bracket_of Round = model_bracket.round
+bracket_of Curly = model_bracket.curly

@@ -1,0 +1,5 @@
+pub mod Input
+pub mod Kinds
+pub mod Scan
+pub mod Seen
+pub mod Spans

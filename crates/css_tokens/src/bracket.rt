@@ -1,0 +1,28 @@
+//! Brackets.
+
+ghost use Rattle.std.specs.Prelude.{◌≡◌};
+ghost use Rattle.syntax_model.specs.Brackets.{closer_kind};
+ghost use Rattle.css_tokens.specs.Kinds.{bracket_of, kind_of};
+
+use crate::Kind;
+
+/// A bracket that some token opens and another closes.
+#[derive(Clone, Copy, Debug, PartialEq, Eq)]
+pub enum Bracket {
+    Square,
+    Round,
+    Curly,
+}
+
+impl Bracket {
+    /// The kind of the token that closes the bracket.
+    pub fn closer(self) -> Kind
+        ensures { kind_of result ≡ closer_kind (bracket_of self) }
+    {
+        match self {
+            Bracket::Square => Kind::CloseSquare,
+            Bracket::Round => Kind::CloseRound,
+            Bracket::Curly => Kind::CloseCurly,
+        }
+    }
+}

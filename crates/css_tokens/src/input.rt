@@ -1,0 +1,46 @@
+//! Preprocessing of the input.
+
+ghost use Rattle.std.specs.Prelude.{◌≡◌, ◌++◌, IfOk, OnOk, true};
+ghost use Rattle.std.specs.Str.{chars};
+ghost use Rattle.std.specs.String.{string_bytes};
+ghost use Rattle.syntax_model.specs.Preprocess.{is_preprocessed, preprocessed};
+ghost use Rattle.css_tokens.specs.Input.{given_by, replaced};
+
+use crate::characters::push_character;
+use std::alloc::{AllocError, Global};
+use stylo_base::NoMemory;
+
+/// The text with CR LF, CR and FF as LF, and with U+FFFD for U+0000 (css-syntax-3, section 3.3).
+pub fn preprocess(alloc: Global, text: &str) -> Result<String, NoMemory>
+    ensures text { IfOk result (λ s. chars (string_bytes s) ≡ preprocessed (chars text.now)) }
+    ensures ready { IfOk result (λ s. is_preprocessed (chars (string_bytes s)) ≡ true) }
+{
+    let mut out = String::with_capacity(alloc, text.len())?;
+    let mut is_behind_cr = false;
+    for c in text.chars() {
+        push_given(&mut out, is_behind_cr, c)?;
+        is_behind_cr = c == '\r';
+    }
+    Ok(out)
+}
+
+// Puts what a character gives behind the text.
+fn push_given(out: &mut String, is_behind_cr: bool, c: char) -> Result<(), AllocError>
+    ensures { OnOk result (chars (string_bytes out.new) ≡ chars (string_bytes out.old) ++ given_by is_behind_cr c) }
+{
+    if c == '\n' && is_behind_cr {
+        return Ok(());
+    }
+    push_character(out, replaced(c))
+}
+
+// The character that stands for one, wherever it stays.
+fn replaced(c: char) -> char
+    ensures { result ≡ replaced c }
+{
+    match c {
+        '\r' | '\u{c}' => '\n',
+        '\0' => '\u{fffd}',
+        _ => c,
+    }
+}

@@ -1,0 +1,68 @@
+//! The kinds of tokens.
+
+ghost use Rattle.std.specs.Prelude.{◌≡◌};
+ghost use Rattle.std.specs.Option.{option_map};
+ghost use Rattle.syntax_model.specs.Brackets.{closed_by, opened_by};
+ghost use Rattle.css_tokens.specs.Kinds.{bracket_of, kind_of};
+
+use crate::Bracket;
+
+/// The kind of a token.
+#[derive(Clone, Copy, Debug, PartialEq, Eq)]
+pub enum Kind {
+    Ident,
+    Function,
+    AtKeyword,
+    /// `#` and a name; it may be used as an id where the name is an identifier.
+    Hash { is_id: bool },
+    String,
+    BadString,
+    Url,
+    BadUrl,
+    /// A character that is no other token.
+    Delim(char),
+    Number { is_integer: bool },
+    Percentage,
+    Dimension { is_integer: bool },
+    /// A run of white space.
+    Whitespace,
+    /// `<!--`
+    Cdo,
+    /// `-->`
+    Cdc,
+    Colon,
+    Semicolon,
+    Comma,
+    OpenSquare,
+    CloseSquare,
+    OpenRound,
+    CloseRound,
+    OpenCurly,
+    CloseCurly,
+}
+
+impl Kind {
+    /// The bracket that a token of the kind opens; a function opens a round one too.
+    pub fn opens(self) -> Option<Bracket>
+        ensures { option_map bracket_of result ≡ opened_by (kind_of self) }
+    {
+        match self {
+            Kind::OpenSquare => Some(Bracket::Square),
+            Kind::OpenRound | Kind::Function => Some(Bracket::Round),
+            Kind::OpenCurly => Some(Bracket::Curly),
+            _ => None,
+        }
+    }
+
+    /// The bracket that a token of the kind closes, where it is open.
+    pub fn closes(self) -> Option<Bracket>
+        ensures { option_map bracket_of result ≡ closed_by (kind_of self) }
+    {
+        match self {
+            Kind::CloseSquare => Some(Bracket::Square),
+            Kind::CloseRound => Some(Bracket::Round),
+            Kind::CloseCurly => Some(Bracket::Curly),
+            _ => None,
+        }
+    }
+}
