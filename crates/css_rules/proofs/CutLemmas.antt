@@ -1,8 +1,8 @@
-use Rattle.std.proofs.Common.{◌≡◌, ◌≢◌, ℕ, Bool, true, false, List, [], ◌∷◌, ◌++◌, refl, sym, ap, ◌∙◌, subst, append_assoc, append-nil}
+use Rattle.std.proofs.Common.{◌≡◌, ◌≢◌, true, false, List, [], ◌∷◌, ◌++◌, refl, sym, ap, ◌∙◌, append_assoc, append-nil}
 use Rattle.syntax_model.specs.Token.{Token, open_curly}
-use Rattle.syntax_model.specs.Brackets.{Bracket, curly, AvoidsOutside, StaysOpen, closers, open_after, open_behind}
+use Rattle.syntax_model.specs.Brackets.{Bracket, curly, AvoidsOutside, closers, open_after, open_behind}
 use Rattle.syntax_model.specs.Rules.{Rule, SheetRules, all_but_last, begins_with, drop_last, is_open_curly, is_white, keep, keep_last, no_rule, skip_white}
-use Rattle.css_rules.specs.Cut.{IsInBlock, IsInPrelude, IsPrelude}
+use Rattle.css_rules.specs.Cut.{IsInBlock, IsInPrelude}
 use Rattle.css_rules.proofs.BracketLemmas.{avoids-push, open_after-push, stays-push}
 
 -- white space between rules is skipped

@@ -1,9 +1,9 @@
-use Rattle.std.proofs.Common.{◌≡◌, ◌≢◌, ℕ, zero, suc, ◌+◌, ◌<◌, Bool, true, false, cond, ◌||◌, List, [], ◌∷◌, ◌++◌, length, get_or, take, drop, reverse, Option, Some, None, refl, sym, ap, ◌∙◌, arith, append_assoc, append-nil, take-append-drop}
+use Rattle.std.proofs.Common.{◌≡◌, ◌≢◌, ℕ, zero, suc, ◌+◌, ◌<◌, Bool, true, false, cond, List, [], ◌∷◌, ◌++◌, length, get_or, take, drop, reverse, Some, None, refl, sym, ap, ◌∙◌, arith, append_assoc, append-nil, take-append-drop}
 use Rattle.std.specs.Option.{option_to_list}
 use Rattle.std.proofs.lemmas.Bool.{cond-false, cond-true, false_from_ne_true, false≢true, or_parts}
 use Rattle.std.proofs.lemmas.List.{length-take-le, nil_from_length, take_more}
 use Rattle.scene_model.specs.Element.{Characters}
-use Rattle.syntax_model.specs.Token.{Token, Kind}
+use Rattle.syntax_model.specs.Token.{Token}
 use Rattle.syntax_model.specs.Brackets.{AvoidsOutside, Bracket, closers, curly, open_after, open_behind, round, square}
 use Rattle.syntax_model.specs.Rules.{Declaration, Declarations, EndsPiece, begins_with, declaration_in, is_between, is_colon, is_ident, is_semicolon, is_white, no_declaration, skip_between, take_piece, trimmed, value_behind, without_white}
 use Rattle.css_rules.specs.Piece.{IsFirstPiece}

@@ -1,7 +1,7 @@
-use Rattle.std.proofs.Common.{◌≡◌, ◌≢◌, Bool, true, false, List, [], ◌∷◌, ◌++◌, refl, sym, ap, ◌∙◌}
+use Rattle.std.proofs.Common.{◌≡◌, ◌≢◌, true, false, List, [], ◌∷◌, ◌++◌, refl, sym, ap, ◌∙◌}
 use Rattle.std.specs.Option.{option_to_list}
 use Rattle.std.proofs.lemmas.Bool.{false≢true}
-use Rattle.syntax_model.specs.Token.{Token, Kind}
+use Rattle.syntax_model.specs.Token.{Token}
 use Rattle.syntax_model.specs.Brackets.{AvoidsOutside, Bracket, closers, open_after, open_behind}
 use Rattle.syntax_model.specs.Rules.{Declaration, Declarations, EndsPiece, begins_with, declaration_in, is_between, is_semicolon, no_declaration, skip_between, take_piece}
 

@@ -1,6 +1,6 @@
 use Rattle.std.proofs.Common.{◌≡◌, ◌≢◌, Bool, true, false, cond, ◌&&◌, List, [], ◌∷◌, ◌++◌, refl, sym, ap, ◌∙◌, append_assoc, append-nil}
 use Rattle.std.proofs.lemmas.Bool.{and_from, and_left, and_right, cond-false, cond-true}
-use Rattle.syntax_model.specs.Token.{Token, Kind, open_curly}
+use Rattle.syntax_model.specs.Token.{Token, open_curly}
 use Rattle.syntax_model.specs.Brackets.{AvoidsOutside, Bracket, StaysOpen, closers, curly, open_after, open_behind}
 use Rattle.syntax_model.specs.Rules.{Rule, SheetRules, all_but_last, begins_with, drop_last, is_open_curly, is_white, keep, keep_last, no_rule, skip_white}
 

@@ -1,5 +1,5 @@
 -- What was read of a sheet, after some of its tokens.
-use Rattle.std.specs.Prelude.{◌≡◌, Bool, false, List, [], ◌∷◌, ◌++◌}
+use Rattle.std.specs.Prelude.{◌≡◌, false, List, [], ◌∷◌, ◌++◌}
 use Rattle.syntax_model.specs.Token.{Token, open_curly}
 use Rattle.syntax_model.specs.Brackets.{Bracket, curly, open_after, AvoidsOutside, StaysOpen}
 use Rattle.syntax_model.specs.Rules.{Rule, SheetRules, begins_with, is_open_curly, is_white}
@@ -7,6 +7,10 @@ use Rattle.css_rules.specs.Parts.{rules_of}
 use Rattle.css_rules.specs.declared.cutter.Cutter.{Cutter}
 use Rattle.css_rules.specs.declared.cutter.Place.{Place}
 use Rattle.css_rules.specs.declared.cutter.Place.TheVariants as place
+
+-- the rules, and one more behind them
+abbrev pub with_rule : List Rule → List Token → List Token → List Rule
+with_rule rules prelude block = rules ++ record { prelude = prelude; block = block } ∷ []
 
 -- a prelude so far, outside blocks, with the brackets that are open behind it
 pub record IsPrelude (prelude : List Token) (pending : List Bracket) : Type 0 where

@@ -4,7 +4,7 @@ ghost use Rattle.std.specs.Prelude.{◌≡◌, ◌++◌, ◌∷◌, ◌↔◌, [
 ghost use Rattle.syntax_model.specs.Rules.{SheetRules, all_but_last, is_open_curly, is_white};
 ghost use Rattle.syntax_model.specs.Brackets.{closers};
 ghost use Rattle.syntax_model.specs.Token as model;
-ghost use Rattle.css_rules.specs.Cut.{IsCut};
+ghost use Rattle.css_rules.specs.Cut.{IsCut, with_rule};
 ghost use Rattle.css_rules.specs.Parts.{rules_of};
 
 use crate::Rule;
@@ -50,7 +50,8 @@ impl Cutter {
 
     /// Goes past the next token.
     pub fn take(&mut self, alloc: Global, token: Token) -> Result<(), NoMemory>
-        ensures { (seen : List model.Token) → IsCut seen self.old → OnOk result (IsCut (seen ++ token ∷ []) self.new) }
+        ensures { (seen : List model.Token)
+            → IsCut seen self.old → OnOk result (IsCut (seen ++ token ∷ []) self.new) }
     {
         match self.place {
             Place::Prelude => self.take_in_prelude(token),
@@ -60,7 +61,8 @@ impl Cutter {
 
     fn take_in_prelude(&mut self, token: Token) -> Result<(), NoMemory>
         requires { self.old.place ≡ Place.Prelude }
-        ensures { (seen : List model.Token) → IsCut seen self.old → OnOk result (IsCut (seen ++ token ∷ []) self.new) }
+        ensures { (seen : List model.Token)
+            → IsCut seen self.old → OnOk result (IsCut (seen ++ token ∷ []) self.new) }
     {
         if self.skips(&token) {
             return Ok(());
@@ -77,21 +79,24 @@ impl Cutter {
 
     // White space between rules is skipped.
     fn skips(&self, token: &Token) -> bool
-        ensures { IsTrue result ↔ ((self.now.prelude.items ≡ []) × (is_white token.now.kind ≡ true)) }
+        ensures { IsTrue result
+            ↔ ((self.now.prelude.items ≡ []) × (is_white token.now.kind ≡ true)) }
     {
         self.prelude.is_empty() && is_white(token)
     }
 
     // Outside brackets a curly bracket opens the block.
     fn opens_block(&self, token: &Token) -> bool
-        ensures { IsTrue result ↔ ((self.now.pending ≡ []) × (is_open_curly token.now.kind ≡ true)) }
+        ensures { IsTrue result
+            ↔ ((self.now.pending ≡ []) × (is_open_curly token.now.kind ≡ true)) }
     {
         self.pending.is_empty() && is_open_curly(token)
     }
 
     fn take_in_block(&mut self, alloc: Global, token: Token) -> Result<(), NoMemory>
         requires { self.old.place ≡ Place.Block }
-        ensures { (seen : List model.Token) → IsCut seen self.old → OnOk result (IsCut (seen ++ token ∷ []) self.new) }
+        ensures { (seen : List model.Token)
+            → IsCut seen self.old → OnOk result (IsCut (seen ++ token ∷ []) self.new) }
     {
         self.pending.pass(&token)?;
         if self.pending.is_empty() {
@@ -105,7 +110,8 @@ impl Cutter {
 
     // Puts the rule of the prelude and the block behind the others.
     fn end_rule(&mut self, alloc: Global) -> Result<(), NoMemory>
-        ensures rules { OnOk result (rules_of self.new.rules.items ≡ rules_of self.old.rules.items ++ record { prelude = self.old.prelude.items; block = self.old.block.items } ∷ []) }
+        ensures rules { OnOk result (rules_of self.new.rules.items
+            ≡ with_rule (rules_of self.old.rules.items) self.old.prelude.items self.old.block.items) }
         ensures prelude { OnOk result (self.new.prelude.items ≡ []) }
         ensures block { OnOk result (self.new.block.items ≡ []) }
         ensures pending { OnOk result (self.new.pending ≡ self.old.pending) }
@@ -122,7 +128,8 @@ impl Cutter {
 
     /// The rules, where the sheet ends here.
     pub fn finish(self, alloc: Global) -> Result<Vec<Rule>, NoMemory>
-        ensures { (seen : List model.Token) → IsCut seen self → IfOk result (λ rules. SheetRules seen (rules_of rules.items)) }
+        ensures { (seen : List model.Token)
+            → IsCut seen self → IfOk result (λ rules. SheetRules seen (rules_of rules.items)) }
     {
         match self.place {
             Place::Prelude => Ok(self.rules),
@@ -132,7 +139,8 @@ impl Cutter {
 
     // The rules with the one whose block the sheet's end closes.
     fn close_block(mut self, alloc: Global) -> Result<Vec<Rule>, NoMemory>
-        ensures { IfOk result (λ rules. rules_of rules.items ≡ rules_of self.rules.items ++ record { prelude = self.prelude.items; block = self.block.items ++ closers (all_but_last self.pending) } ∷ []) }
+        ensures { IfOk result (λ rules. rules_of rules.items
+            ≡ with_rule (rules_of self.rules.items) self.prelude.items (self.block.items ++ closers (all_but_last self.pending))) }
     {
         let mut pending = mem::replace(&mut self.pending, Pending::new(alloc));
         pending.leave_outermost();

@@ -20,7 +20,8 @@ use stylo_base::NoMemory;
 pub fn declaration_list(alloc: Global, tokens: &[Token]) -> Result<Vec<RawDecl>, NoMemory>
     ensures cut { IfOk result (λ list. model.Declarations tokens.now (declarations_of list.items)) }
     // No other list of declarations is a cut of the tokens.
-    ensures only { IfOk result (λ list. (others : List model.Declaration) → model.Declarations tokens.now others → others ≡ declarations_of list.items) }
+    ensures only { IfOk result (λ list. (others : List model.Declaration)
+        → model.Declarations tokens.now others → others ≡ declarations_of list.items) }
 {
     let mut list = Vec::new(alloc);
     let mut rest = tokens;
@@ -44,7 +45,8 @@ fn put_declaration(
     piece: &[Token],
     pending: Pending,
 ) -> Result<(), NoMemory>
-    ensures { OnOk result (declarations_of list.new.items ≡ declarations_of list.old.items ++ option_to_list (model.declaration_in (piece.now ++ closers pending))) }
+    ensures { OnOk result (declarations_of list.new.items
+        ≡ declarations_of list.old.items ++ option_to_list (model.declaration_in (piece.now ++ closers pending))) }
 {
     if let Some(declaration) = declaration_in(alloc, piece, pending)? {
         list.push(declaration)?;
@@ -58,7 +60,8 @@ fn declaration_in(
     piece: &[Token],
     pending: Pending,
 ) -> Result<Option<RawDecl>, NoMemory>
-    ensures { IfOk result (λ found. option_map declaration_of found ≡ model.declaration_in (piece.now ++ closers pending)) }
+    ensures { IfOk result (λ found.
+        option_map declaration_of found ≡ model.declaration_in (piece.now ++ closers pending)) }
 {
     let Some((name, rest)) = piece.split_first() else {
         return Ok(None);

@@ -7,6 +7,7 @@
 mod cutter;
 mod declarations;
 mod kinds;
+pub mod laws;
 mod pending;
 mod piece;
 mod rule;

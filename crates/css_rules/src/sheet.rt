@@ -17,7 +17,8 @@ use stylo_base::NoMemory;
 pub fn sheet_rules(alloc: Global, text: &str) -> Result<Vec<Rule>, NoMemory>
     ensures cut { IfOk result (λ rules. AreRulesOf (chars text.now) (rules_of rules.items)) }
     // No other list of rules is the text's.
-    ensures only { IfOk result (λ rules. (others : List model.Rule) → AreRulesOf (chars text.now) others → others ≡ rules_of rules.items) }
+    ensures only { IfOk result (λ rules. (others : List model.Rule)
+        → AreRulesOf (chars text.now) others → others ≡ rules_of rules.items) }
 {
     let text = preprocess(alloc, text)?;
     let list = tokens(alloc, text.as_str())?;

@@ -1,9 +1,9 @@
-use Rattle.std.proofs.Common.{◌≡◌, ℕ, ◌+◌, ◌<◌, ◌≤◌, Bool, true, false, eqb, List, [], ◌∷◌, ◌++◌, length, get_or, drop, refl, sym, ap, ◌∙◌, arith, append_assoc, append-nil}
+use Rattle.std.proofs.Common.{◌≡◌, ℕ, ◌+◌, ◌<◌, Bool, true, false, eqb, [], ◌∷◌, ◌++◌, length, get_or, drop, refl, sym, ap, ◌∙◌, arith, append_assoc, append-nil}
 use Rattle.std.proofs.lemmas.Bool.Decides.{nat_tests}
 use Rattle.std.proofs.lemmas.List.{drop_all, drop_more}
 use Rattle.scene_model.specs.Element.{Characters}
 use Rattle.syntax_model.specs.Preprocess.{preprocessed_behind, preprocessed, is_preprocessed}
-use Rattle.css_tokens.specs.Input.{given_by, replaced}
+use Rattle.css_tokens.specs.Input.{given_by}
 
 -- one character on
 preprocessed-cons : (b : Bool) (c : ℕ) (cs : Characters) → preprocessed_behind b (c ∷ cs) ≡ given_by b c ++ preprocessed_behind (eqb c 13) cs

@@ -1,10 +1,9 @@
-use Rattle.std.proofs.Common.{◌≡◌, ℕ, suc, ◌+◌, ◌<◌, ◌≤◌, Bool, true, false, cond, List, [], ◌∷◌, length, take, drop, refl, sym, ap, ◌∙◌, arith, eqb, inl, inr, ◌&&◌}
+use Rattle.std.proofs.Common.{◌≡◌, ℕ, ◌+◌, ◌≤◌, Bool, true, false, [], ◌∷◌, length, take, drop, refl, arith, eqb, inl, inr, ◌&&◌}
 use Rattle.std.specs.List.{prefix_len}
 use Rattle.std.proofs.Math.Numerals.{one-add}
 use Rattle.std.proofs.lemmas.Bool.{cond_both, cond-true, cond-false, and_parts, or_cases, or_left, or_right, eqb-true}
 use Rattle.scene_model.specs.Element.{Characters}
-use Rattle.syntax_model.specs.Token.{Kind, whitespace, hash, ident}
-use Rattle.syntax_model.specs.Reading.{IsRun, IsPiece, begins, is_blank, is_digit, is_name_char, is_name_start, kind_at, mark_kind, starts_ident}
+use Rattle.syntax_model.specs.Reading.{IsRun, begins, is_blank, is_digit, is_name_char, is_name_start, starts_ident}
 use Rattle.css_tokens.specs.Scan.{IsFirstPiece}
 
 -- one more character that passes, before a run

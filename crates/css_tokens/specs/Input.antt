@@ -1,5 +1,5 @@
 -- Preprocessing, character by character.
-use Rattle.std.specs.Prelude.{ℕ, ◌==◌, List, [], ◌∷◌, Bool, ◌&&◌, if◌then◌else◌}
+use Rattle.std.specs.Prelude.{ℕ, ◌==◌, [], ◌∷◌, Bool, ◌&&◌, if◌then◌else◌}
 use Rattle.scene_model.specs.Element.{Characters}
 
 -- the character that stands for one, wherever it stays

@@ -1,5 +1,5 @@
 -- What a token of the code says, by its parts.
-use Rattle.std.specs.Prelude.{ℕ, ℤ, List, [], ◌∷◌, Option}
+use Rattle.std.specs.Prelude.{ℤ, [], ◌∷◌, Option}
 use Rattle.scene_model.specs.Element.{Characters}
 use Rattle.syntax_model.specs.Token as model
 use Rattle.css_tokens.specs.declared.token.Span.{Span}

@@ -16,7 +16,8 @@ pub fn characters_of(alloc: Global, text: &str) -> Result<Vec<char>, AllocError>
 
 /// Puts a character behind a text.
 pub fn push_character(text: &mut String, c: char) -> Result<(), AllocError>
-    ensures { OnOk result (chars (string_bytes text.new) ≡ chars (string_bytes text.old) ++ c ∷ []) }
+    ensures { OnOk result
+        (chars (string_bytes text.new) ≡ chars (string_bytes text.old) ++ c ∷ []) }
 {
     text.push(c)?;
     Ok(())
@@ -26,7 +27,7 @@ pub fn push_character(text: &mut String, c: char) -> Result<(), AllocError>
 pub fn text_of(alloc: Global, characters: &[char]) -> Result<Text, NoMemory>
     ensures { IfOk result (λ text. text ≡ characters.now) }
 {
-    let mut text = String::new(alloc);
+    let mut text = String::with_capacity(alloc, characters.len())?;
     for c in characters {
         push_character(&mut text, *c)?;
     }

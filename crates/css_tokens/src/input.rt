@@ -1,6 +1,6 @@
 //! Preprocessing of the input.
 
-ghost use Rattle.std.specs.Prelude.{◌≡◌, ◌++◌, IfOk, OnOk, true};
+ghost use Rattle.std.specs.Prelude.{◌≡◌, ◌++◌, IfOk, IsTrue, OnOk};
 ghost use Rattle.std.specs.Str.{chars};
 ghost use Rattle.std.specs.String.{string_bytes};
 ghost use Rattle.syntax_model.specs.Preprocess.{is_preprocessed, preprocessed};
@@ -13,7 +13,7 @@ use stylo_base::NoMemory;
 /// The text with CR LF, CR and FF as LF, and with U+FFFD for U+0000 (css-syntax-3, section 3.3).
 pub fn preprocess(alloc: Global, text: &str) -> Result<String, NoMemory>
     ensures text { IfOk result (λ s. chars (string_bytes s) ≡ preprocessed (chars text.now)) }
-    ensures ready { IfOk result (λ s. is_preprocessed (chars (string_bytes s)) ≡ true) }
+    ensures ready { IfOk result (λ s. IsTrue (is_preprocessed (chars (string_bytes s)))) }
 {
     let mut out = String::with_capacity(alloc, text.len())?;
     let mut is_behind_cr = false;
@@ -26,7 +26,8 @@ pub fn preprocess(alloc: Global, text: &str) -> Result<String, NoMemory>
 
 // Puts what a character gives behind the text.
 fn push_given(out: &mut String, is_behind_cr: bool, c: char) -> Result<(), AllocError>
-    ensures { OnOk result (chars (string_bytes out.new) ≡ chars (string_bytes out.old) ++ given_by is_behind_cr c) }
+    ensures { OnOk result
+        (chars (string_bytes out.new) ≡ chars (string_bytes out.old) ++ given_by is_behind_cr c) }
 {
     if c == '\n' && is_behind_cr {
         return Ok(());

@@ -8,10 +8,12 @@ ghost use Rattle.css_tokens.specs.Spans.{StandInOrder};
 
 /// A text has at most one reading.
 pub fn one_reading()
-    ensures { (text : Characters) (tokens others : List model.Token) → Reading text tokens → Reading text others → others ≡ tokens }
+    ensures { (text : Characters) (tokens others : List model.Token)
+        → Reading text tokens → Reading text others → others ≡ tokens }
 {}
 
 /// The texts of the tokens of a reading stand one behind another in the text, and fill it.
 pub fn in_order()
-    ensures { (text : Characters) (tokens : List model.Token) → Reading text tokens → StandInOrder 0 text tokens }
+    ensures { (text : Characters) (tokens : List model.Token)
+        → Reading text tokens → StandInOrder 0 text tokens }
 {}

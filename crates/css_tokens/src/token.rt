@@ -51,7 +51,8 @@ impl Token {
         piece: &[char],
     ) -> Result<Token, NoMemory>
         requires fits { start + length piece.now < 2 ^ 64 }
-        requires spelled { spelling_by (kind_of kind) (name_in (kind_of kind) piece.now) ≡ spelling_in (kind_of kind) piece.now }
+        requires spelled { spelling_by (kind_of kind) (name_in (kind_of kind) piece.now)
+            ≡ spelling_in (kind_of kind) piece.now }
         ensures { IfOk result (λ t. t ≡ token_of start (kind_of kind) piece.now) }
     {
         Ok(Token {

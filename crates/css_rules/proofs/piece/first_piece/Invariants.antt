@@ -1,4 +1,4 @@
-use Rattle.std.proofs.Common.{[], take}
+use Rattle.std.proofs.Common.{take}
 use Rattle.css_rules.proofs.DeclarationLemmas.{IsPieceSoFar}
 use Rattle.css_rules.proofs.piece.first_piece.Given as goal
 
