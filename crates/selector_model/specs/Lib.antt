@@ -1,0 +1,4 @@
+pub mod Selector
+pub mod Comparisons
+pub mod Holds
+pub mod Specificity

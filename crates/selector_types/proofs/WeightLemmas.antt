@@ -1,0 +1,71 @@
+-- A selector counts no more than its tests.
+use Rattle.std.proofs.Common.{◌≡◌, ℕ, ◌+◌, ◌≤◌, ◌<◌, Bool, true, false, cond, sym, ap, ◌∙◌, arith}
+use Rattle.selector_model.specs.Selector.{Simple, of_type, has_id, of_class, has_attribute, compares, is_root, is_empty, at_places, is_only, in_state, Combinator, Selector, subject, behind, Compound, any, with_test, Test, simple, matches_any, matches_where, matches_none, Selectors, no_more, more}
+use Rattle.selector_model.specs.Specificity.{Specificity, nothing, plus, is_less, greater, specificity_of_simple, specificity_of, specificity_of_compound, specificity_of_test, greatest}
+use Rattle.selector_types.specs.Counts.{total, test_count, tests_in, tests_of, tests_among}
+
+same_counts : (a b : Specificity) → a.ids ≡ b.ids → a.classes ≡ b.classes → a.types ≡ b.types → a ≡ b
+same_counts a b h k l = λ i. record { ids = h i; classes = k i; types = l i }
+
+pub plus_assoc : (a b c : Specificity) → plus (plus a b) c ≡ plus a (plus b c)
+plus_assoc a b c =
+    same_counts _ _ (omega arith) (omega arith) (omega arith)
+
+chosen : (a b : Specificity) (less : Bool) → total (cond less b a) ≤ total a + total b
+chosen a b true = omega arith
+chosen a b false = omega arith
+
+total_greater : (a b : Specificity) → total (greater a b) ≤ total a + total b
+total_greater a b = chosen a b (is_less a b)
+
+total_simple : (test : Simple) → total (specificity_of_simple test) ≤ 1
+total_simple (of_type tag) = omega arith
+total_simple (has_id name) = omega arith
+total_simple (of_class class) = omega arith
+total_simple (has_attribute name) = omega arith
+total_simple (compares name comparison value case_counts) = omega arith
+total_simple is_root = omega arith
+total_simple is_empty = omega arith
+total_simple (at_places places) = omega arith
+total_simple (is_only by_type) = omega arith
+total_simple (in_state state) = omega arith
+
+mutual
+  pub total_selector : (selector : Selector) → total (specificity_of selector) ≤ test_count selector
+  total_selector (subject compound) = total_compound compound
+  total_selector (behind compound combinator rest) = omega (arith, total_compound compound, total_selector rest)
+
+  pub total_compound : (compound : Compound) → total (specificity_of_compound compound) ≤ tests_in compound
+  total_compound any = omega arith
+  total_compound (with_test test rest) = omega (arith, total_test test, total_compound rest)
+
+  pub total_test : (test : Test) → total (specificity_of_test test) ≤ tests_of test
+  total_test (simple test) = total_simple test
+  total_test (matches_any selectors) = omega (arith, total_greatest nothing selectors)
+  total_test (matches_where selectors) = omega arith
+  total_test (matches_none selectors) = omega (arith, total_greatest nothing selectors)
+
+  pub total_greatest : (best : Specificity) (selectors : Selectors) → total (greatest best selectors) ≤ total best + tests_among selectors
+  total_greatest best no_more = omega arith
+  total_greatest best (more selector rest) =
+      omega (arith, total_greatest (greater best (specificity_of selector)) rest, total_greater best (specificity_of selector), total_selector selector)
+
+-- the steps of the code
+
+pub fits_behind : (whole : Selector) (compound : Compound) (combinator : Combinator) (rest : Selector) (a b : Specificity) (m : ℕ) → whole ≡ behind compound combinator rest → a ≡ specificity_of_compound compound → b ≡ specificity_of rest → test_count whole < m → total a + total b < m
+fits_behind whole compound combinator rest a b m e f g h =
+    omega (arith, ap test_count e, ap total f, ap total g, total_compound compound, total_selector rest)
+
+pub fits_test : (left rest : Compound) (test : Test) (sum a : Specificity) (m : ℕ) → left ≡ with_test test rest → a ≡ specificity_of_test test → total sum + tests_in left < m → total sum + total a < m
+fits_test left rest test sum a m e f h = omega (arith, ap tests_in e, ap total f, total_test test)
+
+pub record IsSumSoFar (sum : Specificity) (left whole : Compound) (m : ℕ) : Type 0 where
+  pub sum_is : plus sum (specificity_of_compound left) ≡ specificity_of_compound whole
+  pub fits : total sum + tests_in left < m
+
+pub sum_more : (whole left rest : Compound) (test : Test) (sum a new : Specificity) (m : ℕ) → left ≡ with_test test rest → a ≡ specificity_of_test test → new ≡ plus sum a → IsSumSoFar sum left whole m → IsSumSoFar new rest whole m
+sum_more whole left rest test sum a new m e f g h = record {
+  sum_is =
+      ap (λ n. plus n (specificity_of_compound rest)) g ∙ (plus_assoc sum a (specificity_of_compound rest) ∙ (ap (λ x. plus sum (plus x (specificity_of_compound rest))) f ∙ (ap (λ l. plus sum (specificity_of_compound l)) (sym e) ∙ h.sum_is)));
+  fits = omega (arith, h.fits, ap tests_in e, ap total f, ap total g, total_test test);
+}

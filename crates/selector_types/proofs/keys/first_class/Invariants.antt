@@ -1,0 +1,8 @@
+use Rattle.std.proofs.Common.{◌≡◌, map, drop}
+use Rattle.selector_model.specs.Specificity.{first_in, class_in}
+use Rattle.selector_types.specs.Selectors.{test_of, tested, compound_of}
+use Rattle.selector_types.proofs.keys.first_class.Given as goal
+
+-- what is left decides
+abbrev pub invariant-loop-test : goal.invariant-loop-test
+invariant-loop-test l = first_in class_in (tested (map test_of (drop l.test-index l.test-items))) ≡ first_in class_in (compound_of l.compound)

@@ -1,0 +1,5 @@
+pub mod Counts
+pub mod Keys
+pub mod Outer
+pub mod Selectors
+pub mod Simples

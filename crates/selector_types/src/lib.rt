@@ -1,0 +1,17 @@
+//! Selectors as data, how specific they are, and the key by which their rules are found.
+#![tactic(auto)]
+
+mod complex;
+mod keys;
+mod selector;
+mod simple;
+mod specific;
+#[cfg(test)]
+mod tests;
+pub mod weight;
+
+pub use complex::{Combinator, Complex, Compound, Left, Test};
+pub use keys::{Key, key_of};
+pub use selector::Selector;
+pub use simple::{AnB, Comparison, Places, Simple};
+pub use specific::Specificity;

@@ -1,0 +1,59 @@
+//! A selector with what is asked of it most: its key and how specific it is.
+
+ghost use Rattle.std.specs.Prelude.{◌≡◌};
+ghost use Rattle.selector_model.specs.Specificity.{key_of, specificity_of};
+ghost use Rattle.selector_types.specs.Keys.{key_seen};
+ghost use Rattle.selector_types.specs.Selectors.{complex_of};
+
+use crate::{Complex, Key, Specificity, weight};
+use std::alloc::Global;
+use stylo_base::NoMemory;
+
+/// A selector of a rule.
+#[derive(Drop)]
+pub struct Selector {
+    complex: Complex,
+    key: Key,
+    specificity: Specificity,
+    ghost keyed: { key_seen key ≡ key_of (complex_of complex) },
+    ghost weighed: { specificity ≡ specificity_of (complex_of complex) },
+}
+
+impl Selector {
+    ghost use Rattle.std.specs.Prelude.{◌<◌, ◌^◌, IfOk};
+    ghost use Rattle.selector_types.specs.Counts.{test_count};
+    ghost use Rattle.selector_types.specs.Outer.{selector_of};
+
+    /// The selector of these compounds. There are fewer than 2^64 tests in it.
+    pub fn new(alloc: Global, complex: Complex) -> Result<Selector, NoMemory>
+        requires { test_count (complex_of complex) < 2 ^ 64 }
+        ensures { IfOk result (λ selector. selector_of selector ≡ complex_of complex) }
+    {
+        let key = Key::of_compound(alloc, &complex.subject)?;
+        let specificity = weight::of_complex(&complex);
+        Ok(Selector {
+            complex,
+            key,
+            specificity,
+        })
+    }
+
+    /// Its compounds.
+    pub fn complex(&self) -> &Complex
+        ensures { complex_of result.now ≡ selector_of self.now }
+    {
+        &self.complex
+    }
+
+    pub(crate) fn key(&self) -> &Key
+        ensures { key_seen result.now ≡ key_of (selector_of self.now) }
+    {
+        &self.key
+    }
+
+    pub(crate) fn specificity(&self) -> Specificity
+        ensures { result ≡ specificity_of (selector_of self.now) }
+    {
+        self.specificity
+    }
+}
