@@ -1,25 +1,68 @@
--- The definitions computed on a small document.
+-- The definitions computed on a small document: `html` over `i` and `p`, and the sheet
+-- `i{color:red} p{color:red} i{color:blue;display:block} *{visibility:hidden;color:lime}`.
 use Rattle.std.proofs.Common.{◌≡◌, ℕ, List, [], ◌∷◌, Option, Some, None, refl, true, false}
 use Rattle.std.specs.Prelude.{codes}
 use Rattle.std.specs.FinMap as map
-use Rattle.scene_model.specs.Element.{Element, States}
+use Rattle.scene_model.specs.Element.{Element, States, Characters}
 use Rattle.scene_model.specs.Ancestors.{ancestors}
-use Rattle.cascade_model.specs.Value.{keyword}
+use Rattle.selector_model.specs.Selector.{Selector, subject, any, with_test, Simple, of_type, simple, more, no_more}
+use Rattle.value_model.specs.Color.{opaque}
+use Rattle.value_model.specs.Value.{Value, keyword, color}
+use Rattle.value_model.specs.Table.{table}
+use Rattle.cascade_model.specs.Key.{author}
+use Rattle.cascade_model.specs.Matching.{Declared, StyleRule, StyleSheet, matching}
+use Rattle.cascade_model.specs.Winner.{winner}
 use Rattle.cascade_model.specs.StyleOf.{style_of}
 
 abbrev quiet : States
 quiet = record { hover = false; active = false; focus = false }
 
-abbrev element : ℕ → Option ℕ → Element
-element n p = record { number = n; parent = p; tag = codes "p"; attrs = map.empty; states = quiet }
+abbrev element : ℕ → Option ℕ → Characters → Element
+element n p tag = record { number = n; parent = p; tag = tag; attrs = map.empty; states = quiet }
 
-abbrev two : List Element
-two = element 1 None ∷ element 2 (Some 1) ∷ []
+abbrev doc : List Element
+doc =
+    element 1 None (codes "html") ∷ element 2 (Some 1) (codes "i") ∷ element 3 (Some 1) (codes "p") ∷ []
 
-the_root : style_of two 1 ≡ record { values = keyword (codes "block") ∷ [] }
-unfolding style_of ancestors
+abbrev sets : ℕ → Value → Declared
+sets property value = record { property = property; value = value; important = false }
+
+abbrev testing : Simple → Selector
+testing test = subject (with_test (simple test) any)
+
+abbrev rule : Selector → List Declared → StyleRule
+rule selector declarations = record { selectors = more selector no_more; declarations = declarations }
+
+abbrev red : Value
+red = color (opaque 255 0 0)
+
+abbrev blue : Value
+blue = color (opaque 0 0 255)
+
+abbrev lime : Value
+lime = color (opaque 0 255 0)
+
+abbrev none : Value
+none = keyword (codes "none")
+
+abbrev hidden : Value
+hidden = keyword (codes "hidden")
+
+abbrev sheet : StyleSheet
+sheet =
+    record { number = 1; origin = author; rules = rule (testing (of_type (codes "i"))) (sets 0 red ∷ []) ∷ rule (testing (of_type (codes "p"))) (sets 0 red ∷ []) ∷ rule (testing (of_type (codes "i"))) (sets 0 blue ∷ sets 1 (keyword (codes "block")) ∷ []) ∷ rule (subject any) (sets 3 hidden ∷ sets 0 lime ∷ []) ∷ [] }
+
+abbrev values : Value → Value → Value → Value → List Value
+values a b c d = a ∷ b ∷ c ∷ d ∷ []
+
+the_root : style_of doc (sheet ∷ []) 1 ≡ record { values = values lime (keyword (codes "block")) none hidden }
+unfolding style_of ancestors matching winner table
 the_root = refl
 
-below : style_of two 2 ≡ record { values = keyword (codes "inline") ∷ [] }
-unfolding style_of ancestors
-below = refl
+higher_wins : style_of doc (sheet ∷ []) 2 ≡ record { values = values blue (keyword (codes "block")) none hidden }
+unfolding style_of ancestors matching winner table
+higher_wins = refl
+
+plain : style_of doc (sheet ∷ []) 3 ≡ record { values = values red (keyword (codes "inline")) none hidden }
+unfolding style_of ancestors matching winner table
+plain = refl

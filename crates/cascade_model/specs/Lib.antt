@@ -1,4 +1,5 @@
-pub mod Value
-pub mod Table
-pub mod Style
+pub mod Key
+pub mod Matching
+pub mod Winner
+pub mod Cascade
 pub mod StyleOf

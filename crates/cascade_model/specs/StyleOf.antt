@@ -3,21 +3,23 @@ use Rattle.std.specs.Prelude.{ℕ, List, [], ◌∷◌, Bool, Option, Some, None
 use Rattle.scene_model.specs.Element.{Element}
 use Rattle.scene_model.specs.Lookups.{parent_of}
 use Rattle.scene_model.specs.Ancestors.{ancestors}
-use Rattle.cascade_model.specs.Style.{Style, initial_style, inherited_part, adjusted}
+use Rattle.value_model.specs.Style.{Style, initial_style}
+use Rattle.cascade_model.specs.Matching.{StyleSheet, matching}
+use Rattle.cascade_model.specs.Cascade.{cascaded}
 
--- The style of an element over its parent's. Without a declaration each property is as if unset (css-cascade-5, section 7).
-abbrev pub computed : Bool → Style → Style
-computed is_root parent = adjusted is_root (inherited_part parent)
+-- the style of an element over its parent's
+abbrev pub styled_over : List Element → List StyleSheet → Style → ℕ → Style
+styled_over doc sheets parent x = cascaded (is_none (parent_of doc x)) parent (matching doc sheets x)
 
 -- the style of the first of a list of elements that leads up to the root, whose parent has all initial values
-abbrev pub style_along : List Element → List ℕ → Style
-style_along doc [] = initial_style
-style_along doc (x ∷ above) = computed (is_none (parent_of doc x)) (style_along doc above)
+abbrev pub style_along : List Element → List StyleSheet → List ℕ → Style
+style_along doc sheets [] = initial_style
+style_along doc sheets (x ∷ above) = styled_over doc sheets (style_along doc sheets above) x
 
-unfoldable pub style_of : List Element → ℕ → Style
-style_of doc x = style_along doc (x ∷ ancestors doc x)
+unfoldable pub style_of : List Element → List StyleSheet → ℕ → Style
+style_of doc sheets x = style_along doc sheets (x ∷ ancestors doc x)
 
 -- what an element's style is over: its parent's, and all initial values at the root
-abbrev pub parent_style : List Element → Option ℕ → Style
-parent_style doc None = initial_style
-parent_style doc (Some p) = style_of doc p
+abbrev pub parent_style : List Element → List StyleSheet → Option ℕ → Style
+parent_style doc sheets None = initial_style
+parent_style doc sheets (Some p) = style_of doc sheets p

@@ -1,5 +1,7 @@
 -- How specific a selector is (selectors-4, section 17), and the key by which rules are found.
-use Rattle.std.specs.Prelude.{ℕ, ◌+◌, ◌==◌, nat_lt, Bool, ◌&&◌, ◌||◌, if◌then◌else◌, Option, Some, None, unwrap_or}
+use Rattle.std.specs.Prelude.{ℕ, ◌+◌, Bool, if◌then◌else◌, Option, Some, None, unwrap_or}
+use Rattle.std.specs.declared.cmp.Ordering.{Ordering}
+use Rattle.std.specs.Ordering.{ordering_then, nat_cmp, is_lt}
 use Rattle.scene_model.specs.Element.{Characters}
 use Rattle.selector_model.specs.Selector.{Simple, of_type, has_id, of_class, Selector, subject, behind, Compound, any, with_test, Test, simple, matches_any, matches_where, matches_none, Selectors, no_more, more}
 
@@ -24,9 +26,12 @@ one_type = record { ids = 0; classes = 0; types = 1 }
 abbrev pub plus : Specificity → Specificity → Specificity
 plus a b = record { ids = a.ids + b.ids; classes = a.classes + b.classes; types = a.types + b.types }
 
+abbrev pub specificity_cmp : Specificity → Specificity → Ordering
+specificity_cmp a b =
+    ordering_then (nat_cmp a.ids b.ids) (ordering_then (nat_cmp a.classes b.classes) (nat_cmp a.types b.types))
+
 abbrev pub is_less : Specificity → Specificity → Bool
-is_less a b =
-    nat_lt a.ids b.ids || ((a.ids == b.ids) && (nat_lt a.classes b.classes || ((a.classes == b.classes) && nat_lt a.types b.types)))
+is_less a b = is_lt (specificity_cmp a b)
 
 abbrev pub greater : Specificity → Specificity → Specificity
 greater a b = if is_less a b then b else a

@@ -2,8 +2,8 @@
 use Rattle.std.specs.Prelude.{ℕ, List, [], ◌∷◌, map, Bool, if◌then◌else◌, Option, Some, None, slice_get, slice_set, codes, refl}
 use Rattle.std.specs.Str.{bytes_eq}
 use Rattle.std.specs.Coded.{Coded, code_by, coded_list}
-use Rattle.cascade_model.specs.Value.{Value, keyword, value_code}
-use Rattle.cascade_model.specs.Table.{Row, table, display}
+use Rattle.value_model.specs.Value.{Value, keyword, color, value_code}
+use Rattle.value_model.specs.Table.{Row, table, display_place}
 
 pub record Style : Type 0 where
   -- in the order of the table
@@ -32,11 +32,13 @@ changed change (Some value) property values = slice_set values property (change 
 abbrev pub with_changed : (Value → Value) → ℕ → Style → Style
 with_changed change property style = record { values = changed change (slice_get style.values property) property style.values }
 
--- an outer display type becomes `block`, the inner one stays (css-display-3, section 2.7)
+-- the outer display type becomes `block` (css-display-3, section 2.7); `inline-block` is flow-root within, and becomes
+-- `block` as in CSS 2
 abbrev pub blockified : Value → Value
 blockified (keyword word) =
     if bytes_eq word (codes "inline") then keyword (codes "block") else (if bytes_eq word (codes "inline-block") then keyword (codes "block") else (if bytes_eq word (codes "inline-flex") then keyword (codes "flex") else keyword word))
+blockified (color c) = color c
 
 -- the adjustments that come last: the root is blockified (css-display-3, section 2.8)
 abbrev pub adjusted : Bool → Style → Style
-adjusted is_root style = if is_root then with_changed blockified display style else style
+adjusted is_root style = if is_root then with_changed blockified display_place style else style

@@ -1,0 +1,4 @@
+pub mod Color
+pub mod Value
+pub mod Table
+pub mod Style

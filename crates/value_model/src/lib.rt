@@ -1,0 +1,3 @@
+//! The definitions of properties: colours, values, the table of properties, and styles. They stand
+//! in specs/; there is no code here.
+#![tactic(auto)]

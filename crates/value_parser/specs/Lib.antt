@@ -1,0 +1,2 @@
+pub mod HexColor
+pub mod Accepts
