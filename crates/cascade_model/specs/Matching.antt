@@ -34,20 +34,21 @@ pub record PlacedRule : Type 0 where
   pub position : ℕ
   pub place : ℕ
 
-abbrev pub placed : StyleSheet → ℕ → ℕ → StyleRule → PlacedRule
-placed sheet position place rule =
-    record { selectors = rule.selectors; declarations = rule.declarations; origin = sheet.origin; sheet = sheet.number; position = position; place = place }
+abbrev pub placed : ℕ → Origin → ℕ → ℕ → StyleRule → PlacedRule
+placed sheet origin position place rule =
+    record { selectors = rule.selectors; declarations = rule.declarations; origin = origin; sheet = sheet; position = position; place = place }
 
--- a place counts all declarations that come before in the same text
-abbrev pub all_placed : StyleSheet → ℕ → ℕ → List StyleRule → List PlacedRule
-all_placed sheet position place [] = []
-all_placed sheet position place (rule ∷ rules) =
-    placed sheet position place rule ∷ all_placed sheet position (place + length rule.declarations) rules
+-- the rules of a sheet; a place counts all declarations that come before in the same text
+abbrev pub all_placed : ℕ → Origin → ℕ → ℕ → List StyleRule → List PlacedRule
+all_placed sheet origin position place [] = []
+all_placed sheet origin position place (rule ∷ rules) =
+    placed sheet origin position place rule ∷ all_placed sheet origin position (place + length rule.declarations) rules
 
 -- the rules of all sheets, of which the first has this position
 abbrev pub rules_from : ℕ → List StyleSheet → List PlacedRule
 rules_from position [] = []
-rules_from position (sheet ∷ sheets) = all_placed sheet position 0 sheet.rules ++ rules_from (position + 1) sheets
+rules_from position (sheet ∷ sheets) =
+    all_placed sheet.number sheet.origin position 0 sheet.rules ++ rules_from (position + 1) sheets
 
 -- the greater of what was found so far and one more
 abbrev pub with_greater : Option Specificity → Specificity → Specificity
