@@ -1,5 +1,5 @@
 -- The style of an element over the one that is known of its parent.
-use Rattle.std.proofs.Common.{◌≡◌, ℕ, ◌+◌, ◌<◌, ◌==◌, ◌||◌, Bool, true, false, List, [], ◌∷◌, ◌++◌, map, length, take, drop, get_or, Option, Some, None, Result, Ok, Err, IfOk, refl, sym, ap, ◌∙◌, arith, take-append-drop, add-one, subst}
+use Rattle.std.proofs.Common.{◌≡◌, ℕ, ◌+◌, ◌<◌, ◌==◌, ◌||◌, Bool, true, false, List, [], ◌∷◌, ◌++◌, map, length, take, drop, get_or, Option, Some, None, Result, Ok, Err, IfOk, refl, sym, ap, ◌∙◌, arith, append-nil, take-append-drop, add-one, subst}
 use Rattle.std.proofs.lemmas.List.{map-append}
 use Rattle.std.proofs.lemmas.List.Folds.{list_any-append}
 use Rattle.std.proofs.lemmas.Bool.{eqb-true}
@@ -10,24 +10,27 @@ use Rattle.scene_model.specs.Valid.{IsValid}
 use Rattle.scene_model.proofs.Numbers.{is_in, same_number}
 use Rattle.scene_model.proofs.Found.{is_element-numbers}
 use Rattle.scene_model.proofs.ParentBefore.{parent_before}
-use Rattle.cascade_model.specs.Table.{display}
-use Rattle.cascade_model.specs.Style.{Style, initial_style, inherited_part, with_changed, blockified}
+use Rattle.value_model.specs.Style.{Style, initial_style}
+use Rattle.cascade_model.specs.Key.{Matched}
+use Rattle.cascade_model.specs.Matching.{PlacedRule, matching}
+use Rattle.cascade_model.specs.Cascade.{cascaded}
 use Rattle.cascade_model.specs.StyleOf.{style_of}
 use Rattle.cascade_model.proofs.StyleAlong.{style_of-child, style_of-root}
 
-pub over_none : (doc : List Element) (x : ℕ) (style part first : Style) → IsValid doc → parent_of doc x ≡ None
-    → style ≡ with_changed blockified display part → part ≡ inherited_part first → first ≡ initial_style → style ≡ style_of doc x
-over_none doc x style part first valid none made from initial =
-    made ∙ ap (with_changed blockified display) (from ∙ ap inherited_part initial) ∙ sym (style_of-root doc valid x none)
+pub over_none : {A E : Type 0} (value : A → Matched) (items : List A) (doc : List Element) (rules : List PlacedRule) (x : ℕ) (first : Style) (result : Result Style E) → IsValid doc → parent_of doc x ≡ None
+    → first ≡ initial_style → map value items ≡ matching doc rules x → IfOk result (λ style. style ≡ cascaded true first (map value (items ++ []))) → IfOk result (λ style. style ≡ style_of doc rules x)
+over_none value items doc rules x first (Err e) valid none initial matched made = tt
+over_none value items doc rules x first (Ok style) valid none initial matched made =
+    made ∙ ap (λ s. cascaded true s (map value (items ++ []))) initial ∙ ap (λ l. cascaded true initial_style (map value l)) (append-nil items) ∙ ap (cascaded true initial_style) matched ∙ sym (style_of-root doc rules valid x none)
 
 same_in : (a b : Style) → ◌≡◌ {A = Option Style} (Some a) (Some b) → a ≡ b
 same_in a b e = cc
 
-pub over_parent : {E : Type 0} (doc : List Element) (x p : ℕ) (known : Option Style) (over : Style) (result : Result Style E) → IsValid doc → parent_of doc x ≡ Some p
-    → known ≡ Some (style_of doc p) → known ≡ Some over → IfOk result (λ style. style ≡ inherited_part over) → IfOk result (λ style. style ≡ style_of doc x)
-over_parent doc x p known over (Err e) valid parent is found made = tt
-over_parent doc x p known over (Ok style) valid parent is found made =
-    made ∙ ap inherited_part (same_in over (style_of doc p) (sym found ∙ is)) ∙ sym (style_of-child doc valid x p parent)
+pub over_parent : {A E : Type 0} (value : A → Matched) (items : List A) (doc : List Element) (rules : List PlacedRule) (x p : ℕ) (known : Option Style) (over : Style) (result : Result Style E) → IsValid doc → parent_of doc x ≡ Some p
+    → known ≡ Some (style_of doc rules p) → known ≡ Some over → map value items ≡ matching doc rules x → IfOk result (λ style. style ≡ cascaded false over (map value (items ++ []))) → IfOk result (λ style. style ≡ style_of doc rules x)
+over_parent value items doc rules x p known over (Err e) valid parent is found matched made = tt
+over_parent value items doc rules x p known over (Ok style) valid parent is found matched made =
+    made ∙ ap (λ s. cascaded false s (map value (items ++ []))) (same_in over (style_of doc rules p) (sym found ∙ is)) ∙ ap (λ l. cascaded false (style_of doc rules p) (map value l)) (append-nil items) ∙ ap (cascaded false (style_of doc rules p)) matched ∙ sym (style_of-child doc rules valid x p parent)
 
 -- the numbers in tree order, round the k-th
 split_order : (doc : List Element) (order : List ℕ) (k : ℕ) → order ≡ numbers doc → k < length order → numbers doc ≡ take k order ++ get_or order k 0 ∷ drop (k + 1) order

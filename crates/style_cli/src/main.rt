@@ -7,6 +7,8 @@ mod printing;
 mod reading;
 mod status;
 #[cfg(test)]
+mod sheet_tests;
+#[cfg(test)]
 mod tests;
 mod top;
 mod words;

@@ -6,17 +6,17 @@ use std::alloc::{AllocError, Global};
 use std::test::Fail;
 use std::thread::Threads;
 
-const LINE: [&str; 2] = ["style", "run"];
+pub const LINE: [&str; 2] = ["style", "run"];
 
 /// What a run answers and what its sink holds.
 #[derive(Drop)]
-struct Outcome {
-    status: u8,
-    held: Vec<u8>,
+pub struct Outcome {
+    pub status: u8,
+    pub held: Vec<u8>,
 }
 
 /// Runs over an input, with the numbers of the reads and of the writes that fail.
-fn run_over<R: Threads + Sync + AllocGlobal>(
+pub fn run_over<R: Threads + Sync + AllocGlobal>(
     rt: &R,
     words: &[&str],
     input: &[u8],
@@ -117,16 +117,27 @@ fn refusals(rt: HostRuntime) -> Result<(), Fail> {
     for line in words {
         assert_eq!(rt; run_over(&rt, line, ONE, &[1], &[])?.status, 2);
     }
-    let long = vec![in rt.alloc(); b' '; 67_108_865]?;
-    let refused = run_over(&rt, &LINE, &long, &[], &[])?;
+    Ok(())
+}
+
+#[test]
+fn too_long(rt: HostRuntime) -> Result<(), Fail> {
+    let long = vec![in rt.alloc(); b' '; 67_108_870]?;
+    // A read takes 4,096 bytes at most: the first 16,384 take the limit, and the next one the byte past it.
+    let refused = run_over(&rt, &LINE, &long, &[16_386], &[])?;
     assert_eq!(rt; refused.status, 5);
     assert!(rt; refused.held.is_empty());
+    let failed = run_over(&rt, &LINE, &long, &[16_385], &[])?;
+    assert_eq!(rt; failed.status, 1);
     Ok(())
 }
 
 #[test]
 fn faults(rt: HostRuntime) -> Result<(), Fail> {
     assert_eq!(rt; run_over(&rt, &LINE, ONE, &[1], &[])?.status, 1);
+    assert_eq!(rt; run_over(&rt, &LINE, ONE, &[2], &[])?.status, 1);
+    // Nothing is read behind the end.
+    assert_eq!(rt; run_over(&rt, &LINE, ONE, &[3], &[])?.status, 0);
     let long = chain(rt.alloc(), 250)?;
     let cut = run_over(&rt, &LINE, long.as_bytes(), &[2], &[])?;
     assert_eq!(rt; cut.status, 1);

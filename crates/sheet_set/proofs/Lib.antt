@@ -1,0 +1,4 @@
+pub mod EnabledLemmas
+pub mod TakenLemmas
+pub mod OneLemmas
+pub mod SeenLemmas
