@@ -1,6 +1,7 @@
 -- A rule more behind the others.
 use Rattle.std.proofs.Common.{◌≡◌, ℕ, ◌+◌, List, [], ◌∷◌, ◌++◌, length, map, refl, sym, ap, ◌∙◌, arith}
 use Rattle.std.specs.Prelude.{Vec}
+use Rattle.std.specs.declared.alloc.Global.{Global}
 use Rattle.cascade_model.specs.Matching.{PlacedRule, placed}
 use Rattle.layer_order.specs.Origins.{origin_of}
 use Rattle.layer_order.specs.declared.origin.Origin.{Origin}
@@ -11,7 +12,7 @@ use Rattle.sheet_set.specs.declared.sheet_rule.SheetRule.{SheetRule}
 use Rattle.sheet_set.specs.Seen.{declared_of, rule_of, rules_with}
 use Rattle.sheet_set.specs.KeptRules.{style_rule}
 
-pub rules_with-last : (rules : List SheetRule) (lists : List (Vec Selector)) (rule : SheetRule) (list : Vec Selector) → length rules ≡ length lists
+pub rules_with-last : (rules : List SheetRule) (lists : List (Vec Selector Global)) (rule : SheetRule) (list : Vec Selector Global) → length rules ≡ length lists
     → rules_with (rules ++ rule ∷ []) (lists ++ list ∷ []) ≡ rules_with rules lists ++ rule_of rule list.items ∷ []
 rules_with-last [] [] rule list same = refl
 rules_with-last [] (l ∷ lists) rule list same = absurd (omega (arith, same))

@@ -1,6 +1,7 @@
 -- One rule more of a sheet's text.
 use Rattle.std.proofs.Common.{◌≡◌, ℕ, ◌+◌, List, [], ◌∷◌, ◌++◌, length, map, refl, sym, ap, ◌∙◌, append_assoc, append-nil, arith, add_assoc, subst}
-use Rattle.std.specs.Prelude.{Vec}
+use Rattle.std.specs.Prelude.{Option, Some, None, MatchOption}
+use Rattle.syntax_model.specs.Token.{Token}
 use Rattle.syntax_model.specs.Rules.{Rule}
 use Rattle.selector_model.specs.Selector.{Selectors}
 use Rattle.selector_parser.specs.SelectorList.{SelectorList}
@@ -63,3 +64,15 @@ pub taken_all : (rules : List Rule) (sheet : ℕ) (origin : Origin) (position pl
     → IsTaken rules [] sheet origin position place old new → (kept : List StyleRule) × KeptRules rules kept × (new ≡ old ++ all_placed sheet origin position 0 kept)
 taken_all rules sheet origin position place old new taken =
     (taken.kept, subst (KeptRules rules) (append-nil taken.kept) (taken.completes [] no_rule), taken.added)
+
+-- what a list of selectors that was not, or was, read says of the prelude
+pub none_read : {A : Type 0} (found : Option A) (Q : A → Type 0) (tokens prelude : List Token) → found ≡ None → tokens ≡ prelude
+    → MatchOption found ((selectors : Selectors) → SelectorList tokens selectors → ⊥) Q → (selectors : Selectors) → SelectorList prelude selectors → ⊥
+none_read (Some x) Q tokens prelude none same read = cc
+none_read None Q tokens prelude none same read = λ selectors is. read selectors (subst (λ t. SelectorList t selectors) (sym same) is)
+
+pub some_read : {A : Type 0} (found : Option A) (P : Type 0) (seen : A → Selectors) (list : A) (tokens prelude : List Token) → found ≡ Some list → tokens ≡ prelude
+    → MatchOption found P (λ l. SelectorList tokens (seen l)) → SelectorList prelude (seen list)
+some_read None P seen list tokens prelude some same read = cc
+some_read (Some x) P seen list tokens prelude some same read =
+    let one : x ≡ list = cc in subst (λ t. SelectorList t (seen list)) same (subst (λ l. SelectorList tokens (seen l)) one read)

@@ -1,5 +1,6 @@
 -- What the rules of the code stand for.
 use Rattle.std.specs.Prelude.{List, [], ◌∷◌, map, Vec}
+use Rattle.std.specs.declared.alloc.Global.{Global}
 use Rattle.cascade_model.specs.Matching as model
 use Rattle.property_table.specs.Rows.{property_of}
 use Rattle.property_table.specs.Values.{value_of}
@@ -19,7 +20,7 @@ rule_of rule selectors =
     record { selectors = selectors_of selectors; declarations = map declared_of rule.declarations.items; origin = origin_of rule.origin; sheet = rule.sheet; position = rule.position; place = rule.place }
 
 -- rules, each with its own list of selectors
-abbrev pub rules_with : List SheetRule → List (Vec Selector) → List model.PlacedRule
+abbrev pub rules_with : List SheetRule → List (Vec Selector Global) → List model.PlacedRule
 rules_with [] lists = []
 rules_with (rule ∷ rules) [] = []
 rules_with (rule ∷ rules) (list ∷ lists) = rule_of rule list.items ∷ rules_with rules lists

@@ -20,7 +20,7 @@ pub struct Declared {
 
 /// What a declaration sets. None: its name is of no property, or the property does not take its
 /// value.
-pub fn declared(declaration: &RawDecl) -> Option<Declared>
+pub fn set_by(declaration: &RawDecl) -> Option<Declared>
     ensures { MatchOption result
         ((set : model.Declared) → Sets (declaration_of declaration.now) set → ⊥)
         (λ set. Sets (declaration_of declaration.now) (declared_of set)) }

@@ -28,7 +28,7 @@ pub struct Stand {
 impl Found {
     /// No rules.
     pub fn new(alloc: Global) -> Found
-        ensures { found_rules result ≡ [] }
+        ensures empty { found_rules result ≡ [] }
         ensures paired { length result.rules.items ≡ length result.selectors.items }
     {
         Found {
@@ -45,7 +45,7 @@ impl Found {
         sheet: &SheetInput,
     ) -> Result<(), NoMemory>
         requires { length self.old.rules.items ≡ length self.old.selectors.items }
-        ensures { OnOk result (AddsRules self.old self.new stand sheet.now) }
+        ensures adds { OnOk result (AddsRules self.old self.new stand sheet.now) }
         ensures paired { OnOk result (length self.new.rules.items ≡ length self.new.selectors.items) }
     {
         let mut place = 0;

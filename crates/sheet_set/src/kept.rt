@@ -5,7 +5,7 @@ ghost use Rattle.sheet_set.specs.KeptDeclarations.{AreKeptIn};
 ghost use Rattle.sheet_set.specs.Seen.{declared_of};
 
 use crate::Declared;
-use crate::declared::declared;
+use crate::declared::set_by;
 use css_rules::declaration_list;
 use css_tokens::Token;
 use std::alloc::Global;
@@ -18,7 +18,7 @@ pub fn kept_in(alloc: Global, block: &[Token]) -> Result<Vec<Declared>, NoMemory
     let declarations = declaration_list(alloc, block)?;
     let mut kept = Vec::new(alloc);
     for declaration in &declarations {
-        if let Some(set) = declared(declaration) {
+        if let Some(set) = set_by(declaration) {
             kept.push(set)?;
         }
     }

@@ -5,8 +5,17 @@ ghost use Rattle.cascade_model.specs.Matching.{PlacedRule};
 ghost use Rattle.layer_order.specs.declared.sheet_input.SheetInput.{SheetInput};
 ghost use Rattle.sheet_set.specs.EnabledSheets.{AreRulesOfSheets};
 
+use css_rules::laws::{one_declaration_list, one_rule_list};
+use selector_parser::laws::one_list;
+use value_parser::laws::one_value;
+
 /// A list of sheets has at most one list of rules.
 pub fn one_list_of_rules()
     ensures { (inputs : List SheetInput) (rules others : List PlacedRule)
         → AreRulesOfSheets inputs rules → AreRulesOfSheets inputs others → others ≡ rules }
-{}
+{
+    one_value();
+    one_list();
+    one_declaration_list();
+    one_rule_list();
+}

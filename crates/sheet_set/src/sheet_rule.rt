@@ -52,7 +52,7 @@ impl SheetRule {
 
     /// Its declarations, in order.
     pub fn declarations(&self) -> &[Declared]
-        ensures { result.now ≡ self.now.declarations.items }
+        ensures list { result.now ≡ self.now.declarations.items }
         ensures counted { self.now.place + length result.now < 2 ^ 64 }
     {
         &self.declarations

@@ -1,8 +1,6 @@
 //! The rules of the sheets that take part.
 
-ghost use Rattle.std.specs.Prelude.{◌≡◌, ◌≤◌, IfOk, length, vec_len};
-ghost use Rattle.sheet_set.specs.EnabledSheets.{AreRulesOfSheets};
-ghost use Rattle.sheet_set.specs.Seen.{rules_of};
+ghost use Rattle.std.specs.Prelude.{◌≡◌, vec_len};
 
 use crate::found::{Found, Stand};
 use crate::{SheetInput, SheetRule};
@@ -19,6 +17,10 @@ pub struct Sheets {
 }
 
 impl Sheets {
+    ghost use Rattle.std.specs.Prelude.{◌≤◌, IfOk, length};
+    ghost use Rattle.sheet_set.specs.EnabledSheets.{AreRulesOfSheets};
+    ghost use Rattle.sheet_set.specs.Seen.{rules_of};
+
     /// The rules of these sheets, which are numbered from 1; there may be none. A rule whose
     /// selectors can't be read is dropped, and so is a declaration of an unknown property, or of a
     /// value that the property does not take. A sheet that is not enabled has no part.
@@ -51,7 +53,7 @@ impl Sheets {
 
     /// The selectors of each rule.
     pub fn selectors(&self) -> &[Vec<Selector>]
-        ensures { result.now ≡ self.now.selectors.items }
+        ensures list { result.now ≡ self.now.selectors.items }
         ensures paired { length result.now ≡ length self.now.rules.items }
     {
         &self.selectors
