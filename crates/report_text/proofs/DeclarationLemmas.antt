@@ -5,9 +5,9 @@ use Rattle.std.specs.Str.{IsUtf8}
 use lib.Utf8.{encode}
 use Rattle.stylo_base.specs.Ascii.{is_all_ascii}
 use Rattle.scene_model.specs.Element.{Characters}
-use Rattle.cascade_model.specs.Value.{Value, same_value}
-use Rattle.cascade_model.specs.Table as model
-use Rattle.cascade_model.specs.Table.{table}
+use Rattle.value_model.specs.Value.{Value, same_value}
+use Rattle.value_model.specs.Table as model
+use Rattle.value_model.specs.Table.{table}
 use Rattle.property_table.specs.Rows.{property_of, row_seen}
 use Rattle.property_table.specs.Values.{value_of}
 use Rattle.property_table.specs.declared.property.Row.{Row}

@@ -2,9 +2,9 @@
 use Rattle.std.specs.Prelude.{ℕ, List, [], ◌∷◌, ◌++◌, if◌then◌else◌, codes}
 use Rattle.std.specs.Fmt.{decimal}
 use Rattle.scene_model.specs.Element.{Characters}
-use Rattle.cascade_model.specs.Value.{Value, written, same_value}
-use Rattle.cascade_model.specs.Table.{Row, table}
-use Rattle.cascade_model.specs.Style.{Style}
+use Rattle.value_model.specs.Value.{Value, written, same_value}
+use Rattle.value_model.specs.Table.{Row, table}
+use Rattle.value_model.specs.Style.{Style}
 
 -- `batch K: A accepted, R refused, M matched, C cascaded`
 unfoldable pub batch_line : ℕ → ℕ → ℕ → ℕ → ℕ → Characters

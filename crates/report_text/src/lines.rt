@@ -3,7 +3,7 @@
 ghost use Rattle.std.specs.Prelude.{◌≡◌, ◌++◌, IfOk, OnOk, codes, decimal, true};
 ghost use Rattle.std.specs.Str.{chars};
 ghost use Rattle.stylo_base.specs.Ascii.{is_all_ascii};
-ghost use Rattle.cascade_model.specs.Table.{table};
+ghost use Rattle.value_model.specs.Table.{table};
 ghost use Rattle.property_table.specs.Rows.{row_seen};
 ghost use Rattle.property_table.specs.Values.{value_of};
 ghost use Rattle.report_text.specs.Lines.{batch_line, declaration, declarations, element_line, joined};

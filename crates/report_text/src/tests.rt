@@ -1,5 +1,5 @@
 use crate::{batch_line, element_line};
-use property_table::{Keyword, PropId, Value};
+use property_table::{Color, Keyword, PropId, Value};
 use std::test::Fail;
 use style_value::Style;
 
@@ -30,4 +30,36 @@ fn elements(rt: HostRuntime) -> Result<(), Fail> {
     let far = element_line(rt.alloc(), u32::MAX, "é→😀", &style)?;
     assert_eq!(rt; far.as_str(), "4294967295 é→😀{display: none}\n");
     Ok(())
+}
+
+#[test]
+fn properties(rt: HostRuntime) -> Result<(), Fail> {
+    let mut style = Style::initial();
+    style.set(PropId::Visibility, Value::Keyword(Keyword::Hidden));
+    style.set(PropId::Color, color(255, 128));
+    let two = element_line(rt.alloc(), 3, "i", &style)?;
+    assert_eq!(rt; two.as_str(), "3 i{color: #ff800080; visibility: hidden}\n");
+    style.set(PropId::Clear, Value::Keyword(Keyword::Both));
+    style.set(PropId::Display, Value::Keyword(Keyword::InlineFlex));
+    style.set(PropId::Color, color(16, 255));
+    let all = element_line(rt.alloc(), 3, "i", &style)?;
+    assert_eq!(rt;
+        all.as_str(),
+        "3 i{color: #108000; display: inline-flex; clear: both; visibility: hidden}\n"
+    );
+    style.set(PropId::Color, color(0, 0));
+    style.set(PropId::Visibility, Value::Keyword(Keyword::Visible));
+    style.set(PropId::Display, Value::Keyword(Keyword::Inline));
+    let clear = element_line(rt.alloc(), 3, "i", &style)?;
+    assert_eq!(rt; clear.as_str(), "3 i{color: #00800000; clear: both}\n");
+    Ok(())
+}
+
+fn color(red: u8, alpha: u8) -> Value {
+    Value::Color(Color {
+        red,
+        green: 128,
+        blue: 0,
+        alpha,
+    })
 }

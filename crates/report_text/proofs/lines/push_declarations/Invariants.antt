@@ -1,5 +1,5 @@
 use Rattle.std.proofs.Common.{◌++◌, codes}
-use Rattle.cascade_model.specs.Table.{table}
+use Rattle.value_model.specs.Table.{table}
 use Rattle.report_text.specs.Lines.{declarations, joined}
 use Rattle.report_text.proofs.DeclarationLemmas.{IsPrinted}
 use Rattle.report_text.proofs.lines.push_declarations.Given as goal
