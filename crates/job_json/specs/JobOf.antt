@@ -1,16 +1,18 @@
 -- What the bytes of an input say.
-use Rattle.std.specs.Prelude.{ℕ, List, [], ◌≡◌, ◌⊎◌, if◌then◌else◌, Option, Some, None, option_and_then, codes, Result, Ok, Err}
+use Rattle.std.specs.Prelude.{ℕ, List, [], ◌≡◌, ◌⊎◌, if◌then◌else◌, Option, Some, None, option_and_then, ◌&&◌, codes, Result, Ok, Err}
 use Rattle.std.specs.Str.{is_utf8}
 use Rattle.serde_json.specs.Data.{Data, Items, no_items}
 use Rattle.serde_json.specs.Read.{read as read_json}
 use Rattle.serde_json.specs.Find.{get, as_array}
 use Rattle.scene_model.specs.Element.{Characters}
 use Rattle.scene_model.specs.Nodes.{Node}
+use Rattle.layer_order.specs.declared.sheet_input.SheetInput.{SheetInput}
 use Rattle.job_json.specs.declared.Job.{Job}
 use Rattle.job_json.specs.declared.JobFault.{JobFault}
 use Rattle.job_json.specs.declared.JobFault.TheVariants.{NotJson, Shape, NoMemory}
+use Rattle.job_json.specs.Sheets.{sheets_from}
 use Rattle.job_json.specs.Shape.{job_from, nodes_of}
-use Rattle.job_json.specs.Limits.{is_within}
+use Rattle.job_json.specs.Limits.{is_within, are_within}
 
 pub data Verdict : Type 0 where
   -- the bytes are not UTF-8, or no JSON value
@@ -34,8 +36,12 @@ node_items value = items_or_none (option_and_then as_array (get (codes "nodes") 
 abbrev pub nodes_within : Items → Option (List Node)
 nodes_within items = option_and_then (λ nodes. if is_within items nodes then Some nodes else None) (nodes_of items)
 
+-- the sheets that pass no limit
+abbrev pub sheets_within : Option Data → Option (List SheetInput)
+sheets_within value = option_and_then (λ sheets. if are_within sheets then Some sheets else None) (sheets_from value)
+
 abbrev pub if_within : Items → Job → Option Job
-if_within items job = if is_within items job.nodes then Some job else None
+if_within items job = if is_within items job.nodes && are_within job.sheets then Some job else None
 
 -- the job that a value says, if it has the shape of one and passes no limit
 abbrev pub job_within : Data → Option Job

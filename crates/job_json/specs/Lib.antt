@@ -1,3 +1,4 @@
+pub mod Sheets
 pub mod Shape
 pub mod Limits
 pub mod JobOf

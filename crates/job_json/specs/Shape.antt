@@ -8,6 +8,7 @@ use Rattle.serde_json.specs.Find.{get, as_number, as_u64, as_str, as_array, as_o
 use Rattle.scene_model.specs.Element.{Characters, Attributes, States}
 use Rattle.scene_model.specs.Nodes.{Node}
 use Rattle.job_json.specs.declared.Job.{Job}
+use Rattle.job_json.specs.Sheets.{sheets_from}
 
 -- Texts come as their bytes in UTF-8.
 
@@ -108,4 +109,4 @@ is_empty_list (Some value) = is_empty_array value
 -- what a JSON value says as a job, if it has the shape of one
 abbrev pub job_from : Data → Option Job
 job_from value =
-    if is_version value && (is_empty_list (get (codes "sheets") value) && is_empty_list (get (codes "batches") value)) then option_map (λ nodes. record { nodes = nodes }) (option_and_then nodes_of (option_and_then as_array (get (codes "nodes") value))) else None
+    if is_version value && is_empty_list (get (codes "batches") value) then option_and_then (λ nodes. option_map (λ sheets. record { nodes = nodes; sheets = sheets }) (sheets_from (get (codes "sheets") value))) (option_and_then nodes_of (option_and_then as_array (get (codes "nodes") value))) else None

@@ -1,15 +1,18 @@
-//! The document of a job, within its limits.
+//! The document of a job and its sheets, within their limits.
 
-ghost use Rattle.std.specs.Prelude.{◌≤◌, IfOk, length};
+ghost use Rattle.std.specs.Prelude.{◌≤◌, IfOk, length, codes};
+ghost use Rattle.serde_json.specs.Find.{get};
 ghost use Rattle.serde_json.specs.View.{view, items_view};
-ghost use Rattle.job_json.specs.JobOf.{job_within, nodes_within};
+ghost use Rattle.job_json.specs.JobOf.{job_within, nodes_within, sheets_within};
 ghost use Rattle.job_json.specs.Reads.{Reads};
 
 use crate::Job;
 use crate::fault::Fault;
-use crate::limits::{is_depths_within, is_few, is_items_within};
+use crate::limits::{is_depths_within, is_few, is_items_within, is_sheets_within};
 use crate::node_list::nodes_of;
-use crate::outline::{has_no_batches, has_no_sheets, is_version};
+use crate::outline::{has_no_batches, is_version};
+use crate::sheet_list::SheetList;
+use crate::sheets::sheets_of;
 use dom_tree::NodeList;
 use serde_json::Value;
 use std::alloc::Global;
@@ -18,15 +21,17 @@ use std::alloc::Global;
 pub fn job_of(alloc: Global, job: &Value) -> Result<Job, Fault>
     ensures job { Reads (job_within (view job.now)) result }
     ensures fits { IfOk result (λ job. length job.nodes ≤ 65536) }
+    ensures few { IfOk result (λ job. length job.sheets ≤ 256) }
 {
-    if !(is_version(job) && has_no_sheets(job) && has_no_batches(job)) {
+    if !(is_version(job) && has_no_batches(job)) {
         return Err(Fault::Unreadable);
     }
     let Some(items) = job.get("nodes").and_then(Value::as_array) else {
         return Err(Fault::Unreadable);
     };
     let nodes = nodes_within(alloc, items)?;
-    Ok(Job { nodes })
+    let sheets = sheets_within(alloc, job)?;
+    Ok(Job { nodes, sheets })
 }
 
 /// The nodes that the items say, if they pass no limit. Where there are too many, or their
@@ -43,4 +48,16 @@ fn nodes_within(alloc: Global, items: &[Value]) -> Result<NodeList, Fault>
         return Err(Fault::Unreadable);
     }
     Ok(nodes)
+}
+
+/// The sheets of a job, if they pass no limit.
+fn sheets_within(alloc: Global, job: &Value) -> Result<SheetList, Fault>
+    ensures sheets { Reads (sheets_within (get (codes "sheets") (view job.now))) result }
+    ensures few { IfOk result (λ sheets. length sheets ≤ 256) }
+{
+    let sheets = sheets_of(alloc, job)?;
+    if !is_sheets_within(&sheets) {
+        return Err(Fault::Unreadable);
+    }
+    Ok(sheets)
 }

@@ -1,4 +1,4 @@
-//! Reads a job: the document that its JSON says.
+//! Reads a job: the document and the style sheets that its JSON says.
 #![tactic(auto)]
 
 mod attributes;
@@ -10,6 +10,9 @@ mod node;
 mod node_list;
 mod outline;
 mod place;
+mod sheet;
+mod sheet_list;
+mod sheets;
 mod states;
 
 ghost use Rattle.std.specs.Prelude.{◌≡◌, ◌≢◌, ◌≤◌, List, ℕ, Ok, Err, IfOk, length};
@@ -22,6 +25,7 @@ use crate::document::job_of;
 use crate::fault::Fault;
 use dom_tree::NodeList;
 use serde_json::Value;
+pub use sheet_list::SheetList;
 use std::alloc::Global;
 use stylo_base::{Kind, PathText};
 
@@ -30,6 +34,8 @@ use stylo_base::{Kind, PathText};
 pub struct Job {
     /// The document before any edit.
     pub nodes: NodeList,
+    /// Its style sheets before any edit.
+    pub sheets: SheetList,
 }
 
 /// Why there is no job.
@@ -57,6 +63,7 @@ pub fn read(alloc: Global, bytes: &[u8]) -> Result<Job, JobFault>
     ensures unlimited { (kind : Kind) (number : ℕ) → result ≢ Err (JobFault.Limit kind number) }
     ensures due { IsDue (verdict_of bytes.now) result }
     ensures fits { IfOk result (λ job. length job.nodes ≤ 65536) }
+    ensures few { IfOk result (λ job. length job.sheets ≤ 256) }
 {
     let value = match parse(alloc, bytes) {
         Ok(value) => value,

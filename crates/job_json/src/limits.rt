@@ -1,11 +1,14 @@
-//! The limits of a job's document.
+//! The limits of a job's document and of its sheets.
 
 ghost use Rattle.std.specs.Prelude.{◌≡◌, Some, IfOk, length, nat_le, codes};
+ghost use Rattle.std.specs.List.{list_all};
 ghost use Rattle.serde_json.specs.Find.{get, as_str, as_object};
 ghost use Rattle.serde_json.specs.View.{view, items_view, members_view};
-ghost use Rattle.job_json.specs.Limits.{depths_within, items_within, attrs_within, count_of, are_short, is_short, has_room};
+ghost use Rattle.job_json.specs.Limits.{depths_within, items_within, attrs_within, count_of, are_short, is_short, has_room, text_within, are_within};
 
+use crate::sheet_list::SheetList;
 use dom_tree::NodeList;
+use layer_order::SheetInput;
 use serde_json::{Map, Value};
 use std::alloc::Global;
 use stylo_base::NoMemory;
@@ -21,6 +24,12 @@ const ATTRIBUTES: usize = 64;
 
 /// The most bytes of an attribute's value.
 const VALUE_BYTES: usize = 1_048_576;
+
+/// The most sheets.
+const SHEETS: usize = 1;
+
+/// The most bytes of a sheet's text.
+const TEXT_BYTES: usize = 4_194_304;
 
 /// Whether there are at most 65,536 items.
 pub fn is_few(items: &[Value]) -> bool
@@ -90,4 +99,24 @@ fn is_short(value: &Value) -> bool
         return true;
     };
     text.len() <= VALUE_BYTES
+}
+
+/// Whether there is at most one sheet, with a text of at most 4,194,304 bytes.
+pub fn is_sheets_within(sheets: &SheetList) -> bool
+    ensures { result ≡ are_within sheets.now }
+{
+    let sheets = sheets.as_slice();
+    sheets.len() <= SHEETS && is_texts_within(sheets)
+}
+
+fn is_texts_within(sheets: &[SheetInput]) -> bool
+    ensures { result ≡ list_all text_within sheets.now }
+{
+    sheets.iter().all(|sheet| is_text_within(sheet))
+}
+
+fn is_text_within(sheet: &SheetInput) -> bool
+    ensures { result ≡ text_within sheet.now }
+{
+    sheet.text.byte_len() <= TEXT_BYTES
 }

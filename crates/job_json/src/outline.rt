@@ -1,4 +1,4 @@
-//! The members of a job beside its nodes.
+//! The members of a job beside its nodes and sheets.
 
 ghost use Rattle.std.specs.Prelude.{◌≡◌, codes};
 ghost use Rattle.serde_json.specs.Find.{get};
@@ -15,16 +15,6 @@ pub fn is_version(job: &Value) -> bool
         return false;
     };
     version == 1
-}
-
-/// Whether `sheets` is absent or an empty list.
-pub fn has_no_sheets(job: &Value) -> bool
-    ensures { result ≡ is_empty_list (get (codes "sheets") (view job.now)) }
-{
-    let Some(sheets) = job.get("sheets") else {
-        return true;
-    };
-    is_empty_array(sheets)
 }
 
 /// Whether `batches` is absent or an empty list.

@@ -1,10 +1,11 @@
 //! What jobs of different shapes give.
 
-use crate::{JobFault, read};
+use crate::{JobFault, SheetList, read};
 use dom_tree::Doc;
+use layer_order::{Origin, SheetInput};
 use std::alloc::{AllocError, Global};
 use std::test::Fail;
-use stylo_base::State;
+use stylo_base::{State, Text};
 
 /// An answer of `read`, its job or its pointer left out.
 #[derive(Clone, Copy, Debug, PartialEq, Eq)]
@@ -44,6 +45,27 @@ fn nodes_as(alloc: Global, nodes: &str) -> Result<Answer, AllocError> {
 fn node_as(alloc: Global, members: &str) -> Result<Answer, AllocError> {
     let node = format!(in alloc; "{{{members}}}")?;
     nodes_as(alloc, node.as_str())
+}
+
+/// The answer to a job with these sheets.
+fn sheets_as(alloc: Global, sheets: &str) -> Result<Answer, AllocError> {
+    let text = format!(in alloc;
+        "{{\"version\":1,\"nodes\":[{{\"tag\":\"p\"}}],\"sheets\":{sheets}}}"
+    )?;
+    Ok(read_as(alloc, text.as_bytes()))
+}
+
+/// The answer to a job with a sheet of these members.
+fn sheet_as(alloc: Global, members: &str) -> Result<Answer, AllocError> {
+    let sheets = format!(in alloc; "[{{{members}}}]")?;
+    sheets_as(alloc, sheets.as_str())
+}
+
+/// The answer to a job with a sheet whose text is 2,097,152 times the piece, and then the end.
+fn text_as(alloc: Global, piece: &str, end: &str) -> Result<Answer, AllocError> {
+    let text = repeated(alloc, piece, 2_097_152)?;
+    let members = format!(in alloc; "\"origin\":\"author\",\"text\":\"{text}{end}\"")?;
+    sheet_as(alloc, members.as_str())
 }
 
 /// A text of `count` times the piece.
@@ -252,5 +274,112 @@ fn node_members(rt: HostRuntime) -> Result<(), Fail> {
     assert!(rt; doc.attribute(1, "lang").is_none());
     assert!(rt; doc.state(1, State::Hover) && doc.state(1, State::Focus));
     assert!(rt; !doc.state(1, State::Active));
+    Ok(())
+}
+
+#[test]
+fn good_sheets(rt: HostRuntime) -> Result<(), Fail> {
+    for sheets in [
+        "[]",
+        r#"[{"origin":"author","text":""}]"#,
+        r#"[{"text":"p{}","enabled":true,"origin":"author"}]"#,
+        r#"[{"origin":"author","text":"p{}","title":null,"media":[{}]}]"#,
+        r#"[{"origin":"ua","enabled":false,"text":7,"origin":"author","enabled":true,"text":"p{}"}]"#,
+        r#"[7],"sheets":[]"#,
+    ] {
+        assert_eq!(rt; sheets_as(rt.alloc(), sheets)?, Answer::Good, "{sheets}");
+    }
+    Ok(())
+}
+
+#[test]
+fn other_sheets(rt: HostRuntime) -> Result<(), Fail> {
+    for sheets in [
+        "null",
+        "{}",
+        r#"{"origin":"author","text":""}"#,
+        "[null]",
+        "[[]]",
+        r#"["p{}"]"#,
+        r#"[{"origin":"author","text":""},{"origin":"author","text":""}]"#,
+        r#"[{"origin":"author","text":""},7]"#,
+        r#"[],"sheets":[7]"#,
+    ] {
+        assert_eq!(rt; sheets_as(rt.alloc(), sheets)?, Answer::Shape, "{sheets}");
+    }
+    for members in [
+        "",
+        r#""text":"""#,
+        r#""origin":"ua","text":"""#,
+        r#""origin":"user","text":"""#,
+        r#""origin":"Author","text":"""#,
+        r#""origin":"","text":"""#,
+        r#""origin":null,"text":"""#,
+        r#""origin":2,"text":"""#,
+        r#""origin":"author","origin":"user","text":"""#,
+        r#""origin":"author","enabled":false,"text":"""#,
+        r#""origin":"author","enabled":null,"text":"""#,
+        r#""origin":"author","enabled":1,"text":"""#,
+        r#""origin":"author","enabled":"true","text":"""#,
+        r#""origin":"author","enabled":true,"enabled":false,"text":"""#,
+        r#""origin":"author""#,
+        r#""origin":"author","text":7"#,
+        r#""origin":"author","text":null"#,
+        r#""origin":"author","text":["p{}"]"#,
+        r#""origin":"author","text":"p{}","text":null"#,
+    ] {
+        assert_eq!(rt; sheet_as(rt.alloc(), members)?, Answer::Shape, "{members}");
+    }
+    Ok(())
+}
+
+#[test]
+fn text_limits(rt: HostRuntime) -> Result<(), Fail> {
+    let alloc = rt.alloc();
+    assert_eq!(rt; text_as(alloc, "xx", "")?, Answer::Good);
+    assert_eq!(rt; text_as(alloc, "xx", "x")?, Answer::Shape);
+    assert_eq!(rt; text_as(alloc, "\u{e9}", "")?, Answer::Good);
+    assert_eq!(rt; text_as(alloc, "\u{e9}", "x")?, Answer::Shape);
+    Ok(())
+}
+
+#[test]
+fn sheet_members(rt: HostRuntime) -> Result<(), Fail> {
+    let alloc = rt.alloc();
+    let text =
+        br#"{"version":1,"nodes":[{"tag":"p"}],"sheets":[{"origin":"author","text":"p { }","text":"a\u00e9\n\"{}"}]}"#;
+    let Ok(job) = read(alloc, text) else {
+        return Err(Fail::from("there is a job"));
+    };
+    let Some(sheet) = job.sheets.as_slice().first() else {
+        return Err(Fail::from("there is a sheet"));
+    };
+    assert!(rt; sheet.origin == Origin::Author);
+    assert!(rt; sheet.enabled);
+    assert_eq!(rt; sheet.text.as_str(), "a\u{e9}\n\"{}");
+    assert_eq!(rt; job.sheets.into_vec().len(), 1);
+    let Ok(plain) = read(alloc, br#"{"version":1,"nodes":[{"tag":"p"}]}"#) else {
+        return Err(Fail::from("there is a job"));
+    };
+    assert!(rt; plain.sheets.as_slice().is_empty());
+    Ok(())
+}
+
+#[test]
+fn sheet_lists(rt: HostRuntime) -> Result<(), Fail> {
+    let alloc = rt.alloc();
+    assert!(rt; SheetList::new(alloc).as_slice().is_empty());
+    let mut list = Vec::new(alloc);
+    list.push(SheetInput {
+        origin: Origin::User,
+        enabled: false,
+        text: Text::of_str(alloc, "p{}")?,
+    })?;
+    let sheets = SheetList::of_vec(list);
+    let Some(sheet) = sheets.as_slice().first() else {
+        return Err(Fail::from("there is a sheet"));
+    };
+    assert!(rt; sheet.origin == Origin::User && !sheet.enabled);
+    assert_eq!(rt; sheet.text.as_str(), "p{}");
     Ok(())
 }
