@@ -1,6 +1,6 @@
 -- The definitions computed on a small document: `html` over `i` and `p`, and the sheet
 -- `i{color:red} p{color:red} i{color:blue;display:block} *{visibility:hidden;color:lime}`.
-use Rattle.std.proofs.Common.{◌≡◌, ℕ, List, [], ◌∷◌, Option, Some, None, refl, true, false}
+use Rattle.std.proofs.Common.{◌≡◌, ℕ, List, [], ◌∷◌, Option, Some, None, refl, false}
 use Rattle.std.specs.Prelude.{codes}
 use Rattle.std.specs.FinMap as map
 use Rattle.scene_model.specs.Element.{Element, States, Characters}
@@ -10,7 +10,7 @@ use Rattle.value_model.specs.Color.{opaque}
 use Rattle.value_model.specs.Value.{Value, keyword, color}
 use Rattle.value_model.specs.Table.{table}
 use Rattle.cascade_model.specs.Key.{author}
-use Rattle.cascade_model.specs.Matching.{Declared, StyleRule, StyleSheet, matching}
+use Rattle.cascade_model.specs.Matching.{Declared, StyleRule, StyleSheet, rules_from, matching}
 use Rattle.cascade_model.specs.Winner.{winner}
 use Rattle.cascade_model.specs.StyleOf.{style_of}
 
@@ -55,14 +55,14 @@ sheet =
 abbrev values : Value → Value → Value → Value → List Value
 values a b c d = a ∷ b ∷ c ∷ d ∷ []
 
-the_root : style_of doc (sheet ∷ []) 1 ≡ record { values = values lime (keyword (codes "block")) none hidden }
+the_root : style_of doc (rules_from 0 (sheet ∷ [])) 1 ≡ record { values = values lime (keyword (codes "block")) none hidden }
 unfolding style_of ancestors matching winner table
 the_root = refl
 
-higher_wins : style_of doc (sheet ∷ []) 2 ≡ record { values = values blue (keyword (codes "block")) none hidden }
+higher_wins : style_of doc (rules_from 0 (sheet ∷ [])) 2 ≡ record { values = values blue (keyword (codes "block")) none hidden }
 unfolding style_of ancestors matching winner table
 higher_wins = refl
 
-plain : style_of doc (sheet ∷ []) 3 ≡ record { values = values red (keyword (codes "inline")) none hidden }
+plain : style_of doc (rules_from 0 (sheet ∷ [])) 3 ≡ record { values = values red (keyword (codes "inline")) none hidden }
 unfolding style_of ancestors matching winner table
 plain = refl

@@ -6,24 +6,24 @@ use Rattle.scene_model.specs.Ancestors.{up, ancestors}
 use Rattle.scene_model.specs.Valid.{IsValid}
 use Rattle.scene_model.proofs.Climbing.{ancestors-up}
 use Rattle.value_model.specs.Style.{initial_style}
-use Rattle.cascade_model.specs.Matching.{StyleSheet, matching}
+use Rattle.cascade_model.specs.Matching.{PlacedRule, matching}
 use Rattle.cascade_model.specs.Cascade.{cascaded}
 use Rattle.cascade_model.specs.StyleOf.{styled_over, style_along, style_of, parent_style}
 
-along_up : (doc : List Element) (sheets : List StyleSheet) (o : Option ℕ) → style_along doc sheets (up (ancestors doc) o) ≡ parent_style doc sheets o
+along_up : (doc : List Element) (rules : List PlacedRule) (o : Option ℕ) → style_along doc rules (up (ancestors doc) o) ≡ parent_style doc rules o
 unfolding style_of
-along_up doc sheets None = refl
-along_up doc sheets (Some p) = refl
+along_up doc rules None = refl
+along_up doc rules (Some p) = refl
 
-pub style_of-over : (doc : List Element) (sheets : List StyleSheet) → IsValid doc → (x : ℕ) → style_of doc sheets x ≡ styled_over doc sheets (parent_style doc sheets (parent_of doc x)) x
+pub style_of-over : (doc : List Element) (rules : List PlacedRule) → IsValid doc → (x : ℕ) → style_of doc rules x ≡ styled_over doc rules (parent_style doc rules (parent_of doc x)) x
 unfolding style_of
-style_of-over doc sheets v x =
-    ap (λ l. styled_over doc sheets (style_along doc sheets l) x) (ancestors-up doc v x) ∙ ap (λ s. styled_over doc sheets s x) (along_up doc sheets (parent_of doc x))
+style_of-over doc rules v x =
+    ap (λ l. styled_over doc rules (style_along doc rules l) x) (ancestors-up doc v x) ∙ ap (λ s. styled_over doc rules s x) (along_up doc rules (parent_of doc x))
 
-pub style_of-child : (doc : List Element) (sheets : List StyleSheet) → IsValid doc → (x p : ℕ) → parent_of doc x ≡ Some p → style_of doc sheets x ≡ cascaded false (style_of doc sheets p) (matching doc sheets x)
-style_of-child doc sheets v x p h =
-    style_of-over doc sheets v x ∙ ap (λ o. cascaded (is_none o) (parent_style doc sheets o) (matching doc sheets x)) h
+pub style_of-child : (doc : List Element) (rules : List PlacedRule) → IsValid doc → (x p : ℕ) → parent_of doc x ≡ Some p → style_of doc rules x ≡ cascaded false (style_of doc rules p) (matching doc rules x)
+style_of-child doc rules v x p h =
+    style_of-over doc rules v x ∙ ap (λ o. cascaded (is_none o) (parent_style doc rules o) (matching doc rules x)) h
 
-pub style_of-root : (doc : List Element) (sheets : List StyleSheet) → IsValid doc → (x : ℕ) → parent_of doc x ≡ None → style_of doc sheets x ≡ cascaded true initial_style (matching doc sheets x)
-style_of-root doc sheets v x h =
-    style_of-over doc sheets v x ∙ ap (λ o. cascaded (is_none o) (parent_style doc sheets o) (matching doc sheets x)) h
+pub style_of-root : (doc : List Element) (rules : List PlacedRule) → IsValid doc → (x : ℕ) → parent_of doc x ≡ None → style_of doc rules x ≡ cascaded true initial_style (matching doc rules x)
+style_of-root doc rules v x h =
+    style_of-over doc rules v x ∙ ap (λ o. cascaded (is_none o) (parent_style doc rules o) (matching doc rules x)) h

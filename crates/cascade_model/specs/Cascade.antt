@@ -1,5 +1,5 @@
 -- The style of an element, by the declarations that apply to it, over the style of its parent.
-use Rattle.std.specs.Prelude.{ℕ, ◌+◌, ◌==◌, List, [], ◌∷◌, Bool, ◌&&◌, Option, if◌then◌else◌}
+use Rattle.std.specs.Prelude.{ℕ, ◌+◌, ◌==◌, List, [], ◌∷◌, Bool, ◌&&◌, if◌then◌else◌}
 use Rattle.std.specs.Option.{option_map_or}
 use Rattle.value_model.specs.Value.{Value, current_color, same_value}
 use Rattle.value_model.specs.Table.{Row, table, color_place}

@@ -1,5 +1,5 @@
 -- In which order declarations are compared (css-cascade-5, section 6.1).
-use Rattle.std.specs.Prelude.{ℕ, ◌-◌, Bool, true, false, List, if◌then◌else◌}
+use Rattle.std.specs.Prelude.{ℕ, ◌-◌, Bool, if◌then◌else◌}
 use Rattle.std.specs.declared.cmp.Ordering.{Ordering}
 use Rattle.std.specs.Ordering.{ordering_then, nat_cmp, bool_cmp}
 use Rattle.selector_model.specs.Specificity.{Specificity, specificity_cmp}

@@ -1,8 +1,10 @@
-//! The origins of style sheets. Cascade layers come here.
+//! The origins of style sheets, and a sheet as it is given. Cascade layers come here.
 #![tactic(auto)]
 
 mod origin;
+mod sheet_input;
 #[cfg(test)]
 mod tests;
 
 pub use origin::Origin;
+pub use sheet_input::SheetInput;

@@ -71,7 +71,7 @@ impl Specificity {
     }
 
     /// The more specific one.
-    pub(crate) fn greater(self, other: Specificity) -> Specificity
+    pub fn greater(self, other: Specificity) -> Specificity
         ensures { result ≡ greater self other }
     {
         if self < other { other } else { self }

@@ -1,6 +1,5 @@
 -- What the program answers, and what it writes.
-use Rattle.std.specs.Prelude.{◌≡◌, ◌≢◌, ℕ, ◌+◌, ◌≤◌, nat_le, ◌⊎◌, List, [], length, take, Option, Some, None, IfSome, if◌then◌else◌}
-use Rattle.std.specs.Option.{option_map_or}
+use Rattle.std.specs.Prelude.{◌≡◌, ◌≢◌, ℕ, ◌+◌, ◌≤◌, nat_le, ◌⊎◌, List, [], length, take, Option, Some, None, IfSome, IsSomeAnd, if◌then◌else◌}
 use Rattle.std.specs.Io.KnownBytes.{Appends}
 use Rattle.job_json.specs.declared.Job.{Job}
 use Rattle.job_json.specs.JobOf.{Verdict, not_json, bad_shape, good, verdict_of}
@@ -8,7 +7,7 @@ use Rattle.stylo_base.specs.declared.refusal.Kind.TheVariants.{Input}
 use Rattle.style_cli.specs.declared.status.Status.{Status}
 use Rattle.style_cli.specs.declared.status.Status.TheVariants.{Done, ReadFault, Usage, NotJson, NotAJob, Limit, WriteFault, NoMemory}
 use Rattle.style_cli.specs.Loops.{GrewByFront}
-use Rattle.style_cli.specs.Text.{text_of}
+use Rattle.style_cli.specs.Text.{HasText}
 
 -- how many bytes an input may have
 abbrev pub input_limit : ℕ
@@ -23,9 +22,9 @@ job_if_good (good job) = Some job
 abbrev pub job_in : List ℕ → Option Job
 job_in bytes = if nat_le (length bytes) input_limit then job_if_good (verdict_of bytes) else None
 
--- what is written for an input: the text of its job, if it is one
-abbrev pub due_text : List ℕ → List ℕ
-due_text bytes = option_map_or text_of (job_in bytes) []
+-- the bytes of an input are those of a job, some text of which is so
+abbrev pub IsSoOfText : List ℕ → (List ℕ → Type 0) → Type 0
+IsSoOfText bytes IsSo = IsSomeAnd (job_in bytes) (λ job. HasText job IsSo)
 
 abbrev pub due_by : Verdict → Status
 due_by not_json = NotJson
@@ -52,20 +51,20 @@ IsJob left = IfSome left (λ bytes. (job : Job) × (job_in bytes ≡ Some job))
 abbrev pub IsReadToEnd : Option (List ℕ) → Option (List ℕ) → Type 0
 IsReadToEnd old new = IfSome old (λ bytes. new ≡ Some [])
 
--- an output grew by the whole text that is due for an input
+-- an output grew by the whole text of an input's job
 abbrev pub IsPrinted : Option (List ℕ) → Option (List ℕ) → Option (List ℕ) → Type 0
-IsPrinted left old new = IfSome left (λ bytes. Appends old new (due_text bytes))
+IsPrinted left old new = IfSome left (λ bytes. IsSoOfText bytes (Appends old new))
 
 -- it grew by a front of that text
-abbrev pub IsPartlyPrinted : Option (List ℕ) → Option (List ℕ) → Option (List ℕ) → Type 0
-IsPartlyPrinted left old new = IfSome left (λ bytes. GrewByFront old new (due_text bytes))
+abbrev pub IsFrontPrinted : Option (List ℕ) → Option (List ℕ) → Option (List ℕ) → Type 0
+IsFrontPrinted left old new = IfSome left (λ bytes. IsSoOfText bytes (GrewByFront old new))
 
 -- Beside what an input calls for there are three answers: want of memory, a fault of the source, and one of the sink, where there is a job.
 abbrev pub IsAnswerTo : List ℕ → Status → Type 0
 IsAnswerTo bytes status =
     (status ≡ due_status bytes) ⊎ ((status ≡ NoMemory) ⊎ ((status ≡ ReadFault) ⊎ ((status ≡ WriteFault) × (due_status bytes ≡ Done))))
 
--- the statuses that can come before the first line is written
+-- the statuses that come only before the first line is written
 abbrev pub IsEarly : Status → Type 0
 IsEarly ReadFault = Unit {0}
 IsEarly Usage = Unit {0}
@@ -93,6 +92,12 @@ IsRefused NotJson bytes = (length bytes ≤ input_limit) × (verdict_of bytes �
 IsRefused (NotAJob path) bytes = (length bytes ≤ input_limit) × (verdict_of bytes ≡ bad_shape path)
 IsRefused (Limit kind number) bytes = (kind ≡ Input) × ((number ≡ input_limit) × (input_limit + 1 ≤ length bytes))
 IsRefused status bytes = Unit {0}
+
+-- with these two the input was read to its end
+abbrev pub IsTold : Status → Option (List ℕ) → Option (List ℕ) → Type 0
+IsTold NotJson old new = IsReadToEnd old new
+IsTold (NotAJob path) old new = IsReadToEnd old new
+IsTold status old new = Unit {0}
 
 -- the exit status of the process
 abbrev pub exit_number : Status → ℕ

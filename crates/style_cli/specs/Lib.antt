@@ -2,4 +2,3 @@ pub mod Words
 pub mod Text
 pub mod Loops
 pub mod Answer
-pub mod Known

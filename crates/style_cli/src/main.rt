@@ -2,10 +2,10 @@
 //! element to standard output.
 #![tactic(auto)]
 
+pub mod laws;
 mod printing;
 mod reading;
 mod status;
-mod styles;
 #[cfg(test)]
 mod tests;
 mod top;
@@ -15,6 +15,7 @@ mod writing;
 use io_edges::{StdSink, StdSource};
 pub use status::Status;
 use std::env;
+use std::io;
 use std::process::ExitCode;
 pub use top::run;
 
@@ -34,8 +35,9 @@ fn main(rt: HostRuntime) -> ExitCode {
 
 /// The words of the command line. Words that are not UTF-8 are none.
 fn arguments(rt: &HostRuntime) -> Result<Vec<String>, Status> {
-    let Ok(args) = env::args(rt) else {
-        return Err(Status::Usage);
-    };
-    args.collect(rt.alloc()).map_err(|_| Status::NoMemory)
+    match env::args(rt) {
+        Ok(args) => args.collect(rt.alloc()).map_err(|_| Status::NoMemory),
+        Err(error) if error.kind() == io::ErrorKind::OutOfMemory => Err(Status::NoMemory),
+        Err(_) => Err(Status::Usage),
+    }
 }

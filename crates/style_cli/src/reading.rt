@@ -53,6 +53,7 @@ pub fn read_all<S: Source>(alloc: Global, source: &mut S) -> Result<Vec<u8>, Sto
     ensures fits { IfOk result (λ bytes. length bytes.items ≤ INPUT_LIMIT) }
     ensures too_long { IsErrOf result Stop.TooLong → LosesFront (INPUT_LIMIT + 1) (S.left source.old) (S.left source.new) }
     ensures most { LosesAtMost (INPUT_LIMIT + 1) (S.left source.old) (S.left source.new) }
+    ensures fault { IsErrOf result Stop.Fault → LosesAtMost INPUT_LIMIT (S.left source.old) (S.left source.new) }
     ensures cause { HasCause (S.faults source.old) (S.faults source.new) (IsErrOf result Stop.Fault) }
 {
     let mut found = Vec::new(alloc);

@@ -1,11 +1,12 @@
 //! All that the program does, over any ends.
 
-ghost use Rattle.std.specs.Prelude.{◌≡◌, ◌≢◌, ◌≤◌, ◌⊎◌, ◌↔◌, ℕ, List, None, Some, Err, IfErr, IfOk, IfSome, OnOk, length, map, string_bytes};
+ghost use Rattle.std.specs.Prelude.{◌≡◌, ◌≢◌, ◌+◌, ◌≤◌, ◌⊎◌, ◌↔◌, ℕ, List, None, Some, Err, IfErr, IfOk, IfSome, OnOk, length, map, string_bytes};
 ghost use Rattle.io_edges.specs.Cause.{HasCause, Rose};
 ghost use Rattle.stylo_base.specs.declared.refusal.Kind.{Kind};
 ghost use Rattle.job_json.specs.JobOf.{not_json, bad_shape};
 ghost use Rattle.style_cli.specs.Words.{line_of};
-ghost use Rattle.style_cli.specs.Answer.{IsReadAs, IsTooLong, IsJob, IsPrinted, IsPartlyPrinted, IsReadToEnd, IsAnswerTo, IsEarly, IsUnread, IsRefused, input_limit, job_in};
+ghost use Rattle.style_cli.specs.Answer.{IsReadAs, IsTooLong, IsJob, IsPrinted, IsFrontPrinted, IsReadToEnd, IsAnswerTo, IsEarly, IsUnread, IsRefused, IsTold, input_limit, job_in};
+ghost use Rattle.style_cli.specs.Loops.{LosesAtMost, LosesFront};
 
 use crate::printing::print_job;
 use crate::reading::{INPUT_LIMIT, Stop, read_all};
@@ -34,16 +35,23 @@ pub fn run<R: Threads + Sync, S: Source, K: Sink>(
     ensures unread { result ≡ Status.Usage → S.left source.new ≡ S.left source.old }
 
     // A fault of reading or writing is told only where the counts of faults rose in this call.
-    ensures read_fault { result ≡ Status.ReadFault → Rose (S.faults source.old) (S.faults source.new) }
+    ensures read_fault { result ≡ Status.ReadFault → Rose (S.faults source.old) (S.faults source.new)
+        × LosesAtMost input_limit (S.left source.old) (S.left source.new) }
     ensures write_fault { result ≡ Status.WriteFault → Rose (K.faults sink.old) (K.faults sink.new) }
 
     // The other refusals are told by the input alone.
-    ensures not_json { result ≡ Status.NotJson → IsReadAs (S.left source.old) not_json }
+    ensures not_json { result ≡ Status.NotJson → IsReadAs (S.left source.old) not_json
+        × IsReadToEnd (S.left source.old) (S.left source.new) }
     ensures not_a_job { (path : List ℕ) → result ≡ Status.NotAJob path
-        → IsReadAs (S.left source.old) (bad_shape path) }
+        → IsReadAs (S.left source.old) (bad_shape path) × IsReadToEnd (S.left source.old) (S.left source.new) }
     ensures limit { (kind : Kind) (number : ℕ) → result ≡ Status.Limit kind number
-        → (kind ≡ Kind.Input) × ((number ≡ input_limit) × IsTooLong (S.left source.old)) }
-    ensures job { result ≡ Status.WriteFault → IsJob (S.left source.old) }
+        → (kind ≡ Kind.Input) × ((number ≡ input_limit) × (IsTooLong (S.left source.old)
+        × LosesFront (input_limit + 1) (S.left source.old) (S.left source.new))) }
+    ensures job { result ≡ Status.WriteFault → IsJob (S.left source.old)
+        × IsReadToEnd (S.left source.old) (S.left source.new) }
+
+    // The source is never read further than one byte past the limit.
+    ensures most { LosesAtMost (input_limit + 1) (S.left source.old) (S.left source.new) }
 
     // And an input gets the status that it calls for, whatever the sink does.
     ensures due { (bytes : List ℕ) → S.left source.old ≡ Some bytes
@@ -51,10 +59,14 @@ pub fn run<R: Threads + Sync, S: Source, K: Sink>(
 
     // With Done the sink holds what it held before and then exactly the job's text, and the input
     // was read to its end.
-    ensures done { result ≡ Status.Done → IsJob (S.left source.old)
-        × (IsPrinted (S.left source.old) (K.held sink.old) (K.held sink.new) × IsReadToEnd (S.left source.old) (S.left source.new)) }
-    ensures front { (result ≡ Status.WriteFault) ⊎ (result ≡ Status.NoMemory)
-        → IsPartlyPrinted (S.left source.old) (K.held sink.old) (K.held sink.new) }
+    ensures done { result ≡ Status.Done → IsPrinted (S.left source.old) (K.held sink.old) (K.held sink.new)
+        × IsReadToEnd (S.left source.old) (S.left source.new) }
+
+    // After a failed write it holds a front of that text, and where memory is wanting such a front
+    // or what it held before.
+    ensures front { result ≡ Status.WriteFault → IsFrontPrinted (S.left source.old) (K.held sink.old) (K.held sink.new) }
+    ensures no_memory { result ≡ Status.NoMemory → IsFrontPrinted (S.left source.old) (K.held sink.old) (K.held sink.new)
+        ⊎ (K.held sink.new ≡ K.held sink.old) }
     ensures kept { IsEarly result → K.held sink.new ≡ K.held sink.old }
 
     // A command line and a job, with no fault of either end, are answered by Done, if there is memory.
@@ -83,10 +95,14 @@ fn read_job<S: Source>(alloc: Global, source: &mut S) -> Result<Job, Status>
     ensures job { IfOk result (λ job. IfSome (S.left source.old) (λ bytes. job_in bytes ≡ Some job)) }
     ensures end { OnOk result (IsReadToEnd (S.left source.old) (S.left source.new)) }
     ensures fits { IfOk result (λ job. length job.nodes ≤ 65536) }
+    ensures few { IfOk result (λ job. length job.sheets ≤ 256) }
     ensures unread { IfErr result IsUnread }
     ensures refused { IfErr result (λ status. IfSome (S.left source.old) (IsRefused status)) }
+    ensures told { IfErr result (λ status. IsTold status (S.left source.old) (S.left source.new)) }
     ensures limit { (kind : Kind) (number : ℕ) → result ≡ Err (Status.Limit kind number)
-        → (kind ≡ Kind.Input) × (number ≡ input_limit) }
+        → (kind ≡ Kind.Input) × ((number ≡ input_limit) × LosesFront (input_limit + 1) (S.left source.old) (S.left source.new)) }
+    ensures most { LosesAtMost (input_limit + 1) (S.left source.old) (S.left source.new) }
+    ensures fault { result ≡ Err Status.ReadFault → LosesAtMost input_limit (S.left source.old) (S.left source.new) }
     ensures cause { HasCause (S.faults source.old) (S.faults source.new) (result ≡ Err Status.ReadFault) }
 {
     let bytes = match read_all(alloc, source) {

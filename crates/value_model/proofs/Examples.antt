@@ -2,7 +2,7 @@
 use Rattle.std.proofs.Common.{◌≡◌, Some, None, refl}
 use Rattle.std.specs.Prelude.{codes}
 use Rattle.value_model.specs.Color.{opaque, rgba, transparent}
-use Rattle.value_model.specs.Value.{keyword, color, written}
+use Rattle.value_model.specs.Value.{color, written}
 use Rattle.value_model.specs.Table.{table, property_named}
 
 red_text : written (color (opaque 255 0 7)) ≡ codes "#ff0007"

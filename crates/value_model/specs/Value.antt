@@ -1,5 +1,5 @@
 -- What a property can be set or computed to be.
-use Rattle.std.specs.Prelude.{◌≡◌, ◌⊎◌, Bool, false, List, refl, codes}
+use Rattle.std.specs.Prelude.{◌≡◌, ◌⊎◌, Bool, false, refl, codes}
 use Rattle.std.specs.Str.{bytes_eq}
 use Rattle.std.specs.Coded.{Coded, code_by, coded⊎, coded_ℕ, coded_list}
 use Rattle.std.proofs.Common.{inl, inr}

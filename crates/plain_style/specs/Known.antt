@@ -2,9 +2,10 @@
 use Rattle.std.specs.Prelude.{◌≡◌, ℕ, List, Option, Some}
 use Rattle.scene_model.specs.Element.{Element}
 use Rattle.scene_model.specs.Lookups.{parent_of}
-use Rattle.cascade_model.specs.Style.{Style}
+use Rattle.value_model.specs.Style.{Style}
+use Rattle.cascade_model.specs.Matching.{PlacedRule}
 use Rattle.cascade_model.specs.StyleOf.{style_of}
 
 -- the style of the element's parent, if it has one, is known
-abbrev pub KnowsParent : List Element → (ℕ → Option Style) → ℕ → Type 0
-KnowsParent doc known x = (p : ℕ) → parent_of doc x ≡ Some p → known p ≡ Some (style_of doc p)
+abbrev pub KnowsParent : List Element → List PlacedRule → (ℕ → Option Style) → ℕ → Type 0
+KnowsParent doc rules known x = (p : ℕ) → parent_of doc x ≡ Some p → known p ≡ Some (style_of doc rules p)

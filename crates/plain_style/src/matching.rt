@@ -1,0 +1,82 @@
+//! The declarations that apply to an element.
+
+ghost use Rattle.std.specs.Prelude.{◌≡◌, ◌++◌, None, IfOk, OnOk, map};
+ghost use Rattle.scene_model.specs.Lookups.{IsElement};
+ghost use Rattle.selector_model.specs.Holds.{holds};
+ghost use Rattle.cascade_model.specs.Matching.{all_matched, greatest_by, matching};
+ghost use Rattle.cascade_core.specs.Seen.{matched_of};
+ghost use Rattle.selector_types.specs.Outer.{selectors_of};
+ghost use Rattle.sheet_set.specs.Seen.{declared_of, rule_of, rules_of};
+
+use cascade_core::Matched;
+use dom_tree::Doc;
+use selector_match::matches;
+use selector_types::{Selector, Specificity, weight};
+use sheet_set::{SheetRule, Sheets};
+use std::alloc::Global;
+use stylo_base::NoMemory;
+
+/// The declarations of all rules with a selector that holds at `x`, in the order of the rules.
+pub fn match_element(
+    alloc: Global,
+    doc: &Doc,
+    sheets: &Sheets,
+    x: u32,
+) -> Result<Vec<Matched>, NoMemory>
+    requires { IsElement doc.now x }
+    ensures { IfOk result (λ list. map matched_of list.items ≡ matching doc.now (rules_of sheets.now) x) }
+{
+    let mut list = Vec::new(alloc);
+    for (rule, selectors) in sheets.rules().iter().zip(sheets.selectors()) {
+        if let Some(specificity) = greatest(doc, selectors, x) {
+            put_declarations(&mut list, rule, specificity)?;
+        }
+    }
+    Ok(list)
+}
+
+/// The greatest specificity of the selectors that hold at `x`, if some does.
+fn greatest(doc: &Doc, selectors: &[Selector], x: u32) -> Option<Specificity>
+    requires { IsElement doc.now x }
+    ensures { result ≡ greatest_by (λ selector. holds doc.now selector x) None (selectors_of selectors.now) }
+{
+    let mut best: Option<Specificity> = None;
+    for selector in selectors {
+        if matches(doc, selector, x) {
+            let found = weight::specificity(selector);
+            best = Some(match best {
+                Some(other) => other.greater(found),
+                None => found,
+            });
+        }
+    }
+    best
+}
+
+/// Puts the declarations of a rule behind the list.
+fn put_declarations(
+    list: &mut Vec<Matched>,
+    rule: &SheetRule,
+    specificity: Specificity,
+) -> Result<(), NoMemory>
+    ensures { (selectors : List Selector) → OnOk result (map matched_of list.new.items
+        ≡ map matched_of list.old.items ++ all_matched (rule_of rule.now selectors) specificity rule.now.place (map declared_of rule.now.declarations.items)) }
+{
+    let mut place = rule.place();
+    for declared in rule.declarations() {
+        list.push(Matched {
+            property: declared.property,
+            value: declared.value,
+            origin: rule.origin(),
+            important: declared.important,
+            attached: false,
+            layer: 0,
+            specificity,
+            sheet: rule.sheet(),
+            position: rule.position(),
+            place,
+        })?;
+        place += 1;
+    }
+    Ok(())
+}
