@@ -3,7 +3,7 @@ use Rattle.std.specs.Prelude.{◌≡◌, ℕ, Bool, List, [], ◌∷◌, map, So
 use Rattle.std.specs.Char.{to_ascii_lowercase}
 use Rattle.scene_model.specs.Element.{Characters}
 use Rattle.syntax_model.specs.Token.{Token, ident, hash}
-use Rattle.value_model.specs.Color.{Color, NamedColor, named, named_colors}
+use Rattle.value_model.specs.Color.{Color, named, named_colors}
 use Rattle.value_model.specs.Value.{Value, keyword, color, current_color}
 use Rattle.value_model.specs.Table.{Form, word, any_color, Row, table}
 use Rattle.value_parser.specs.HexColor.{hex_color}

@@ -1,2 +1,3 @@
 pub mod HexColor
 pub mod Accepts
+pub mod Readings

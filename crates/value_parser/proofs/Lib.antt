@@ -1,0 +1,6 @@
+pub mod ListLemmas
+pub mod HexLemmas
+pub mod NameLemmas
+pub mod ColorLemmas
+pub mod OneValue
+pub mod AcceptsLemmas

@@ -1,0 +1,17 @@
+//! Reads tokens as a value of a property (css-color-4, sections 4 to 6, and the property's own
+//! section).
+//!
+//! In this profile a value is one token: a keyword that the property takes, or a colour. Nothing
+//! here takes memory.
+#![tactic(auto)]
+
+mod color;
+mod hex;
+pub mod laws;
+mod named;
+mod reading;
+#[cfg(test)]
+mod tests;
+mod word;
+
+pub use reading::value;
