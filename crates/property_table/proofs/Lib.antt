@@ -1,3 +1,5 @@
 pub mod WordLemmas
+pub mod ColorLemmas
 pub mod ValueLemmas
 pub mod RowLemmas
+pub mod NameLemmas

@@ -6,20 +6,25 @@ use Rattle.std.proofs.lemmas.List.FromFn.{get_or-range_with_len, length-range_wi
 use Rattle.std.proofs.lemmas.Option.{slice_get-map, slice_get-get_or, slice_get_within, get_or_from_slice_get}
 use denote.Enum.Bare.{tag_one}
 use denote.Enum.Declared.{tag_of}
-use Rattle.cascade_model.specs.Table as model
+use Rattle.value_model.specs.Table as model
 use Rattle.property_table.specs.Rows.{property_of, row_seen}
 use Rattle.property_table.specs.declared.property.PropId.{PropId}
-use Rattle.property_table.specs.declared.property.PropId.TheVariants.{Display}
+use Rattle.property_table.specs.declared.property.PropId.TheVariants.{Color}
 use Rattle.property_table.specs.declared.property.Row.{Row}
 use Rattle.property_table.specs.contracts.property.PropId.{the_type}
 
 -- the properties stand in the order of the variants
 property_of-tag : (id : PropId) → property_of id ≡ tag_of the_type id
-property_of-tag Display = refl
+property_of-tag Color = refl
+property_of-tag _ = refl
 
 -- no two properties have one place
 pub property_of-same : (a b : PropId) → property_of a ≡ property_of b → a ≡ b
 property_of-same a b h = tag_one the_type tt a b (sym (property_of-tag a) ∙ h ∙ property_of-tag b)
+
+pub length-table : length model.table ≡ 4
+unfolding model.table
+length-table = refl
 
 -- there are as many rows as in the table
 pub length-rows : (rows : List Row) → map row_seen rows ≡ model.table → length rows ≡ length model.table

@@ -3,27 +3,39 @@ use Rattle.std.proofs.Common.{◌≡◌, ap}
 use Rattle.std.specs.Bool.{Decides}
 use Rattle.std.proofs.lemmas.Slice.Eq.{bytes_eq-Decides}
 use denote.Enum.Bare.{same_true, true_same}
-use Rattle.cascade_model.specs.Value as model
+use Rattle.value_model.specs.Value as model
 use Rattle.property_table.specs.Values.{value_of}
 use Rattle.property_table.specs.declared.value.Value.{Value}
-use Rattle.property_table.specs.declared.value.Value.TheVariants.{Keyword}
+use Rattle.property_table.specs.declared.value.Value.TheVariants.{Keyword, Color}
 use Rattle.property_table.specs.contracts.keyword.Keyword.{the_type}
 use Rattle.property_table.specs.contracts.value.ValuePartialEq.TheImpl.{ghosts}
+use Rattle.property_table.proofs.ColorLemmas.{same_color-Decides, color_of-same, color_eq-Decides}
 use Rattle.property_table.proofs.WordLemmas.{word_of-same}
 
 -- the test decides whether two values of the model are equal
 pub same_value-Decides : (a b : model.Value) → Decides (model.same_value a b) (a ≡ b)
 same_value-Decides (model.keyword a) (model.keyword b) =
     let same = bytes_eq-Decides a b in (λ e. ap model.keyword (same.0 e), λ e. same.1 cc)
+same_value-Decides (model.color a) (model.color b) =
+    let same = same_color-Decides a b in (λ e. ap model.color (same.0 e), λ e. same.1 cc)
+same_value-Decides (model.keyword a) (model.color b) = (λ e. cc, λ e. cc)
+same_value-Decides (model.color a) (model.keyword b) = (λ e. cc, λ e. cc)
 
 -- values that stand for one value of the model are the same
 pub value_of-same : (a b : Value) → value_of a ≡ value_of b → a ≡ b
 value_of-same (Keyword a) (Keyword b) h = ap Keyword (word_of-same a b cc)
+value_of-same (Color a) (Color b) h = ap Color (color_of-same a b cc)
+value_of-same (Keyword a) (Color b) h = cc
+value_of-same (Color a) (Keyword b) h = cc
 
 -- the derived `==` decides whether two values stand for one value of the model
 pub eq-Decides : (a b : Value) → Decides (ghosts.eq a b) (value_of a ≡ value_of b)
 eq-Decides (Keyword a) (Keyword b) =
     (λ e. ap (λ k. value_of (Keyword k)) (same_true the_type tt a b e), λ e. true_same the_type a b (word_of-same a b cc))
+eq-Decides (Color a) (Color b) =
+    let same = color_eq-Decides a b in (λ e. ap model.color (same.0 e), λ e. same.1 cc)
+eq-Decides (Keyword a) (Color b) = (λ e. cc, λ e. cc)
+eq-Decides (Color a) (Keyword b) = (λ e. cc, λ e. cc)
 
 -- the derived `==` decides whether two values are the same
 pub eq-Decides_same : (a b : Value) → Decides (ghosts.eq a b) (a ≡ b)

@@ -5,10 +5,11 @@ use Rattle.std.specs.Str.{bytes_eq}
 use Rattle.scene_model.specs.Element.{Characters}
 use Rattle.property_table.specs.Words.{word_of}
 use Rattle.property_table.specs.declared.keyword.Keyword.{Keyword}
-use Rattle.property_table.specs.declared.keyword.Keyword.TheVariants.{Inline, Block, InlineBlock, Flex, InlineFlex, None}
+use Rattle.property_table.specs.declared.keyword.Keyword.TheVariants.{Inline, Block, InlineBlock, Flex, InlineFlex, None, Left, Right, Both, Visible, Hidden, Collapse, CurrentColor}
 
 abbrev keywords : List Keyword
-keywords = Inline ∷ Block ∷ InlineBlock ∷ Flex ∷ InlineFlex ∷ None ∷ []
+keywords =
+    Inline ∷ Block ∷ InlineBlock ∷ Flex ∷ InlineFlex ∷ None ∷ Left ∷ Right ∷ Both ∷ Visible ∷ Hidden ∷ Collapse ∷ CurrentColor ∷ []
 
 -- the keyword of a text
 abbrev keyword_of_word : Characters → Option Keyword

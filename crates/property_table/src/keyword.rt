@@ -13,6 +13,13 @@ pub enum Keyword {
     Flex,
     InlineFlex,
     None,
+    Left,
+    Right,
+    Both,
+    Visible,
+    Hidden,
+    Collapse,
+    CurrentColor,
 }
 
 impl Keyword {
@@ -28,6 +35,13 @@ impl Keyword {
             Keyword::Flex => "flex",
             Keyword::InlineFlex => "inline-flex",
             Keyword::None => "none",
+            Keyword::Left => "left",
+            Keyword::Right => "right",
+            Keyword::Both => "both",
+            Keyword::Visible => "visible",
+            Keyword::Hidden => "hidden",
+            Keyword::Collapse => "collapse",
+            Keyword::CurrentColor => "currentcolor",
         }
     }
 }

@@ -1,18 +1,22 @@
 //! The table of properties, in the order in which they are printed.
 
-ghost use Rattle.std.specs.Prelude.{◌≡◌, ◌<◌, ◌↔◌, Some, IsTrue, length, map, slice_get};
+ghost use Rattle.std.specs.Prelude.{◌≡◌, ◌<◌, Some, length, map, option_map, slice_get};
 ghost use Rattle.std.specs.List.{range_with_len};
 ghost use Rattle.std.specs.Str.{chars};
-ghost use Rattle.cascade_model.specs.Table.{table};
+ghost use Rattle.value_model.specs.Table.{property_named, table};
 ghost use Rattle.property_table.specs.Values.{value_of};
 ghost use Rattle.property_table.specs.Rows.{property_of, row_of, row_seen};
 
-use crate::{Keyword, Value};
+use crate::{Color, Form, Keyword, Value};
+use stylo_base::eq_ascii_case;
 
 /// A property.
 #[derive(Clone, Copy, Debug, PartialEq, Eq)]
 pub enum PropId {
+    Color,
     Display,
+    Clear,
+    Visibility,
 }
 
 /// What is known of one property.
@@ -20,7 +24,7 @@ pub enum PropId {
 pub struct Row {
     /// The property.
     pub id: PropId,
-    /// Its name, in ASCII.
+    /// Its name, in lower-case ASCII.
     pub name: &'static str,
     /// Whether an element takes it from its parent where nothing sets it.
     pub inherited: bool,
@@ -28,19 +32,71 @@ pub struct Row {
     pub initial: Value,
     /// What is not printed.
     pub standing: Value,
+    /// What it takes.
+    pub forms: &'static [Form],
 }
 
 /// The number of properties.
-pub const COUNT: usize = 1;
+pub const COUNT: usize = 4;
+
+const BLACK: Value = Value::Color(Color {
+    red: 0,
+    green: 0,
+    blue: 0,
+    alpha: 255,
+});
 
 /// A row for each property.
-static ROWS: [Row; COUNT] = [Row {
-    id: PropId::Display,
-    name: "display",
-    inherited: false,
-    initial: Value::Keyword(Keyword::Inline),
-    standing: Value::Keyword(Keyword::Inline),
-}];
+static ROWS: [Row; COUNT] = [
+    Row {
+        id: PropId::Color,
+        name: "color",
+        inherited: true,
+        initial: BLACK,
+        standing: BLACK,
+        forms: &[Form::AnyColor],
+    },
+    Row {
+        id: PropId::Display,
+        name: "display",
+        inherited: false,
+        initial: Value::Keyword(Keyword::Inline),
+        standing: Value::Keyword(Keyword::Inline),
+        forms: &[
+            Form::Word(Keyword::Inline),
+            Form::Word(Keyword::Block),
+            Form::Word(Keyword::InlineBlock),
+            Form::Word(Keyword::Flex),
+            Form::Word(Keyword::InlineFlex),
+            Form::Word(Keyword::None),
+        ],
+    },
+    Row {
+        id: PropId::Clear,
+        name: "clear",
+        inherited: false,
+        initial: Value::Keyword(Keyword::None),
+        standing: Value::Keyword(Keyword::None),
+        forms: &[
+            Form::Word(Keyword::None),
+            Form::Word(Keyword::Left),
+            Form::Word(Keyword::Right),
+            Form::Word(Keyword::Both),
+        ],
+    },
+    Row {
+        id: PropId::Visibility,
+        name: "visibility",
+        inherited: true,
+        initial: Value::Keyword(Keyword::Visible),
+        standing: Value::Keyword(Keyword::Visible),
+        forms: &[
+            Form::Word(Keyword::Visible),
+            Form::Word(Keyword::Hidden),
+            Form::Word(Keyword::Collapse),
+        ],
+    },
+];
 
 impl PropId {
     /// The place in the table, from 0.
@@ -70,6 +126,18 @@ impl Row {
     {
         &Row::all()[id.place()]
     }
+}
+
+/// The property of that name, ASCII case aside. It takes no memory.
+pub fn by_name(name: &str) -> Option<PropId>
+    ensures { option_map property_of result ≡ property_named (chars name.now) }
+{
+    for row in Row::all() {
+        if eq_ascii_case(name, row.name) {
+            return Some(row.id);
+        }
+    }
+    None
 }
 
 /// What the property is where nothing sets it.

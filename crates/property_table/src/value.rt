@@ -1,16 +1,17 @@
-//! What a property can be computed to be.
+//! What a property can be set or computed to be.
 
 ghost use Rattle.std.specs.Prelude.{◌≡◌, ◌++◌, ◌↔◌, IsTrue, OnErr, OnOk};
-ghost use Rattle.cascade_model.specs.Value.{same_value, written};
+ghost use Rattle.value_model.specs.Value.{same_value, written};
 ghost use Rattle.property_table.specs.Values.{value_of};
 
-use crate::Keyword;
+use crate::{Color, Keyword};
 use stylo_base::{NoMemory, Text};
 
-/// A computed value.
+/// A value of a property.
 #[derive(Clone, Copy, Debug, PartialEq, Eq)]
 pub enum Value {
     Keyword(Keyword),
+    Color(Color),
 }
 
 impl Value {
@@ -29,6 +30,7 @@ impl Value {
     {
         match self {
             Value::Keyword(keyword) => text.push_str(keyword.text()),
+            Value::Color(color) => color.write(text),
         }
     }
 }

@@ -3,10 +3,10 @@ use Rattle.std.proofs.Common.{◌≡◌, ℕ, ◌<◌, ◌+◌, List, [], ◌∷
 use Rattle.std.proofs.lemmas.List.{length-set, set-get_or, drop-set-lt}
 use Rattle.std.proofs.lemmas.Grind.{take-set_at}
 use Rattle.std.proofs.lemmas.Option.{slice_get_within, slice_get-get_or}
-use Rattle.cascade_model.specs.Value.{Value}
-use Rattle.cascade_model.specs.Table as model
-use Rattle.cascade_model.specs.Table.{table}
-use Rattle.cascade_model.specs.Style.{Style, inherited_values}
+use Rattle.value_model.specs.Value.{Value}
+use Rattle.value_model.specs.Table as model
+use Rattle.value_model.specs.Table.{table}
+use Rattle.value_model.specs.Style.{Style, inherited_values}
 use Rattle.property_table.specs.Rows.{row_seen}
 use Rattle.property_table.specs.Values.{value_of}
 use Rattle.property_table.specs.declared.property.Row.{Row}

@@ -2,8 +2,8 @@
 use Rattle.std.proofs.Common.{◌≡◌, ℕ, ◌<◌, List, Some, length, map, get_or, slice_get, option_map, sym, ap, ◌∙◌, arith}
 use Rattle.std.proofs.lemmas.List.{length-map, get_or-map, same_lists}
 use Rattle.std.proofs.lemmas.Option.{slice_get-map, get_or_from_slice_get}
-use Rattle.cascade_model.specs.Table as model
-use Rattle.cascade_model.specs.Style.{initial_style}
+use Rattle.value_model.specs.Table as model
+use Rattle.value_model.specs.Style.{initial_style}
 use Rattle.property_table.specs.Rows.{row_seen}
 use Rattle.property_table.specs.Values.{value_of}
 use Rattle.property_table.specs.declared.keyword.Keyword.TheVariants.{Inline}

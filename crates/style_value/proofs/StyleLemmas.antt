@@ -4,7 +4,7 @@ use Rattle.std.specs.Bool.{Decides}
 use Rattle.std.specs.Cmp.Lexicographic.{pointwise}
 use Rattle.std.proofs.lemmas.List.{map-set}
 use Rattle.std.proofs.lemmas.Slice.Eq.{slice_eq-Decides}
-use Rattle.cascade_model.specs.Style.{Style}
+use Rattle.value_model.specs.Style.{Style}
 use Rattle.property_table.specs.Values.{value_of}
 use Rattle.property_table.specs.declared.value.Value.{Value}
 use Rattle.property_table.proofs.ValueLemmas.{value_of-same}

@@ -1,7 +1,7 @@
 //! What becomes of `display` where an element is made a block.
 
 ghost use Rattle.std.specs.Prelude.{◌≡◌};
-ghost use Rattle.cascade_model.specs.Style.{blockified};
+ghost use Rattle.value_model.specs.Style.{blockified};
 ghost use Rattle.property_table.specs.Values.{value_of};
 
 use property_table::{Keyword, Value};

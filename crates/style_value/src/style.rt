@@ -1,8 +1,8 @@
 //! A style, which contracts see as the list of its values in the order of the table.
 
 ghost use Rattle.std.specs.Prelude.{◌≡◌, ◌<◌, ◌↔◌, Some, IfOk, IsTrue, length, slice_get, slice_set};
-ghost use Rattle.cascade_model.specs.Table.{table, display};
-ghost use Rattle.cascade_model.specs.Style.{blockified, inherited_part, initial_style, with_changed};
+ghost use Rattle.value_model.specs.Table.{display_place, table};
+ghost use Rattle.value_model.specs.Style.{blockified, inherited_part, initial_style, with_changed};
 ghost use Rattle.property_table.specs.Rows.{property_of};
 ghost use Rattle.property_table.specs.Values.{value_of};
 
@@ -20,8 +20,8 @@ pub struct Style {
 
 impl Model for Style {
     ghost use Rattle.std.specs.Prelude.{◌≡◌, length, map};
-    ghost use Rattle.cascade_model.specs.Style as model;
-    ghost use Rattle.cascade_model.specs.Table.{table};
+    ghost use Rattle.value_model.specs.Style as model;
+    ghost use Rattle.value_model.specs.Table.{table};
     ghost use Rattle.property_table.specs.Values.{value_of};
 
     ghost Value = { model.Style };
@@ -84,7 +84,7 @@ impl Style {
 
     /// Makes the element a block.
     pub fn blockify(&mut self)
-        ensures { self.new ≡ with_changed blockified display self.old }
+        ensures { self.new ≡ with_changed blockified display_place self.old }
     {
         let display = self.value(PropId::Display);
         self.set(PropId::Display, blockified(display));

@@ -1,7 +1,10 @@
 use Rattle.std.proofs.Common.{arith}
-use Rattle.property_table.proofs.RowLemmas.{length-rows}
+use Rattle.property_table.proofs.RowLemmas.{length-rows, length-table}
 use Rattle.style_value.proofs.InitialLemmas.{initial_at}
 use Rattle.style_value.proofs.style.initial_at.Goals as goal
 
+pub bounds-all-place : goal.bounds-all-place
+bounds-all-place c = omega (arith, length-rows _ c.all.ensures.rows, length-table)
+
 pub returns : goal.returns
-returns c = initial_at _ c.args.place _ c.all.ensures.rows (omega (arith, length-rows _ c.all.ensures.rows))
+returns c = initial_at _ c.args.place _ c.all.ensures.rows (omega (arith, length-rows _ c.all.ensures.rows, length-table))

@@ -1,7 +1,12 @@
 use Rattle.std.proofs.Common.{refl}
 use Rattle.std.specs.Str.{chars}
+use Rattle.value_model.specs.Table.{table}
 use Rattle.property_table.proofs.property.Row.all.Goals as goal
 
 pub returns-clause-rows : goal.returns-clause-rows
-unfolding chars
+unfolding chars table
 returns-clause-rows c = refl
+
+pub returns-clause-places : goal.returns-clause-places
+unfolding table
+returns-clause-places c = refl
