@@ -1,7 +1,7 @@
 -- The values of an element, row by row.
-use Rattle.std.proofs.Common.{◌≡◌, ℕ, ◌+◌, ◌-◌, ◌<◌, ◌≤◌, zero, suc, List, [], ◌∷◌, ◌++◌, Option, Some, None, IfSome, length, map, get_or, set, take, drop, slice_get, refl, sym, ap, ◌∙◌, subst, arith, append_assoc}
+use Rattle.std.proofs.Common.{◌≡◌, ℕ, ◌+◌, ◌<◌, ◌≤◌, zero, suc, List, [], ◌∷◌, ◌++◌, Some, None, IfSome, length, map, get_or, set, take, drop, slice_get, refl, sym, ap, ◌∙◌, subst, arith, append_assoc}
 use Rattle.std.proofs.lemmas.Grind.{take-set_at}
-use Rattle.std.proofs.lemmas.List.{length-drop, drop-drop, drop-set-lt, set-get_or, set_past, take_all, append-nil}
+use Rattle.std.proofs.lemmas.List.{length-drop, drop-drop, drop-set-lt, set-get_or, set_past, take_all}
 use Rattle.std.proofs.lemmas.Option.{MatchOption-at_some, get_or_from_slice_get}
 use Rattle.std.specs.Option.{option_map_or}
 use Rattle.value_model.specs.Value.{Value}

@@ -1,10 +1,9 @@
 //! The declaration that wins, for each property.
 
-ghost use Rattle.std.specs.Prelude.{◌≡◌, ◌∷◌, [], ◌++◌, List, Some, length, map, option_copied, option_map, slice_get};
+ghost use Rattle.std.specs.Prelude.{◌≡◌, ◌∷◌, [], ◌++◌, List, Some, map, option_copied, option_map, slice_get};
 ghost use Rattle.cascade_model.specs.Key.{Matched as Declaration};
-ghost use Rattle.cascade_model.proofs.WinnerLemmas.{better};
+ghost use Rattle.cascade_model.specs.Winner.{winner};
 ghost use Rattle.property_table.specs.Rows.{property_of};
-ghost use Rattle.value_model.specs.Table.{table};
 ghost use Rattle.cascade_core.specs.Matches.{matched_of, winners_of};
 
 use crate::Matched;
@@ -71,13 +70,18 @@ impl<'a> Winners<'a> {
     }
 }
 
-/// The winner so far, if there is one, or the declaration that comes behind it.
+/// The winner of a property once this declaration comes behind those in which `best` wins.
 fn better_of<'a>(best: Option<&'a Matched>, d: &'a Matched) -> &'a Matched
-    ensures { Some (matched_of result.now)
-        ≡ better (option_map matched_of (option_copied best.entry)) (matched_of d.now) }
+    ensures { (ds : List Declaration) → let property = property_of d.now.property in
+        winner property ds ≡ option_map matched_of (option_copied best.entry)
+        → winner property (ds ++ matched_of d.now ∷ []) ≡ Some (matched_of result.now) }
 {
-    match best {
-        Some(winner) if compare(winner, d).is_ge() => winner,
-        _ => d,
+    let Some(winner) = best else {
+        return d;
+    };
+    if compare(winner, d).is_lt() {
+        d
+    } else {
+        winner
     }
 }

@@ -1,6 +1,6 @@
 -- The winner as declarations come one by one.
-use Rattle.std.proofs.Common.{◌≡◌, ℕ, ◌==◌, Bool, true, false, ◌&&◌, cond, if◌then◌else◌, List, [], ◌∷◌, ◌++◌, Option, Some, None, fold, find, refl, sym, ap, ◌∙◌, ◌⊎◌, inl, inr, ⊎_elim, append_assoc}
-use Rattle.std.proofs.lemmas.Bool.{true≢false, cases_Bool, and_parts, and_from, and_right, false_from_ne_true}
+use Rattle.std.proofs.Common.{◌≡◌, ◌≢◌, eq-eqb, ℕ, ◌==◌, Bool, true, false, ◌&&◌, cond, if◌then◌else◌, List, [], ◌∷◌, ◌++◌, Option, Some, None, fold, find, refl, sym, ap, ◌∙◌, ◌⊎◌, inl, inr, ⊎_elim, append_assoc}
+use Rattle.std.proofs.lemmas.Bool.{true≢false, ne_eqb, cond-true, cond-false, cases_Bool, and_parts, and_from, and_right, false_from_ne_true}
 use Rattle.std.proofs.lemmas.Cmp.{upto, tied_itself}
 use Rattle.std.proofs.lemmas.Grind.{fold-append}
 use Rattle.std.proofs.lemmas.List.{append-nil}
@@ -155,7 +155,7 @@ module _ {K : Type 0} (R : K → K → Ordering) (o : IsTotalOrder R) where
       ∙ (fold-append with_one None ds (d ∷ []) ∙ ap (λ best. with_one best d) (sym (top_of-fold ds)))
 
 -- of the winner so far, if there is one, and one more declaration
-abbrev pub better : Option Matched → Matched → Option Matched
+abbrev better : Option Matched → Matched → Option Matched
 better None d = Some d
 better (Some w) d = Some (if is_lt (key_cmp w d) then d else w)
 
@@ -171,13 +171,31 @@ greatest_of-more : (ds : List Matched) (d : Matched) (b : Bool) → greatest_of 
 greatest_of-more ds d true = greatest_of-push ds d
 greatest_of-more ds d false = ap greatest_of (append-nil ds)
 
-pub winner-nil : (property : ℕ) → winner property [] ≡ None
-unfolding winner
-winner-nil property = refl
-
--- a declaration is compared with the winner so far of its property alone
-pub winner-push : (property : ℕ) (ds : List Matched) (d : Matched) → winner property (ds ++ d ∷ []) ≡ (if d.property == property then better (winner property ds) d else winner property ds)
+winner-push : (property : ℕ) (ds : List Matched) (d : Matched) → winner property (ds ++ d ∷ []) ≡ (if d.property == property then better (winner property ds) d else winner property ds)
 unfolding winner
 winner-push property ds d =
     ap greatest_of (filter-append (λ (d : Matched). d.property == property) ds (d ∷ []))
     ∙ greatest_of-more (declared_for property ds) d (d.property == property)
+
+winner_better : (ds : List Matched) (d : Matched) → winner d.property (ds ++ d ∷ []) ≡ better (winner d.property ds) d
+winner_better ds d =
+    winner-push d.property ds d ∙ cond-true (d.property == d.property) _ _ (eq-eqb d.property d.property refl)
+
+-- a declaration of another property changes nothing
+pub winner_other : (property : ℕ) (ds : List Matched) (d : Matched) → property ≢ d.property → winner property (ds ++ d ∷ []) ≡ winner property ds
+winner_other property ds d other =
+    winner-push property ds d ∙ cond-false (d.property == property) _ _ (ne_eqb d.property property (λ e. other (sym e)))
+
+-- the first declaration of a property wins
+pub winner_first : (ds : List Matched) (d : Matched) → winner d.property ds ≡ None → winner d.property (ds ++ d ∷ []) ≡ Some d
+winner_first ds d none = winner_better ds d ∙ ap (λ best. better best d) none
+
+-- and then each one that is greater
+pub winner_greater : (ds : List Matched) (d w : Matched) → winner d.property ds ≡ Some w → is_lt (key_cmp w d) ≡ true → winner d.property (ds ++ d ∷ []) ≡ Some d
+winner_greater ds d w wins lt =
+    winner_better ds d ∙ (ap (λ best. better best d) wins ∙ ap (λ b. Some (cond b d w)) lt)
+
+-- and not one that is not
+pub winner_stays : (ds : List Matched) (d w : Matched) → winner d.property ds ≡ Some w → is_lt (key_cmp w d) ≡ false → winner d.property (ds ++ d ∷ []) ≡ Some w
+winner_stays ds d w wins not_lt =
+    winner_better ds d ∙ (ap (λ best. better best d) wins ∙ ap (λ b. Some (cond b d w)) not_lt)
