@@ -48,7 +48,7 @@ pub(crate) fn compare(a: &Matched, b: &Matched) -> Ordering
 }
 
 /// Important declarations of the user agent stand highest, normal ones of it lowest
-/// (css-cascade-5, section 6.2).
+/// (css-cascade-5, section 6.1).
 fn band(d: &Matched) -> u32
     ensures { result ≡ band (matched_of d.now).origin d.now.important }
 {
