@@ -251,17 +251,11 @@ fn each_property_alone(rt: HostRuntime) -> Result<(), Fail> {
 #[test]
 fn current_color(rt: HostRuntime) -> Result<(), Fail> {
     let alloc = rt.alloc();
-    let current = first(PropId::Color, Value::Keyword(Keyword::CurrentColor));
-    assert_eq!(rt; color(alloc, &[current], &[])?, BLACK, "as at the root");
-    let style = cascade(
-        alloc,
-        &[current],
-        &[],
-        &parent_style(),
-        Fixed::zero(),
-        false,
-    )?;
+    let list = [first(PropId::Color, Value::Keyword(Keyword::CurrentColor))];
+    let style = cascade(alloc, &list, &[], &parent_style(), Fixed::zero(), false)?;
     assert_eq!(rt; style.value(PropId::Color), LIME);
+    let root = cascade(alloc, &list, &[], &Style::initial(), Fixed::zero(), true)?;
+    assert_eq!(rt; root.value(PropId::Color), BLACK);
     Ok(())
 }
 
