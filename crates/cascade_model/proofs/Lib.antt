@@ -1,2 +1,4 @@
 mod Examples
+pub mod KeyOrder
 pub mod StyleAlong
+pub mod WinnerLemmas

@@ -1,0 +1,54 @@
+-- The winner of each property, as declarations come one by one.
+use Rattle.std.proofs.Common.{◌≡◌, ◌≢◌, ℕ, ◌<◌, List, [], ◌∷◌, ◌++◌, Option, Some, slice_get, length, map, get_or, set, sym, ap, ◌∙◌, ⊎_elim, arith}
+use Rattle.std.proofs.lemmas.Bool.{cases_eq}
+use Rattle.std.proofs.lemmas.List.{length-map, length-set, get_or-map, get_or-set_same, get_or-set_other, map-set, same_lists}
+use Rattle.std.proofs.lemmas.List.FromFn.{length-range_with_len, get_or-range_with_len}
+use Rattle.std.proofs.lemmas.Option.{slice_get_within, get_or_from_slice_get}
+use Rattle.std.specs.List.{range_with_len}
+use Rattle.cascade_model.specs.Key.{Matched}
+use Rattle.cascade_model.specs.Winner.{winner}
+use Rattle.cascade_model.proofs.WinnerLemmas.{winner_other}
+use Rattle.value_model.specs.Table.{table}
+use Rattle.cascade_core.specs.Matches.{winners_of}
+
+-- what a function gives at each number below a bound
+abbrev along : {A : Type 0} → (ℕ → A) → ℕ → List A
+along f n = map f (range_with_len 0 n)
+
+length-along : {A : Type 0} (f : ℕ → A) (n : ℕ) → length (along f n) ≡ n
+length-along f n = length-map (range_with_len 0 n) f ∙ length-range_with_len 0 n
+
+get_or-along : {A : Type 0} (f : ℕ → A) (n k : ℕ) (d : A) → k < n → get_or (along f n) k d ≡ f k
+get_or-along f n k d lt =
+    get_or-map f (range_with_len 0 n) k 0 d (omega (arith, length-range_with_len 0 n))
+    ∙ ap f (get_or-range_with_len 0 n k 0 lt ∙ omega arith)
+
+-- where two functions differ at one number alone
+along-set : {A : Type 0} (f g : ℕ → A) (n p : ℕ) → p < n → ((k : ℕ) → k ≢ p → g k ≡ f k) → along g n ≡ set (along f n) p (g p)
+along-set f g n p lt others =
+    same_lists (along g n) (set (along f n) p (g p)) (length-along g n ∙ sym (length-set (along f n) p (g p) ∙ length-along f n)) (λ k d below.
+    let within : k < n = omega (arith, length-along g n) in
+    get_or-along g n k d within
+    ∙ ⊎_elim (λ (e : k ≡ p). ap g e ∙ (sym (get_or-set_same (along f n) p (g p) d (omega (arith, length-along f n))) ∙ ap (λ j. get_or (set (along f n) p (g p)) j d) (sym e))) (λ (ne : k ≢ p). others k ne ∙ (sym (get_or-along f n k d within) ∙ sym (get_or-set_other (along f n) p k (g p) d ne))) (cases_eq k p))
+
+-- what wins once a declaration is added is put at the place of its property
+pub winners-set : {A : Type 0} (seen : A → Option Matched) (best : List A) (place : ℕ) (old new : A) (d : Matched) (ds : List Matched) → map seen best ≡ winners_of ds → place ≡ d.property → place < length table → old ≡ get_or best place old → (winner d.property ds ≡ seen old → winner d.property (ds ++ d ∷ []) ≡ seen new) → map seen (set best place new) ≡ winners_of (ds ++ d ∷ [])
+winners-set seen best place old new d ds is at within read put =
+    let before : ℕ → Option Matched = λ property. winner property ds in
+    let behind : ℕ → Option Matched = λ property. winner property (ds ++ d ∷ []) in
+    let long : length best ≡ length table = sym (length-map best seen) ∙ (ap length is ∙ length-along before (length table)) in
+    let lt : place < length best = omega arith in
+    let in_table : d.property < length table = omega arith in
+    let was : winner d.property ds ≡ seen old = sym (sym (get_or-map seen best place old (seen old) lt ∙ ap seen (sym read)) ∙ (ap (λ list. get_or list place (seen old)) is ∙ (ap (λ k. get_or (winners_of ds) k (seen old)) at ∙ get_or-along before (length table) d.property (seen old) in_table))) in
+    map-set seen best place new
+    ∙ (ap (λ list. set list place (seen new)) is
+    ∙ (ap (λ k. set (winners_of ds) k (seen new)) at
+    ∙ (ap (set (winners_of ds) d.property) (sym (put was)) ∙ sym (along-set before behind (length table) d.property in_table (λ k other. winner_other k ds d other)))))
+
+-- what stands at the place of a property wins
+pub winner_at : (ds : List Matched) (winners : List (Option Matched)) (p : ℕ) (best : Option Matched) → winners ≡ winners_of ds → slice_get winners p ≡ Some best → winner p ds ≡ best
+winner_at ds winners p best is at =
+    let found : slice_get (winners_of ds) p ≡ Some best = ap (λ list. slice_get list p) (sym is) ∙ at in
+    let within : p < length table = omega (arith, slice_get_within (winners_of ds) p best found, length-along (λ property. winner property ds) (length table)) in
+    sym (get_or-along (λ property. winner property ds) (length table) p best within)
+    ∙ get_or_from_slice_get (winners_of ds) p best best found

@@ -1,0 +1,9 @@
+use Rattle.std.proofs.Common.{◌≡◌, ◌++◌, map, take}
+use Rattle.cascade_core.specs.Matches.{matched_of, winners_of}
+use Rattle.cascade_core.proofs.winners.Winners.among.Given as goal
+
+abbrev pub invariant-loop-d : goal.invariant-loop-d
+invariant-loop-d l = l.winners ≡ winners_of (map matched_of (take l.d-index l.matched))
+
+abbrev pub invariant-loop-d-2 : goal.invariant-loop-d-2
+invariant-loop-d-2 l = l.winners ≡ winners_of (map matched_of (l.matched ++ take l.d-index l.attached))

@@ -1,0 +1,11 @@
+//! The style of an element, from the declarations that apply to it and the style of its parent.
+#![tactic(auto)]
+
+mod matched;
+mod styled;
+#[cfg(test)]
+mod tests;
+mod winners;
+
+pub use matched::Matched;
+pub use styled::cascade;

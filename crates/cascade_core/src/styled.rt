@@ -1,0 +1,70 @@
+//! The style of an element over its parent's.
+
+ghost use Rattle.std.specs.Prelude.{◌≡◌, ◌++◌, IfOk, IfSome, map, slice_get};
+ghost use Rattle.cascade_model.specs.Cascade.{cascaded, computed, values_from};
+ghost use Rattle.property_table.specs.Rows.{property_of};
+ghost use Rattle.property_table.specs.Values.{value_of};
+ghost use Rattle.value_model.specs.Table.{table};
+ghost use Rattle.cascade_core.specs.Matches.{matched_of};
+
+use crate::Matched;
+use crate::winners::Winners;
+use property_table::{Keyword, PropId, Row, Value};
+use std::alloc::Global;
+use style_value::Style;
+use stylo_base::{Fixed, NoMemory};
+
+/// The style of an element, from the declarations of the rules that match it, those of its `style`
+/// attribute, and the style of its parent (css-cascade-5, sections 6 and 7): for each property the
+/// value of the declaration that wins, or as if `unset` where there is none, and then the
+/// adjustments. At the root `parent` is the style of all initial values. `root_size` is the root's
+/// font size in pixels, which nothing asks for until there are lengths.
+pub fn cascade(
+    alloc: Global,
+    matched: &[Matched],
+    attached: &[Matched],
+    parent: &Style,
+    _root_size: Fixed,
+    is_root: bool,
+) -> Result<Style, NoMemory>
+    ensures { IfOk result (λ style. style ≡ cascaded is_root parent.now
+        (map matched_of (matched.now ++ attached.now))) }
+{
+    let mut style = values(alloc, matched, attached, parent)?;
+    if is_root {
+        style.blockify();
+    }
+    Ok(style)
+}
+
+/// The style before the adjustments.
+fn values(
+    alloc: Global,
+    matched: &[Matched],
+    attached: &[Matched],
+    parent: &Style,
+) -> Result<Style, NoMemory>
+    ensures { let ds = map matched_of (matched.now ++ attached.now) in
+        IfOk result (λ style. style ≡ record { values = values_from ds 0 table parent.now.values }) }
+{
+    let winners = Winners::among(matched, attached);
+    let mut style = parent.inherited_part(alloc)?;
+    for row in Row::all() {
+        if let Some(d) = winners.of(row.id) {
+            style.set(row.id, computed_of(row.id, d.value, parent));
+        }
+    }
+    Ok(style)
+}
+
+/// What the value of a declaration is computed to. In `color` the keyword `currentcolor` acts as
+/// `inherit` (css-color-4, section 9).
+fn computed_of(id: PropId, value: Value, parent: &Style) -> Value
+    ensures { let property = property_of id in IfSome (slice_get parent.now.values property)
+        (λ parents. value_of result ≡ computed property parents (value_of value)) }
+{
+    match (id, value) {
+        (PropId::Color, Value::Keyword(Keyword::CurrentColor)) => parent.value(id),
+        _ => value,
+    }
+}

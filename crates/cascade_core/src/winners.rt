@@ -1,0 +1,87 @@
+//! The declaration that wins, for each property.
+
+ghost use Rattle.std.specs.Prelude.{◌≡◌, ◌∷◌, [], ◌++◌, List, Some, map, option_copied, option_map, slice_get};
+ghost use Rattle.cascade_model.specs.Key.{Matched as Declaration};
+ghost use Rattle.cascade_model.specs.Winner.{winner};
+ghost use Rattle.property_table.specs.Rows.{property_of};
+ghost use Rattle.cascade_core.specs.Matches.{matched_of, winners_of};
+
+use crate::Matched;
+use crate::matched::compare;
+use property_table::{COUNT, PropId};
+use std::marker::Model;
+
+/// For each property the declaration that wins among those that were added, if there is one.
+#[derive(Drop)]
+pub(crate) struct Winners<'a> {
+    best: [Option<&'a Matched>; COUNT],
+}
+
+impl<'a> Model for Winners<'a> {
+    ghost use Rattle.std.specs.Prelude.{List, Option, map, option_copied, option_map};
+    ghost use Rattle.cascade_model.specs.Key as model;
+    ghost use Rattle.cascade_core.specs.Matches.{matched_of};
+
+    ghost Value = { List (Option model.Matched) };
+
+    ghost view = { λ w. map (λ d. option_map matched_of (option_copied d)) w.best };
+}
+
+impl<'a> Winners<'a> {
+    /// The winners among these declarations, of which the earlier one wins where two compare as
+    /// equal.
+    pub(crate) fn among(matched: &'a [Matched], attached: &'a [Matched]) -> Winners<'a>
+        ensures { result ≡ winners_of (map matched_of (matched.now ++ attached.now)) }
+    {
+        let mut winners = Winners::none();
+        for d in matched {
+            winners.add(d);
+        }
+        for d in attached {
+            winners.add(d);
+        }
+        winners
+    }
+
+    /// The one that wins for a property.
+    pub(crate) fn of(&self, id: PropId) -> Option<&'a Matched>
+        ensures { slice_get self.now (property_of id)
+            ≡ Some (option_map matched_of (option_copied result)) }
+    {
+        let best = &self.best[..];
+        best[id.place()]
+    }
+
+    fn none() -> Winners<'a>
+        ensures { result ≡ winners_of [] }
+    {
+        Winners {
+            best: [None; COUNT],
+        }
+    }
+
+    fn add(&mut self, d: &'a Matched)
+        ensures { (ds : List Declaration) → self.old ≡ winners_of ds
+            → self.new ≡ winners_of (ds ++ matched_of d.now ∷ []) }
+    {
+        let best = &mut self.best[..];
+        let place = d.property.place();
+        best[place] = Some(better_of(best[place], d));
+    }
+}
+
+/// The winner of a property once this declaration comes behind those in which `best` wins.
+fn better_of<'a>(best: Option<&'a Matched>, d: &'a Matched) -> &'a Matched
+    ensures { (ds : List Declaration) → let property = property_of d.now.property in
+        winner property ds ≡ option_map matched_of (option_copied best.entry)
+        → winner property (ds ++ matched_of d.now ∷ []) ≡ Some (matched_of result.now) }
+{
+    let Some(winner) = best else {
+        return d;
+    };
+    if compare(winner, d).is_lt() {
+        d
+    } else {
+        winner
+    }
+}
