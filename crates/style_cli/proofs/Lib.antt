@@ -1,4 +1,3 @@
 pub mod Told
 pub mod Fronts
-pub mod Walk
 pub mod Printed

@@ -65,11 +65,13 @@ fn print_elements<K: Sink>(
     styles: &[Arc<Style>],
     sink: &mut K,
 ) -> Result<(), SinkRefused>
-    ghost rules: { List PlacedRule }
     requires order { order.now ≡ numbers doc.now }
-    requires styles { map arc_value styles.now ≡ map (style_of doc.now rules) order.now }
-    ensures ok { OnOk result (Appends (K.held sink.old) (K.held sink.new) (flat_map (λ x. encode_utf8_all (line_at doc.now rules x)) order.now)) }
-    ensures err { OnErr result (GrewByFront (K.held sink.old) (K.held sink.new) (flat_map (λ x. encode_utf8_all (line_at doc.now rules x)) order.now)) }
+    requires styles { length styles.now ≡ length order.now }
+    // Where the styles are those by some rules, so are the lines.
+    ensures ok { (rules : List PlacedRule) → map arc_value styles.now ≡ map (style_of doc.now rules) order.now
+        → OnOk result (Appends (K.held sink.old) (K.held sink.new) (flat_map (λ x. encode_utf8_all (line_at doc.now rules x)) order.now)) }
+    ensures err { (rules : List PlacedRule) → map arc_value styles.now ≡ map (style_of doc.now rules) order.now
+        → OnErr result (GrewByFront (K.held sink.old) (K.held sink.new) (flat_map (λ x. encode_utf8_all (line_at doc.now rules x)) order.now)) }
     ensures cause { HasCause (K.faults sink.old) (K.faults sink.new) (IsErrOf result SinkRefused.Failed) }
 {
     for index in 0..order.len() {

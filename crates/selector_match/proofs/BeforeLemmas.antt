@@ -1,0 +1,114 @@
+-- The siblings before an element, and its ancestors.
+use Rattle.std.proofs.Common.{◌≡◌, ◌≢◌, ℕ, zero, suc, ◌+◌, ◌-◌, ◌<◌, ◌≤◌, ◌==◌, Bool, true, false, cond, not, ◌||◌, List, [], ◌∷◌, ◌++◌, length, take, drop, filter, Option, Some, None, slice_get, refl, sym, ap, ◌∙◌, subst, arith, append_assoc, length-append, eq-eqb}
+use Rattle.std.specs.List.{AllByRecursion, list_any}
+use Rattle.std.proofs.lemmas.Bool.{cond-true, false≢true}
+use Rattle.std.proofs.lemmas.List.{take-append-drop, nil_from_length, drop_all}
+use Rattle.std.proofs.lemmas.List.Elements.{filter-append}
+use Rattle.std.proofs.lemmas.List.Folds.{list_any-append}
+use Rattle.scene_model.specs.Element.{Element}
+use Rattle.scene_model.specs.Lookups.{is_element, IsElement, parent_of, children, beside, siblings, left_of}
+use Rattle.scene_model.specs.Ancestors.{up, climb, ancestors, position_of}
+use Rattle.scene_model.specs.Valid.{IsValid}
+use Rattle.scene_model.proofs.Climbing.{ancestors_climb, ancestors-up, ancestors-child, ancestors-root}
+use Rattle.scene_model.proofs.Found.{copies-children, each_child-parent, parent_of-element}
+use Rattle.scene_model.proofs.Lists.{each_weaker, split_at}
+use Rattle.scene_model.proofs.Numbers.{is_in, copies, same_number, each_is_in, each_failed, split_in, left_of_split}
+use Rattle.selector_match.specs.Outcomes.{before, IsUnder}
+use Rattle.selector_match.proofs.AnyLemmas.{or_right, none-append}
+use Rattle.selector_match.proofs.SiblingLemmas.{left_here, siblings-children}
+
+-- in any list
+
+is_in-append : (x : ℕ) (xs ys : List ℕ) → is_in x (xs ++ ys) ≡ (is_in x xs || is_in x ys)
+is_in-append x xs ys = list_any-append (λ y. y == x) xs ys
+
+in_front : (x : ℕ) (xs ys : List ℕ) → is_in x xs ≡ true → is_in x (xs ++ ys) ≡ true
+in_front x xs ys h = is_in-append x xs ys ∙ ap (λ b. b || is_in x ys) h
+
+pub in_middle : (x : ℕ) (xs ys : List ℕ) → is_in x (xs ++ x ∷ ys) ≡ true
+in_middle x xs ys =
+    is_in-append x xs (x ∷ ys) ∙ or_right (is_in x xs) (is_in x (x ∷ ys)) (ap (λ b. b || is_in x ys) (same_number x))
+
+-- the last of a list, and what stands before it
+pub last_split : (xs : List ℕ) (y : ℕ) → slice_get xs (length xs - 1) ≡ Some y → xs ≡ take (length xs - 1) xs ++ y ∷ []
+last_split xs y h =
+    split_at xs (length xs - 1) y h ∙ ap (λ l. take (length xs - 1) xs ++ y ∷ l) (drop_all (suc (length xs - 1)) xs (omega arith))
+
+-- where a number stands once, it does not stand before that
+once_before : (w : ℕ) (front behind : List ℕ) → copies w (front ++ w ∷ behind) ≡ w ∷ [] → AllByRecursion (λ y. y ≢ w) front
+once_before w front behind h =
+    let parts = filter-append (λ y. y == w) front (w ∷ behind) in
+    let here = cond-true (w == w) (w ∷ copies w behind) (copies w behind) (same_number w) in
+    let none : length (copies w front) ≡ 0 = omega (arith, ap length h, ap length parts, ap length here, length-append (copies w front) (copies w (w ∷ behind))) in
+    each_weaker (λ y. (y == w) ≡ false) (λ y. y ≢ w) (λ y e same. false≢true (sym e ∙ eq-eqb y w same)) front (each_failed (λ y. y == w) front (nil_from_length (copies w front) none))
+
+up_each : (P : ℕ → Type 0) (f : ℕ → List ℕ) (o : Option ℕ) → ((p : ℕ) → o ≡ Some p → P p × AllByRecursion P (f p)) → AllByRecursion P (up f o)
+up_each P f None h = tt
+up_each P f (Some p) h = h p refl
+
+module _ (doc : List Element) (v : IsValid doc) where
+  -- what has a sibling before it has a parent
+
+  beside_some : (x w : ℕ) (o : Option ℕ) → is_in w (left_of x (beside doc x o)) ≡ true → (p : ℕ) × (o ≡ Some p)
+  beside_some x w None h = absurd (false≢true (ap (is_in w) (sym (left_here x x [] (same_number x))) ∙ h))
+  beside_some x w (Some p) h = (p, refl)
+
+  found_some : (x w : ℕ) (b : Bool) → is_in w (left_of x (cond b (beside doc x (parent_of doc x)) [])) ≡ true → (p : ℕ) × (parent_of doc x ≡ Some p)
+  found_some x w true h = beside_some x w (parent_of doc x) h
+  found_some x w false h = absurd (cc)
+
+  before-parent : (x w : ℕ) → is_in w (before doc x) ≡ true → (p : ℕ) × (parent_of doc x ≡ Some p)
+  before-parent x w h = found_some x w (is_element doc x) h
+
+  -- the siblings are the children of the parent, those before x the front of them
+  before-front : (x p : ℕ) → parent_of doc x ≡ Some p → (behind : List ℕ) × (children doc p ≡ before doc x ++ behind)
+  before-front x p e =
+      let same : siblings doc x ≡ children doc p = siblings-children doc v x p (parent_of-element doc x p e) e in
+      let cut = left_len x (siblings doc x) in
+      (drop cut.0 (siblings doc x), sym same ∙ (sym (take-append-drop cut.0 (siblings doc x)) ∙ ap (λ l. l ++ drop cut.0 (siblings doc x)) (sym cut.1)))
+    where
+      left_len : (x : ℕ) (xs : List ℕ) → (n : ℕ) × (left_of x xs ≡ take n xs)
+      left_len x xs = (_, refl)
+
+  pub same_parent : (x w : ℕ) → is_in w (before doc x) ≡ true → parent_of doc w ≡ parent_of doc x
+  same_parent x w h =
+      let (p, e) = before-parent x w h in
+      let (behind, f) = before-front x p e in
+      each_is_in (λ y. parent_of doc y ≡ Some p) w (children doc p) (each_child-parent doc p v.distinct) (ap (is_in w) f ∙ in_front w (before doc x) behind h) ∙ sym e
+
+  pub same_ancestors : (x w : ℕ) → is_in w (before doc x) ≡ true → ancestors doc w ≡ ancestors doc x
+  same_ancestors x w h = ancestors-up doc v w ∙ (ap (up (ancestors doc)) (same_parent x w h) ∙ sym (ancestors-up doc v x))
+
+  -- what stands before a sibling before x is what stands before it among those before x
+  pub before-split : (x w : ℕ) (front behind : List ℕ) → before doc x ≡ front ++ w ∷ behind → before doc w ≡ front
+  before-split x w front behind e =
+      let here : is_in w (before doc x) ≡ true = ap (is_in w) e ∙ in_middle w front behind in
+      let (p, parent) = before-parent x w here in
+      let (rest, f) = before-front x p parent in
+      let own : parent_of doc w ≡ Some p = same_parent x w here ∙ parent in
+      let whole : children doc p ≡ front ++ w ∷ (behind ++ rest) = f ∙ (ap (λ l. l ++ rest) e ∙ append_assoc front (w ∷ behind) rest) in
+      let once = once_before w front (behind ++ rest) (sym (ap (copies w) whole) ∙ copies-children doc p w v.distinct own) in
+      ap (left_of w) (siblings-children doc v w p (parent_of-element doc w p own) own ∙ whole) ∙ left_of_split w front (behind ++ rest) once
+
+  -- where a test holds at none before x, it holds at none before those
+  pub none_before : (p : ℕ → Bool) (x w : ℕ) → list_any p (before doc x) ≡ false → is_in w (before doc x) ≡ true → list_any p (before doc w) ≡ false
+  none_before p x w h i =
+      let (front, behind, e) = split_in w (before doc x) i in
+      let none = none-append p front (w ∷ behind) (sym (ap (list_any p) e) ∙ h) in
+      ap (list_any p) (before-split x w front behind e) ∙ none.0
+
+  -- the ancestors of an element have no others than it has
+
+  under-up : (x p y : ℕ) → parent_of doc x ≡ Some p → IsUnder doc p y → IsUnder doc x y
+  under-up x p y e (front, f) = (p ∷ front, ancestors-child doc v x p e ∙ ap (λ l. p ∷ l) f)
+
+  pub under-parent : (x p : ℕ) → parent_of doc x ≡ Some p → IsUnder doc x p
+  under-parent x p e = (p ∷ [], ancestors-child doc v x p e)
+
+  climb_under : (n x : ℕ) → AllByRecursion (IsUnder doc x) (climb doc n x)
+  climb_under zero x = tt
+  climb_under (suc n) x =
+      up_each (IsUnder doc x) (climb doc n) (parent_of doc x) (λ p e. (under-parent x p e, each_weaker (IsUnder doc p) (IsUnder doc x) (λ y u. under-up x p y e u) (climb doc n p) (climb_under n p)))
+
+  pub each_under : (x : ℕ) → AllByRecursion (IsUnder doc x) (ancestors doc x)
+  each_under x = subst (AllByRecursion (IsUnder doc x)) (sym (ancestors_climb doc v (position_of doc x) x (omega arith))) (climb_under (position_of doc x) x)

@@ -1,0 +1,58 @@
+-- The parts of a text with ASCII case aside, or not.
+use Rattle.std.proofs.Common.{◌≡◌, ℕ, ◌+◌, ◌-◌, ◌<◌, ◌≤◌, ◌==◌, nat_le, Bool, true, false, ◌&&◌, ◌||◌, List, [], ◌∷◌, ◌++◌, length, map, take, drop, get_or, refl, sym, ap, ◌∙◌, arith, le-leb}
+use Rattle.std.specs.Char.{to_ascii_lowercase}
+use Rattle.std.proofs.lemmas.List.{length-map, take-map, drop-map, take_rest, get_or-map}
+use Rattle.std.proofs.lemmas.Bool.Decides.{nat_tests}
+use Rattle.scene_model.specs.Words.{same_text}
+use Rattle.selector_model.specs.Comparisons.{folded, begins_with, ends_with, has_part}
+use Rattle.selector_match.proofs.PartLemmas.{begins_with-fits, dash_behind, dash_missed}
+
+pub length-folded : (k : Bool) (xs : List ℕ) → length (folded k xs) ≡ length xs
+length-folded true xs = refl
+length-folded false xs = length-map xs to_ascii_lowercase
+
+folded-take : (k : Bool) (n : ℕ) (xs : List ℕ) → folded k (take n xs) ≡ take n (folded k xs)
+folded-take true n xs = refl
+folded-take false n xs = sym (take-map to_ascii_lowercase n xs)
+
+folded-drop : (k : Bool) (n : ℕ) (xs : List ℕ) → folded k (drop n xs) ≡ drop n (folded k xs)
+folded-drop true n xs = refl
+folded-drop false n xs = sym (drop-map to_ascii_lowercase n xs)
+
+-- the tests of the code
+
+pub begins_with-folded : (k : Bool) (text part : List ℕ) → same_text (folded k (take (length part) text)) (folded k part) ≡ begins_with (folded k text) (folded k part)
+begins_with-folded k text part =
+    ap (λ t. same_text t (folded k part)) (folded-take k (length part) text ∙ ap (λ n. take n (folded k text)) (sym (length-folded k part)))
+
+pub ends_with-folded : (k : Bool) (text part : List ℕ) → length part ≤ length text → same_text (folded k (take (length text - (length text - length part)) (drop (length text - length part) text))) (folded k part) ≡ ends_with (folded k text) (folded k part)
+ends_with-folded k text part h =
+    let cut : ℕ = length text - length part in
+    let same : length (folded k text) - length (folded k part) ≡ cut = ap (λ n. n - length (folded k part)) (length-folded k text) ∙ ap (λ n. length text - n) (length-folded k part) in
+    let fits : nat_le (length (folded k part)) (length (folded k text)) ≡ true = le-leb _ _ (omega (arith, length-folded k text, length-folded k part)) in
+    ap (λ t. same_text (folded k t) (folded k part)) (take_rest text cut)
+    ∙ (ap (λ t. same_text t (folded k part)) (folded-drop k cut text ∙ ap (λ n. drop n (folded k text)) (sym same))
+    ∙ ap (λ b. b && same_text (drop (length (folded k text) - length (folded k part)) (folded k text)) (folded k part)) (sym fits))
+
+-- one more character
+pub has_part-folded : (k : Bool) (c : ℕ) (text part : List ℕ) → has_part (folded k (c ∷ text)) (folded k part) ≡ (begins_with (folded k (c ∷ text)) (folded k part) || has_part (folded k text) (folded k part))
+has_part-folded true c text part = refl
+has_part-folded false c text part = refl
+
+-- a character is `-` in either case, or in none
+dash_lower : (c : ℕ) → (to_ascii_lowercase c == 45) ≡ (c == 45)
+dash_lower c = grind (arith, nat_tests)
+
+dash_read : (k : Bool) (text : List ℕ) (n : ℕ) → n < length text → (get_or (folded k text) n 0 == 45) ≡ (get_or text n 0 == 45)
+dash_read true text n h = refl
+dash_read false text n h = ap (λ c. c == 45) (get_or-map to_ascii_lowercase text n 0 0 h) ∙ dash_lower (get_or text n 0)
+
+pub dash_behind-folded : (k : Bool) (text part : List ℕ) → begins_with (folded k text) (folded k part) ≡ true → (length text ≡ length part → ⊥) → (get_or text (length part) 0 == 45) ≡ (same_text (folded k text) (folded k part) || begins_with (folded k text) (folded k part ++ 45 ∷ []))
+dash_behind-folded k text part e h =
+    let n : length (folded k part) ≡ length part = length-folded k part in
+    let m : length (folded k text) ≡ length text = length-folded k text in
+    let l : length part < length text = omega (arith, h, begins_with-fits (folded k text) (folded k part) e) in
+    sym (dash_read k text (length part) l) ∙ (ap (λ i. get_or (folded k text) i 0 == 45) (sym n) ∙ dash_behind (folded k text) (folded k part) e (λ same. h (sym m ∙ (same ∙ n))))
+
+pub dash_missed-folded : (k : Bool) (text part : List ℕ) → begins_with (folded k text) (folded k part) ≡ false → false ≡ (same_text (folded k text) (folded k part) || begins_with (folded k text) (folded k part ++ 45 ∷ []))
+dash_missed-folded k text part e = dash_missed (folded k text) (folded k part) e

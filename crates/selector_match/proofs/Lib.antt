@@ -1,0 +1,11 @@
+pub mod AnyLemmas
+pub mod AsideLemmas
+pub mod BeforeLemmas
+pub mod FoldedLemmas
+pub mod LowerLemmas
+pub mod OutcomeLemmas
+pub mod PartLemmas
+pub mod PlaceLemmas
+pub mod SiblingLemmas
+pub mod TextLemmas
+pub mod TriedLemmas

@@ -1,0 +1,154 @@
+-- Texts are compared alike by bytes and by characters.
+use Rattle.std.proofs.Common.{◌≡◌, ℕ, zero, suc, ◌+◌, ◌<◌, ◌≤◌, ◌==◌, ◌⊎◌, ◌↔◌, inl, inr, IsTrue, Option, codes, Bool, true, false, not, ◌&&◌, ◌||◌, List, [], ◌∷◌, ◌++◌, length, take, drop, get_or, encode_utf8_all, refl, sym, ap, ◌∙◌, subst, arith, append-nil, length-append}
+use Rattle.std.specs.Bool.{Decides}
+use Rattle.std.specs.Str.{chars, IsAscii, IsUtf8, IsCharBoundary}
+use Rattle.std.proofs.lemmas.Bool.Decides.{same_from_decides, nat_tests}
+use Rattle.std.proofs.lemmas.List.{take_at, drop_at, get_or_at, nil_from_length}
+use Rattle.std.proofs.lemmas.Slice.Eq.{bytes_eq-Decides}
+use Rattle.std.proofs.lemmas.Str.{chars-nil, chars-append, chars-IsAscii, encodes-chars, encodes-append, IsUtf8-take, IsUtf8-drop, IsCharBoundary-start, IsCharBoundary-at_seam, IsUtf8-from_ascii, IsUtf8-nil, IsUtf8-append}
+use Rattle.std.proofs.lemmas.Str.Ascii.{IsAscii-nil, IsAscii-cons}
+use Rattle.std.specs.Option.{option_map_or}
+use Rattle.stylo_base.proofs.TextLemmas.{chars_same, chars-ascii}
+use Rattle.scene_model.specs.Element.{Element, Characters}
+use Rattle.scene_model.specs.Lookups.{attribute_of}
+use Rattle.scene_model.specs.Words.{same_text, is_empty_text}
+use Rattle.selector_model.specs.Selector.{Comparison, equals, includes, dash_match, prefix, suffix, substring}
+use Rattle.selector_model.specs.Comparisons.{begins_with, ends_with, has_part, compared, folded}
+use Rattle.selector_model.specs.Holds.{is_id}
+use Rattle.selector_match.proofs.LowerLemmas.{IsUtf8-folded, chars-folded}
+use Rattle.selector_match.proofs.PartLemmas.{BeginsWith, EndsWith, HasPart, begins_with-Decides, ends_with-Decides, has_part-Decides}
+
+zero_or_more : (n : ℕ) → (n ≡ 0) ⊎ (0 < n)
+zero_or_more n = grind arith
+
+module _ (a b : List ℕ) (u : IsUtf8 a) (v : IsUtf8 b) where
+  -- the bytes of a text that has the characters of b in it
+  bytes_of : (front rest : List ℕ) → chars a ≡ front ++ (chars b ++ rest) → a ≡ encode_utf8_all front ++ (b ++ encode_utf8_all rest)
+  bytes_of front rest e =
+      sym (encodes-chars a u)
+      ∙ (ap encode_utf8_all e
+      ∙ (encodes-append front (chars b ++ rest)
+      ∙ ap (λ l. encode_utf8_all front ++ l) (encodes-append (chars b) rest ∙ ap (λ l. l ++ encode_utf8_all rest) (encodes-chars b v))))
+
+  pub same_text-chars : same_text a b ≡ same_text (chars a) (chars b)
+  same_text-chars =
+      let by_chars = bytes_eq-Decides (chars a) (chars b) in
+      same_from_decides _ _ (bytes_eq-Decides a b) (λ e. chars_same a b u v (by_chars.0 e), λ e. by_chars.1 (ap chars e))
+
+  pub begins_with-chars : begins_with a b ≡ begins_with (chars a) (chars b)
+  begins_with-chars =
+      let by_chars = begins_with-Decides (chars a) (chars b) in
+      same_from_decides _ _ (begins_with-Decides a b) (
+        λ e. (let (rest, f) = by_chars.0 e in (encode_utf8_all rest, bytes_of [] rest f)),
+        λ (rest, e). by_chars.1 (chars rest, ap chars e ∙ chars-append b rest v),
+      )
+
+  -- where b begins inside a, the text may be cut
+  cut : (front rest : List ℕ) → 0 < length b → a ≡ front ++ (b ++ rest) → IsCharBoundary a (length front)
+  cut front rest some e = (omega (arith, ap length e, length-append front (b ++ rest)), λ l h. lead b some (IsCharBoundary-start b v) e h)
+    where
+      lead : (bs : List ℕ) → 0 < length bs → IsCharBoundary bs 0 → a ≡ front ++ (bs ++ rest) → 128 ≤ get_or a (length front) 0 → 192 ≤ get_or a (length front) 0
+      lead [] l c f h = absurd (omega arith)
+      lead (x ∷ bs) l c f h =
+          let here : get_or a (length front) 0 ≡ x = ap (λ t. get_or t (length front) 0) f ∙ get_or_at front x (bs ++ rest) 0 (length front) refl in
+          subst (λ n. 192 ≤ n) (sym here) (c.1 (omega arith) (subst (λ n. 128 ≤ n) here h))
+
+  pub ends_with-chars : ends_with a b ≡ ends_with (chars a) (chars b)
+  ends_with-chars =
+      let by_chars = ends_with-Decides (chars a) (chars b) in
+      same_from_decides _ _ (ends_with-Decides a b) (
+        λ e. (let (front, f) = by_chars.0 e in (encode_utf8_all front, bytes_of front [] (f ∙ ap (λ l. front ++ l) (sym (append-nil (chars b)))) ∙ ap (λ l. encode_utf8_all front ++ l) (append-nil b))),
+        λ (front, e). (
+            let text : IsUtf8 front = subst IsUtf8 (ap (take (length front)) e ∙ take_at front b (length front) refl) (IsUtf8-take a (length front) u (IsCharBoundary-at_seam a front b e v)) in
+            by_chars.1 (chars front, ap chars e ∙ chars-append front b text)),
+      )
+
+  part_cut : (front rest : List ℕ) → a ≡ front ++ (b ++ rest) → 0 < length b → chars a ≡ chars front ++ (chars b ++ chars rest)
+  part_cut front rest e some =
+      let at : IsCharBoundary a (length front) = cut front rest some e in
+      let text : IsUtf8 front = subst IsUtf8 (ap (take (length front)) e ∙ take_at front (b ++ rest) (length front) refl) (IsUtf8-take a (length front) u at) in
+      ap chars e ∙ (chars-append front (b ++ rest) text ∙ ap (λ l. chars front ++ l) (chars-append b rest v))
+
+  part_chars : (front rest : List ℕ) → a ≡ front ++ (b ++ rest) → HasPart (chars a) (chars b)
+  part_chars front rest e = elim (zero_or_more (length b)) [
+    | inl none ↦ ([], (chars a, ap (λ l. l ++ chars a) (sym (ap chars (nil_from_length b none) ∙ chars-nil))))
+    | inr some ↦ (chars front, (chars rest, part_cut front rest e some))
+  ]
+
+  pub has_part-chars : has_part a b ≡ has_part (chars a) (chars b)
+  has_part-chars =
+      let by_chars = has_part-Decides (chars a) (chars b) in
+      same_from_decides _ _ (has_part-Decides a b) (
+        λ e. (let (front, (rest, f)) = by_chars.0 e in (encode_utf8_all front, (encode_utf8_all rest, bytes_of front rest f))),
+        λ (front, (rest, e)). by_chars.1 (part_chars front rest e),
+      )
+
+dash_ascii : IsAscii (45 ∷ [])
+dash_ascii = IsAscii-cons 45 [] (omega arith) IsAscii-nil
+
+chars-dash : (b : List ℕ) → IsUtf8 b → chars (b ++ 45 ∷ []) ≡ chars b ++ 45 ∷ []
+chars-dash b v = chars-append b (45 ∷ []) v ∙ ap (λ l. chars b ++ l) (chars-IsAscii (45 ∷ []) dash_ascii)
+
+is_empty_text-chars : (b : List ℕ) → IsUtf8 b → is_empty_text b ≡ is_empty_text (chars b)
+is_empty_text-chars b v = same_text-chars b [] v IsUtf8-nil ∙ ap (same_text (chars b)) chars-nil
+
+-- no comparison of words
+abbrev pub IsByPlace : Comparison → Type 0
+IsByPlace includes = ⊥
+IsByPlace comparison = Unit {0}
+
+compared-chars : (comparison : Comparison) (a b : List ℕ) → IsByPlace comparison → IsUtf8 a → IsUtf8 b → compared comparison a b ≡ compared comparison (chars a) (chars b)
+compared-chars equals a b h u v = same_text-chars a b u v
+compared-chars includes a b h u v = absurd h
+compared-chars dash_match a b h u v =
+    ap (λ x. x || begins_with a (b ++ 45 ∷ [])) (same_text-chars a b u v)
+    ∙ ap (λ x. same_text (chars a) (chars b) || x) (begins_with-chars a (b ++ 45 ∷ []) u (IsUtf8-append b (45 ∷ []) v (IsUtf8-from_ascii (45 ∷ []) dash_ascii)) ∙ ap (begins_with (chars a)) (chars-dash b v))
+compared-chars prefix a b h u v =
+    ap (λ x. not x && begins_with a b) (is_empty_text-chars b v) ∙ ap (λ x. not (is_empty_text (chars b)) && x) (begins_with-chars a b u v)
+compared-chars suffix a b h u v =
+    ap (λ x. not x && ends_with a b) (is_empty_text-chars b v) ∙ ap (λ x. not (is_empty_text (chars b)) && x) (ends_with-chars a b u v)
+compared-chars substring a b h u v =
+    ap (λ x. not x && has_part a b) (is_empty_text-chars b v) ∙ ap (λ x. not (is_empty_text (chars b)) && x) (has_part-chars a b u v)
+
+-- bytes that are compared stand for their characters, ASCII case aside or not
+pub by_bytes : (comparison : Comparison) (k : Bool) (value part text bytes : List ℕ) (r : Bool) → IsByPlace comparison → IsUtf8 value → IsUtf8 part → text ≡ value → bytes ≡ part → r ≡ compared comparison (folded k text) (folded k bytes) → r ≡ compared comparison (folded k (chars value)) (folded k (chars part))
+by_bytes comparison k value part text bytes r h u v same_value same_part e =
+    e
+    ∙ (ap (λ t. compared comparison (folded k t) (folded k bytes)) same_value
+    ∙ (ap (λ t. compared comparison (folded k value) (folded k t)) same_part
+    ∙ (compared-chars comparison (folded k value) (folded k part) h (IsUtf8-folded k value u) (IsUtf8-folded k part v)
+    ∙ (ap (λ t. compared comparison t (chars (folded k part))) (chars-folded k value u)
+    ∙ ap (compared comparison (folded k (chars value))) (chars-folded k part v)))))
+
+-- where the part is not empty, and where it is
+
+is_empty_text-folded : (k : Bool) (part : List ℕ) → is_empty_text (folded k part) ≡ (length part == 0)
+is_empty_text-folded true [] = refl
+is_empty_text-folded true (c ∷ part) = grind (arith, nat_tests)
+is_empty_text-folded false [] = refl
+is_empty_text-folded false (c ∷ part) = grind (arith, nat_tests)
+
+pub with_part : (k : Bool) (part : List ℕ) (empty r s : Bool) → empty ≡ (length part == 0) → empty ≡ false → r ≡ s → r ≡ (not (is_empty_text (folded k part)) && s)
+with_part k part empty r s e h f =
+    f ∙ ap (λ b. not b && s) (sym h ∙ (e ∙ sym (is_empty_text-folded k part)))
+
+pub without_part : (k : Bool) (part : List ℕ) (empty s : Bool) → empty ≡ (length part == 0) → empty ≡ true → not empty ≡ (not (is_empty_text (folded k part)) && s)
+without_part k part empty s e h =
+    ap not h ∙ ap (λ b. not b && s) (sym h ∙ (e ∙ sym (is_empty_text-folded k part)))
+
+-- an id
+
+pub id_kept : (name : Characters) (value : List ℕ) (empty r : Bool) → IsUtf8 value → empty ≡ (length value == 0) → empty ≡ false → IsTrue r ↔ (name ≡ chars value) → r ≡ is_id name (chars value)
+id_kept name value empty r u e h f =
+    let some : is_empty_text (chars value) ≡ false = sym (is_empty_text-chars value u) ∙ (is_empty_text-folded true value ∙ (sym e ∙ h)) in
+    let turned = bytes_eq-Decides (chars value) name in
+    same_from_decides _ _ f (λ t. sym (turned.0 t), λ n. turned.1 (sym n)) ∙ ap (λ b. not b && same_text (chars value) name) (sym some)
+
+pub id_empty : (name : Characters) (value : List ℕ) (empty : Bool) → IsUtf8 value → empty ≡ (length value == 0) → empty ≡ true → not empty ≡ is_id name (chars value)
+id_empty name value empty u e h =
+    let none : is_empty_text (chars value) ≡ true = sym (is_empty_text-chars value u) ∙ (is_empty_text-folded true value ∙ (sym e ∙ h)) in
+    ap not h ∙ ap (λ b. not b && same_text (chars value) name) (sym none)
+
+pub id_asked : (doc : List Element) (x : ℕ) (name : Characters) (value : Option Characters) → value ≡ attribute_of doc x (chars (codes "id")) → option_map_or (is_id name) value false ≡ option_map_or (is_id name) (attribute_of doc x (codes "id")) false
+id_asked doc x name value e =
+    ap (λ o. option_map_or (is_id name) o false) (e ∙ ap (attribute_of doc x) (chars-ascii (codes "id") refl))

@@ -1,0 +1,96 @@
+//! How the values of attributes are compared (selectors-4, section 6).
+//!
+//! Texts are compared by their bytes in UTF-8, in place.
+
+ghost use Rattle.std.specs.Prelude.{◌≡◌, ◌∷◌, ◌++◌, ◌||◌, []};
+ghost use Rattle.std.specs.Str.{chars};
+ghost use Rattle.scene_model.specs.Words.{has_word as model_has_word, same_text};
+ghost use Rattle.selector_model.specs.Comparisons as model;
+ghost use Rattle.selector_model.specs.Comparisons.{folded};
+ghost use Rattle.selector_types.specs.Simples.{comparison_of};
+ghost use Rattle.stylo_base.specs.AsciiCase.{ascii_lower};
+
+use selector_types::Comparison;
+use stylo_base::eq_ascii_case;
+
+/// Whether the value of an attribute compares with `part`, ASCII case aside unless it counts.
+pub(crate) fn compared(value: &str, comparison: Comparison, part: &str, case_counts: bool) -> bool
+    ensures { result ≡ model.compared (comparison_of comparison) (folded case_counts (chars value.now)) (folded case_counts (chars part.now)) }
+{
+    let (text, bytes) = (value.as_bytes(), part.as_bytes());
+    match comparison {
+        Comparison::Equals => is_same(text, bytes, case_counts),
+        Comparison::Includes => has_word(value, part, case_counts),
+        Comparison::DashMatch => dash_matches(text, bytes, case_counts),
+        Comparison::Prefix => !bytes.is_empty() && begins_with(text, bytes, case_counts),
+        Comparison::Suffix => !bytes.is_empty() && ends_with(text, bytes, case_counts),
+        Comparison::Substring => !bytes.is_empty() && has_part(text, bytes, case_counts),
+    }
+}
+
+fn is_same(text: &[u8], other: &[u8], case_counts: bool) -> bool
+    ensures { result ≡ same_text (folded case_counts text.now) (folded case_counts other.now) }
+{
+    if case_counts {
+        text == other
+    } else {
+        text.eq_ignore_ascii_case(other)
+    }
+}
+
+fn begins_with(text: &[u8], part: &[u8], case_counts: bool) -> bool
+    ensures { result ≡ model.begins_with (folded case_counts text.now) (folded case_counts part.now) }
+{
+    part.len() <= text.len() && is_same(&text[..part.len()], part, case_counts)
+}
+
+fn ends_with(text: &[u8], part: &[u8], case_counts: bool) -> bool
+    ensures { result ≡ model.ends_with (folded case_counts text.now) (folded case_counts part.now) }
+{
+    part.len() <= text.len() && is_same(&text[text.len() - part.len()..], part, case_counts)
+}
+
+fn has_part(text: &[u8], part: &[u8], case_counts: bool) -> bool
+    ensures { result ≡ model.has_part (folded case_counts text.now) (folded case_counts part.now) }
+{
+    let mut rest = text;
+    loop {
+        if begins_with(rest, part, case_counts) {
+            return true;
+        }
+        match rest.split_first() {
+            Some((_, behind)) => rest = behind,
+            None => return false,
+        }
+    }
+}
+
+/// Whether the text is the part, or begins with it and `-`.
+fn dash_matches(text: &[u8], part: &[u8], case_counts: bool) -> bool
+    ensures { let whole = folded case_counts text.now in let front = folded case_counts part.now in
+        result ≡ (same_text whole front || model.begins_with whole (front ++ 45 ∷ [])) }
+{
+    begins_with(text, part, case_counts) && (text.len() == part.len() || text[part.len()] == b'-')
+}
+
+fn has_word(text: &str, word: &str, case_counts: bool) -> bool
+    ensures { result ≡ model_has_word (folded case_counts (chars word.now)) (folded case_counts (chars text.now)) }
+{
+    if case_counts {
+        dom_tree::has_word(word, text)
+    } else {
+        has_word_aside(text, word)
+    }
+}
+
+/// Whether `word` is one of the words of `text`, ASCII case aside.
+fn has_word_aside(text: &str, word: &str) -> bool
+    ensures { result ≡ model_has_word (ascii_lower (chars word.now)) (ascii_lower (chars text.now)) }
+{
+    for piece in text.split_ascii_whitespace() {
+        if eq_ascii_case(word, piece) {
+            return true;
+        }
+    }
+    false
+}
