@@ -39,7 +39,7 @@ each_found = refl
 color_named-named : (name : Characters) (c : Color) → Contains named_colors (named name c) → color_named name ≡ Some c
 color_named-named name c member = alike found_color own_color named_colors (named name c) each_found member
 
--- no colour is called so
+-- no colour is called `currentcolor`
 current_unnamed : color_named (codes "currentcolor") ≡ None
 unfolding named_colors
 current_unnamed = refl
