@@ -1,10 +1,10 @@
 //! The declarations that apply to an element.
 
-ghost use Rattle.std.specs.Prelude.{◌≡◌, ◌++◌, None, IfOk, OnOk, map};
+ghost use Rattle.std.specs.Prelude.{◌≡◌, ◌++◌, [], None, IfOk, OnOk, map};
 ghost use Rattle.scene_model.specs.Lookups.{IsElement};
 ghost use Rattle.selector_model.specs.Holds.{holds};
 ghost use Rattle.cascade_model.specs.Matching.{all_matched, greatest_by, matching};
-ghost use Rattle.cascade_core.specs.Seen.{matched_of};
+ghost use Rattle.cascade_core.specs.Matches.{matched_of};
 ghost use Rattle.selector_types.specs.Outer.{selectors_of};
 ghost use Rattle.sheet_set.specs.Seen.{declared_of, rule_of, rules_of};
 
@@ -26,9 +26,12 @@ pub fn match_element(
     requires { IsElement doc.now x }
     ensures { IfOk result (λ list. map matched_of list.items ≡ matching doc.now (rules_of sheets.now) x) }
 {
+    let rules = sheets.rules();
+    let selectors = sheets.selectors();
     let mut list = Vec::new(alloc);
-    for (rule, selectors) in sheets.rules().iter().zip(sheets.selectors()) {
-        if let Some(specificity) = greatest(doc, selectors, x) {
+    for index in 0..rules.len() {
+        let rule = &rules[index];
+        if let Some(specificity) = greatest(doc, &selectors[index], x) {
             put_declarations(&mut list, rule, specificity)?;
         }
     }
@@ -59,8 +62,8 @@ fn put_declarations(
     rule: &SheetRule,
     specificity: Specificity,
 ) -> Result<(), NoMemory>
-    ensures { (selectors : List Selector) → OnOk result (map matched_of list.new.items
-        ≡ map matched_of list.old.items ++ all_matched (rule_of rule.now selectors) specificity rule.now.place (map declared_of rule.now.declarations.items)) }
+    ensures { OnOk result (map matched_of list.new.items ≡ map matched_of list.old.items
+        ++ all_matched (rule_of rule.now []) specificity rule.now.place (map declared_of rule.now.declarations.items)) }
 {
     let mut place = rule.place();
     for declared in rule.declarations() {
