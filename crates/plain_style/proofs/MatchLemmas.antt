@@ -5,7 +5,7 @@ use Rattle.std.specs.List.{flat_map}
 use Rattle.std.specs.declared.alloc.Global.{Global}
 use Rattle.scene_model.specs.Element.{Element}
 use Rattle.selector_model.specs.Holds.{holds}
-use Rattle.selector_types.specs.declared.selector.Selector.{Selector}
+use Rattle.selector_types.specs.declared.selector.Selector.{Selector as Chosen}
 use Rattle.sheet_set.specs.declared.sheet_rule.SheetRule.{SheetRule}
 use Rattle.sheet_set.specs.Seen.{rule_of, rules_with}
 use Rattle.sheet_set.proofs.KeptLemmas.{item_at}
@@ -39,7 +39,7 @@ step f old new more whole left behind rule is gives put before =
     ap (λ l. l ++ flat_map f behind) put ∙ append_assoc old more (flat_map f behind) ∙ ap (λ m. old ++ (m ++ flat_map f behind)) (sym gives) ∙ ap (λ l. old ++ flat_map f l) (sym is) ∙ before
 
 -- the rules from a place on
-pub rules_at : (rules : List SheetRule) (lists : List (Vec Selector Global)) (i : ℕ) (rule : SheetRule) (list : Vec Selector Global) → i < length rules → i < length lists → rule ≡ get_or rules i rule → list ≡ get_or lists i list
+pub rules_at : (rules : List SheetRule) (lists : List (Vec Chosen Global)) (i : ℕ) (rule : SheetRule) (list : Vec Chosen Global) → i < length rules → i < length lists → rule ≡ get_or rules i rule → list ≡ get_or lists i list
     → rules_with (drop i rules) (drop i lists) ≡ rule_of rule list.items ∷ rules_with (drop (i + 1) rules) (drop (i + 1) lists)
 rules_at rules lists i rule list below within is same =
     ap (λ l. rules_with l (drop i lists)) (item_at rules i rule below is) ∙ ap (rules_with (rule ∷ drop (i + 1) rules)) (item_at lists i list within same)

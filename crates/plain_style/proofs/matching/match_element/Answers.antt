@@ -16,7 +16,7 @@ loop-index-preserved c =
     let i = c.loop-index.index in
     let rs = c.rules-rules.result.now in
     let ls = c.selectors-selectors.result.now in
-    let rule = c.index-rules-rule.result in
+    let rule = c.index-rules-index.result in
     let list = c.index-selectors-index.result in
     let f = rule_matched (λ s. holds doc s x) in
     let own = rule_of rule list.items in
@@ -24,7 +24,7 @@ loop-index-preserved c =
     let new = map matched_of c.match-greatest.list.items in
     let below : i < length rs = search the_rules in
     let within : i < length ls = search the_rules in
-    let next : rules_with (drop i rs) (drop i ls) ≡ own ∷ rules_with (drop (i + 1) rs) (drop (i + 1) ls) = rules_at rs ls i rule list below within c.index-rules-rule.is c.index-selectors-index.is in
+    let next : rules_with (drop i rs) (drop i ls) ≡ own ∷ rules_with (drop (i + 1) rs) (drop (i + 1) ls) = rules_at rs ls i rule list below within c.index-rules-index.is c.index-selectors-index.is in
     let best : greatest_by (λ s. holds doc s x) None own.selectors ≡ c.greatest.result = ap (λ l. greatest_by (λ s. holds doc s x) None (selectors_of l)) (sym c.deref.ensures.value) ∙ sym c.greatest.ensures in
     elim c.match-greatest.branch [
       in-Some+in_ok-put_declarations w ↦ (let s = w.in-Some.specificity in
