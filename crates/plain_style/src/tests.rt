@@ -69,14 +69,17 @@ fn opaque(red: u8, green: u8, blue: u8) -> Value {
 #[test]
 fn from_the_root_down(rt: HostRuntime) -> Result<(), Fail> {
     let alloc = rt.alloc();
-    let text = "p{color:red;display:flex}.a{visibility:hidden}.a.b{color:currentcolor;clear:both}i{visibility:visible}";
+    let text =
+        "p{color:red;display:flex}.a{visibility:hidden}.a.b{color:currentcolor;clear:both}i{visibility:visible}";
     let styles = styled(&rt, alloc, text)?;
     let [black, red] = [opaque(0, 0, 0), opaque(255, 0, 0)];
     assert_eq!(rt;
         values(alloc, &styles, PropId::Color)?.as_slice(),
         [black, red, red, red].as_slice()
     );
-    let [block, flex, inline] = [Keyword::Block, Keyword::Flex, Keyword::Inline].map(Value::Keyword);
+    let [block, flex, inline] = [Keyword::Block, Keyword::Flex, Keyword::Inline].map(
+        Value::Keyword,
+    );
     assert_eq!(rt;
         values(alloc, &styles, PropId::Display)?.as_slice(),
         [block, flex, inline, flex].as_slice()
@@ -97,7 +100,11 @@ fn from_the_root_down(rt: HostRuntime) -> Result<(), Fail> {
 #[test]
 fn the_greatest_specificity(rt: HostRuntime) -> Result<(), Fail> {
     let alloc = rt.alloc();
-    let styles = styled(&rt, alloc, "*,.x,i.a.b,p{color:red}.a{color:lime}html{color:blue}")?;
+    let styles = styled(
+        &rt,
+        alloc,
+        "*,.x,i.a.b,p{color:red}.a{color:lime}html{color:blue}",
+    )?;
     let [red, lime, blue] = [opaque(255, 0, 0), opaque(0, 255, 0), opaque(0, 0, 255)];
     assert_eq!(rt;
         values(alloc, &styles, PropId::Color)?.as_slice(),

@@ -1,5 +1,5 @@
 -- What is kept is determined.
-use Rattle.std.proofs.Common.{◌≡◌, ℕ, ◌+◌, Bool, true, false, List, [], ◌∷◌, ◌++◌, Some, refl, sym, ap, ◌∙◌, subst}
+use Rattle.std.proofs.Common.{◌≡◌, ℕ, ◌+◌, Bool, true, false, List, ◌∷◌, Some, refl, sym, ap, ◌∙◌, subst}
 use Rattle.scene_model.specs.Element.{Characters}
 use Rattle.syntax_model.specs.Token.{Token}
 use Rattle.syntax_model.specs.Rules.{Rule, Declaration, Declarations}

@@ -1,8 +1,8 @@
 -- A rule more behind the others.
-use Rattle.std.proofs.Common.{◌≡◌, ℕ, ◌+◌, List, [], ◌∷◌, ◌++◌, length, map, refl, sym, ap, ◌∙◌, arith}
+use Rattle.std.proofs.Common.{◌≡◌, ℕ, List, [], ◌∷◌, ◌++◌, length, map, refl, ap, arith}
 use Rattle.std.specs.Prelude.{Vec}
 use Rattle.std.specs.declared.alloc.Global.{Global}
-use Rattle.cascade_model.specs.Matching.{PlacedRule, placed}
+use Rattle.cascade_model.specs.Matching.{placed}
 use Rattle.layer_order.specs.Origins.{origin_of}
 use Rattle.layer_order.specs.declared.origin.Origin.{Origin}
 use Rattle.selector_types.specs.declared.selector.Selector.{Selector}

@@ -77,11 +77,21 @@ fn what_is_set(rt: HostRuntime) -> Result<(), Fail> {
 fn where_rules_stand(rt: HostRuntime) -> Result<(), Fail> {
     let alloc = rt.alloc();
     let inputs = [
-        sheet(alloc, Origin::Author, true, "p{color:red;clear:left}i>b{color:red}i{}b{color:lime}")?,
+        sheet(
+            alloc,
+            Origin::Author,
+            true,
+            "p{color:red;clear:left}i>b{color:red}i{}b{color:lime}",
+        )?,
         sheet(alloc, Origin::Author, false, "p{color:red}")?,
         sheet(alloc, Origin::User, true, "p{color:red}")?,
         sheet(alloc, Origin::UserAgent, true, "")?,
-        sheet(alloc, Origin::UserAgent, true, "p{display:none}p{clear:both}")?,
+        sheet(
+            alloc,
+            Origin::UserAgent,
+            true,
+            "p{display:none}p{clear:both}",
+        )?,
     ];
     let sheets = Sheets::start(alloc, &inputs)?;
     let wanted = [

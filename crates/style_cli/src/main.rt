@@ -5,9 +5,9 @@
 pub mod laws;
 mod printing;
 mod reading;
-mod status;
 #[cfg(test)]
 mod sheet_tests;
+mod status;
 #[cfg(test)]
 mod tests;
 mod top;
@@ -16,9 +16,8 @@ mod writing;
 
 use io_edges::{StdSink, StdSource};
 pub use status::Status;
-use std::env;
-use std::io;
 use std::process::ExitCode;
+use std::{env, io};
 pub use top::run;
 
 /// Makes the real ends and runs over them. Says on standard error what went wrong.

@@ -120,15 +120,27 @@ fn refusals(rt: HostRuntime) -> Result<(), Fail> {
     Ok(())
 }
 
+/// Runs over an input that is longer than the limit, where one read fails. A read takes 4,096 bytes
+/// at most: the first 16,384 take the limit, and the next one a byte past it.
+fn run_past_the_limit<R: Threads + Sync + AllocGlobal>(
+    rt: &R,
+    failing: u64,
+) -> Result<Outcome, Fail> {
+    let long = vec![in rt.alloc(); b' '; 67_108_870]?;
+    run_over(rt, &LINE, &long, &[failing], &[])
+}
+
 #[test]
 fn too_long(rt: HostRuntime) -> Result<(), Fail> {
-    let long = vec![in rt.alloc(); b' '; 67_108_870]?;
-    // A read takes 4,096 bytes at most: the first 16,384 take the limit, and the next one the byte past it.
-    let refused = run_over(&rt, &LINE, &long, &[16_386], &[])?;
+    let refused = run_past_the_limit(&rt, 16_386)?;
     assert_eq!(rt; refused.status, 5);
     assert!(rt; refused.held.is_empty());
-    let failed = run_over(&rt, &LINE, &long, &[16_385], &[])?;
-    assert_eq!(rt; failed.status, 1);
+    Ok(())
+}
+
+#[test]
+fn fault_at_the_limit(rt: HostRuntime) -> Result<(), Fail> {
+    assert_eq!(rt; run_past_the_limit(&rt, 16_385)?.status, 1);
     Ok(())
 }
 

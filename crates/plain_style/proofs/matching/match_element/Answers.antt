@@ -1,10 +1,10 @@
-use Rattle.std.proofs.Common.{◌≡◌, ◌<◌, ◌∷◌, ◌++◌, ◌+◌, [], None, Some, map, drop, length, refl, ap, sym, ◌∙◌, append-nil, rules as the_rules}
+use Rattle.std.proofs.Common.{◌≡◌, ◌<◌, ◌∷◌, ◌+◌, [], None, map, drop, length, refl, ap, sym, ◌∙◌, append-nil, rules as the_rules}
 use Rattle.std.proofs.lemmas.List.{drop_all}
 use Rattle.selector_model.specs.Holds.{holds}
 use Rattle.selector_types.specs.Outer.{selectors_of}
 use Rattle.cascade_model.specs.Matching.{rule_matched, greatest_by, all_matched}
 use Rattle.cascade_core.specs.Matches.{matched_of}
-use Rattle.sheet_set.specs.Seen.{declared_of, rule_of, rules_of, rules_with}
+use Rattle.sheet_set.specs.Seen.{rule_of, rules_of, rules_with}
 use Rattle.plain_style.proofs.MatchLemmas.{all_matched-same, rule_none, rule_some, step, rules_at, matched_all}
 use Rattle.plain_style.proofs.matching.match_element.Goals as goal
 use Rattle.plain_style.proofs.matching.match_element.Goals.{in-Some+in_ok-put_declarations, in_default}
@@ -27,9 +27,9 @@ loop-index-preserved c =
     let next : rules_with (drop i rs) (drop i ls) ≡ own ∷ rules_with (drop (i + 1) rs) (drop (i + 1) ls) = rules_at rs ls i rule list below within c.index-rules-index.is c.index-selectors-index.is in
     let best : greatest_by (λ s. holds doc s x) None own.selectors ≡ c.greatest.result = ap (λ l. greatest_by (λ s. holds doc s x) None (selectors_of l)) (sym c.deref.ensures.value) ∙ sym c.greatest.ensures in
     elim c.match-greatest.branch [
-      in-Some+in_ok-put_declarations w ↦ (let s = w.in-Some.specificity in
-        let gives : f own ≡ all_matched (rule_of rule []) s own.place own.declarations = rule_some (λ t. holds doc t x) own s (best ∙ w.in-Some.is) ∙ all_matched-same own (rule_of rule []) s own.place own.declarations refl refl refl in
-        step f old new (all_matched (rule_of rule []) s own.place own.declarations) _ _ _ own next gives (ap (λ v. map matched_of v.items) w.list-is ∙ w.in_ok-put_declarations.ensures) c.loop-index.invariant)
+      | in-Some+in_ok-put_declarations w ↦ (let s = w.in-Some.specificity in
+          let gives : f own ≡ all_matched (rule_of rule []) s own.place own.declarations = rule_some (λ t. holds doc t x) own s (best ∙ w.in-Some.is) ∙ all_matched-same own (rule_of rule []) s own.place own.declarations refl refl refl in
+          step f old new (all_matched (rule_of rule []) s own.place own.declarations) _ _ _ own next gives (ap (λ v. map matched_of v.items) w.list-is ∙ w.in_ok-put_declarations.ensures) c.loop-index.invariant)
       | in_default w ↦ step f old new [] _ _ _ own next (rule_none (λ t. holds doc t x) own (best ∙ w.in_default.is)) (ap (λ v. map matched_of v.items) w.list-is ∙ sym (append-nil old)) c.loop-index.invariant
     ]
 

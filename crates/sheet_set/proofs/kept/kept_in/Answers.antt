@@ -19,8 +19,8 @@ loop-declaration-preserved c =
     let new = map declared_of c.match-set_by.kept.items in
     let next : left ≡ declaration_of item ∷ behind = left_at declaration_of items i item (search rules) c.declaration-item.is in
     elim c.match-set_by.branch [
-      in-Some+in_ok-push w ↦ (let added : new ≡ old ++ declared_of w.in-Some.set ∷ [] = ap (λ v. map declared_of v.items) w.kept-is ∙ ap (map declared_of) w.in_ok-push.ensures.items ∙ map-append declared_of c.loop-declaration.kept.items (w.in-Some.set ∷ []) in
-        keeps_one all left behind (declaration_of item) (declared_of w.in-Some.set) old new next w.in-Some.ensures added c.loop-declaration.invariant)
+      | in-Some+in_ok-push w ↦ (let added : new ≡ old ++ declared_of w.in-Some.set ∷ [] = ap (λ v. map declared_of v.items) w.kept-is ∙ ap (map declared_of) w.in_ok-push.ensures.items ∙ map-append declared_of c.loop-declaration.kept.items (w.in-Some.set ∷ []) in
+          keeps_one all left behind (declaration_of item) (declared_of w.in-Some.set) old new next w.in-Some.ensures added c.loop-declaration.invariant)
       | in_default w ↦ keeps_not all left behind (declaration_of item) old new next w.in_default.ensures (ap (λ v. map declared_of v.items) w.kept-is) c.loop-declaration.invariant
     ]
 

@@ -1,4 +1,4 @@
-use Rattle.std.proofs.Common.{◌≡◌, ℕ, ◌∷◌, ◌++◌, [], ◌+◌, drop, map, length, refl, ap, sym, ◌∙◌, subst, rules, arith, length-append}
+use Rattle.std.proofs.Common.{◌≡◌, ◌∷◌, ◌++◌, [], ◌+◌, drop, map, length, ap, sym, ◌∙◌, subst, rules, arith, length-append}
 use Rattle.std.proofs.lemmas.List.{length-map}
 use Rattle.std.specs.Str.{chars}
 use Rattle.css_rules.specs.Parts as parts
@@ -59,5 +59,5 @@ returns-clause-adds c =
     let cut : AreRulesOf text (rules_of items) =
     subst (λ t. AreRulesOf t (rules_of items)) c.as_str.ensures.characters (subst (λ l. AreRulesOf (chars c.as_str.result.now) (rules_of l)) (sym c.deref-rule-items.ensures.value) c.in_ok-sheet_rules.ensures.cut) in
     let all = taken_all (rules_of items) c.args.stand.number origin c.args.stand.position c.loop-rule.place (found_rules c.args.self.now) (found_rules c.loop-rule.self)
-        (subst (λ l. IsTaken (rules_of items) l c.args.stand.number origin c.args.stand.position c.loop-rule.place (found_rules c.args.self.now) (found_rules c.loop-rule.self)) (left_none parts.rule_of items i c.loop-rule-test.false) c.loop-rule.invariant.taken) in
+    (subst (λ l. IsTaken (rules_of items) l c.args.stand.number origin c.args.stand.position c.loop-rule.place (found_rules c.args.self.now) (found_rules c.loop-rule.self)) (left_none parts.rule_of items i c.loop-rule-test.false) c.loop-rule.invariant.taken) in
     (all.0, (rules_of items, cut, all.1), all.2)

@@ -1,4 +1,4 @@
-use Rattle.std.proofs.Common.{◌≡◌, ◌∷◌, ◌++◌, [], ◌+◌, ◌≤◌, drop, length, ap, sym, ◌∙◌, rules, arith}
+use Rattle.std.proofs.Common.{◌≡◌, ◌∷◌, ◌+◌, drop, length, ap, sym, ◌∙◌, rules, arith}
 use Rattle.std.proofs.lemmas.List.{drop_all}
 use Rattle.sheet_set.specs.Found.{found_rules}
 use Rattle.sheet_set.proofs.KeptLemmas.{item_at}
@@ -14,7 +14,7 @@ loop-sheet-preserved c =
     let before = c.loop-sheet.invariant in
     let next : drop i inputs ≡ item ∷ drop (i + 1) inputs = item_at inputs i item (search rules) c.sheet-item.is in
     elim c.if-sheet.branch [
-      then-sheet+in_ok-add_sheet w ↦ (let added = w.in_ok-add_sheet.ensures.adds in record {
+      | then-sheet+in_ok-add_sheet w ↦ (let added = w.in_ok-add_sheet.ensures.adds in record {
         completes = completes_enabled inputs (drop i inputs) (drop (i + 1) inputs) c.loop-sheet.stand.number c.loop-sheet.stand.position c.if-sheet.stand.number c.if-sheet.stand.position (found_rules c.loop-sheet.found) (found_rules c.if-sheet.found) item added.0
             next w.if-sheet.true added.1 (ap found_rules w.found-is ∙ added.2) (ap (λ s. s.number) w.stand-is) (ap (λ s. s.position) w.stand-is) before.completes;
         paired = ap (λ f. length f.rules.items) w.found-is ∙ w.in_ok-add_sheet.ensures.paired ∙ sym (ap (λ f. length f.selectors.items) w.found-is);
