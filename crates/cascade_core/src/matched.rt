@@ -6,7 +6,7 @@ ghost use Rattle.cascade_core.specs.Matches.{matched_of};
 
 use layer_order::Origin;
 use property_table::{PropId, Value};
-use selector_types::Specificity;
+use stylo_base::Specificity;
 use std::cmp::Ordering;
 
 /// One declaration that applies to an element, with what the cascade compares.

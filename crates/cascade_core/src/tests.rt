@@ -1,11 +1,11 @@
 use crate::{Matched, cascade};
 use layer_order::Origin;
 use property_table::{Color, Keyword, PropId, Value};
-use selector_types::Specificity;
+
 use std::alloc::Global;
 use std::test::Fail;
 use style_value::Style;
-use stylo_base::{Fixed, NoMemory};
+use stylo_base::{Fixed, NoMemory, Specificity};
 
 const RED: Value = Value::Color(Color {
     red: 255,

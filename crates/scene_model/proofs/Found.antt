@@ -65,13 +65,6 @@ parent_of-element doc x p h = is_element-at doc x ∙ some_first (element_at doc
     some_first None k = cc
     some_first (Some e) k = refl
 
-pub element_at_some : (doc : List Element) (x : ℕ) → IsElement doc x → (e : Element) × (element_at doc x ≡ Some e)
-element_at_some doc x h = there (element_at doc x) (sym (is_element-at doc x) ∙ h)
-  where
-    there : (o : Option Element) → is_some o ≡ true → (e : Element) × (o ≡ Some e)
-    there None k = absurd (cc)
-    there (Some e) k = (e, refl)
-
 -- whether p is the parent of x
 abbrev pub hangs_on : List Element → ℕ → ℕ → Bool
 hangs_on doc p x = option_map_or (λ q. q == p) (parent_of doc x) false

@@ -4,7 +4,7 @@ use Rattle.std.specs.List.{AllByRecursion}
 use Rattle.std.proofs.lemmas.List.Elements.{filter-append}
 use Rattle.std.proofs.lemmas.List.Concat.{flat_map-append}
 use Rattle.std.proofs.lemmas.Option.{same_Some}
-use Rattle.std.proofs.lemmas.Bool.{cond-true, cond-false}
+use Rattle.std.proofs.lemmas.Bool.{cond-false}
 
 -- what holds of each element
 
@@ -24,10 +24,6 @@ pub each-flat_map : {X Y : Type 0} (P : Y → Type 0) (f : X → List Y) (xs : L
 each-flat_map P f [] h = tt
 each-flat_map P f (x ∷ xs) h = each-append P (f x) (flat_map f xs) h.0 (each-flat_map P f xs h.1)
 
-pub each-map : {X Y : Type 0} (P : Y → Type 0) (f : X → Y) (xs : List X) → AllByRecursion (λ x. P (f x)) xs → AllByRecursion P (map f xs)
-each-map P f [] h = tt
-each-map P f (x ∷ xs) h = (h.0, each-map P f xs h.1)
-
 each_kept : {X : Type 0} (P : X → Type 0) (b : Bool) (x : X) (ys : List X) → (b ≡ true → P x) → AllByRecursion P ys → AllByRecursion P (cond b (x ∷ ys) ys)
 each_kept P true x ys h k = (h refl, k)
 each_kept P false x ys h k = k
@@ -46,10 +42,6 @@ each_passes Q p w (x ∷ xs) = each_kept Q (p x) x (filter p xs) (w x) (each_pas
 pub filter_nothing : {X : Type 0} (p : X → Bool) (xs : List X) → AllByRecursion (λ x. p x ≡ false) xs → filter p xs ≡ []
 filter_nothing p [] h = refl
 filter_nothing p (x ∷ xs) h = cond-false (p x) (x ∷ filter p xs) (filter p xs) h.0 ∙ filter_nothing p xs h.1
-
-pub filter_everything : {X : Type 0} (p : X → Bool) (xs : List X) → AllByRecursion (λ x. p x ≡ true) xs → filter p xs ≡ xs
-filter_everything p [] h = refl
-filter_everything p (x ∷ xs) h = cond-true (p x) (x ∷ filter p xs) (filter p xs) h.0 ∙ ap (λ l. x ∷ l) (filter_everything p xs h.1)
 
 pub filter_same : {X : Type 0} (p q : X → Bool) (xs : List X) → AllByRecursion (λ x. p x ≡ q x) xs → filter p xs ≡ filter q xs
 filter_same p q [] h = refl
@@ -87,10 +79,6 @@ filter-map p f (x ∷ xs) = ap (λ l. cond (p (f x)) (f x ∷ l) l) (filter-map 
 pub flat_map_same : {X Y : Type 0} (f g : X → List Y) (xs : List X) → AllByRecursion (λ x. f x ≡ g x) xs → flat_map f xs ≡ flat_map g xs
 flat_map_same f g [] h = refl
 flat_map_same f g (x ∷ xs) h = ap (λ l. l ++ flat_map f xs) h.0 ∙ ap (λ l. g x ++ l) (flat_map_same f g xs h.1)
-
-pub flat_map_nothing : {X Y : Type 0} (f : X → List Y) (xs : List X) → AllByRecursion (λ x. f x ≡ []) xs → flat_map f xs ≡ []
-flat_map_nothing f [] h = refl
-flat_map_nothing f (x ∷ xs) h = ap (λ l. l ++ flat_map f xs) h.0 ∙ flat_map_nothing f xs h.1
 
 -- each of the lists is its element alone
 pub flat_map_itself : {X : Type 0} (f : X → List X) (xs : List X) → AllByRecursion (λ x. f x ≡ x ∷ []) xs → flat_map f xs ≡ xs

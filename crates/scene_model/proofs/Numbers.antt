@@ -33,10 +33,6 @@ copies_absent x xs h = filter_nothing (λ y. y == x) xs (each_weaker (λ y. x �
 any_absent : (x y : ℕ) (xs : List ℕ) → x ≢ y → is_in x xs ≡ false → is_in x (y ∷ xs) ≡ false
 any_absent x y xs n h = grind (arith, nat_tests)
 
-pub is_in_absent : (x : ℕ) (xs : List ℕ) → AllByRecursion (λ y. x ≢ y) xs → is_in x xs ≡ false
-is_in_absent x [] h = refl
-is_in_absent x (y ∷ xs) h = any_absent x y xs h.0 (is_in_absent x xs h.1)
-
 each_at : (P : ℕ → Type 0) (x y : ℕ) (xs : List ℕ) (b : Bool) → (y == x) ≡ b → P y → (is_in x xs ≡ true → P x) → (b || is_in x xs) ≡ true → P x
 each_at P x y xs true e h r k = subst P (eqb-true y x e) h
 each_at P x y xs false e h r k = r k
@@ -95,9 +91,6 @@ none_kept p false x xs e h = h e
 pub filter_none : {X : Type 0} (p : X → Bool) (xs : List X) → list_any p xs ≡ false → filter p xs ≡ []
 filter_none p [] h = refl
 filter_none p (x ∷ xs) h = none_kept p (p x) x xs h (filter_none p xs)
-
-pub copies_none : (x : ℕ) (xs : List ℕ) → is_in x xs ≡ false → copies x xs ≡ []
-copies_none x xs h = filter_none (λ y. y == x) xs h
 
 none_failed : {X : Type 0} (p : X → Bool) (b : Bool) (x : X) (xs : List X) → cond b (x ∷ filter p xs) (filter p xs) ≡ [] → p x ≡ b → (filter p xs ≡ [] → AllByRecursion (λ y. p y ≡ false) xs) → AllByRecursion (λ y. p y ≡ false) (x ∷ xs)
 none_failed p true x xs e f h = absurd (cc)
@@ -184,7 +177,3 @@ left_more x y xs h = rw h (ap (λ n. take n (y ∷ xs)) (one-add (prefix_len (λ
 pub left_of_split : (x : ℕ) (xs ys : List ℕ) → AllByRecursion (λ y. y ≢ x) xs → left_of x (xs ++ x ∷ ys) ≡ xs
 left_of_split x [] ys h = ap (λ b. take (cond (not b) (1 + prefix_len (λ y. not (y == x)) ys) 0) (x ∷ ys)) (same_number x)
 left_of_split x (y ∷ xs) ys h = left_more x y (xs ++ x ∷ ys) (differs y x h.0) ∙ ap (λ l. y ∷ l) (left_of_split x xs ys h.1)
-
-pub left_of_absent : (x : ℕ) (xs : List ℕ) → AllByRecursion (λ y. y ≢ x) xs → left_of x xs ≡ xs
-left_of_absent x [] h = refl
-left_of_absent x (y ∷ xs) h = left_more x y xs (differs y x h.0) ∙ ap (λ l. y ∷ l) (left_of_absent x xs h.1)

@@ -3,7 +3,7 @@ use Rattle.std.specs.Prelude.{ℕ, ◌==◌, List, [], ◌∷◌, map, filter, f
 use Rattle.std.specs.List.{list_any, prefix_len}
 use Rattle.std.specs.Option.{option_map_or}
 use Rattle.std.specs.FinMap as map
-use Rattle.scene_model.specs.Element.{Element, Characters, States, State, has_state}
+use Rattle.scene_model.specs.Element.{Element, Characters, State, has_state}
 use Rattle.scene_model.specs.Words.{has_word}
 
 abbrev pub has_number : ℕ → Element → Bool

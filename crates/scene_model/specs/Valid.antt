@@ -1,5 +1,5 @@
 -- What holds of every document.
-use Rattle.std.specs.Prelude.{ℕ, ◌<◌, ◌≡◌, nat_eq, List, [], ◌∷◌, Option, Some, None}
+use Rattle.std.specs.Prelude.{ℕ, ◌<◌, ◌≡◌, nat_eq, List, Some, None}
 use Rattle.std.specs.List.{IsDistinct}
 use Rattle.scene_model.specs.Element.{Element}
 use Rattle.scene_model.specs.Lookups.{numbers, parent_of, IsElement}

@@ -5,7 +5,6 @@ mod complex;
 mod keys;
 mod selector;
 mod simple;
-mod specific;
 #[cfg(test)]
 mod tests;
 pub mod weight;
@@ -14,4 +13,4 @@ pub use complex::{Combinator, Complex, Compound, Left, Test};
 pub use keys::{Key, key_of};
 pub use selector::Selector;
 pub use simple::{AnB, Comparison, Places, Simple};
-pub use specific::Specificity;
+pub use stylo_base::Specificity;

@@ -5,17 +5,8 @@ use Rattle.std.proofs.lemmas.Grind.{flat_map-append}
 use Rattle.std.proofs.lemmas.List.{take-append-le}
 use Rattle.std.proofs.Math.Seq.{take-suc, drop-cons, take-append_seam}
 use Rattle.std.specs.Io.KnownBytes.{Appends}
+use Rattle.std.proofs.KnownBytes.{Appends-trans}
 use Rattle.style_cli.specs.Loops.{GrewByFront}
-
-pub Appends-nothing : (a : Option (List ℕ)) → Appends a a []
-Appends-nothing None = tt
-Appends-nothing (Some x) = sym (append-nil x)
-
-pub Appends-both : (a b c : Option (List ℕ)) (bs cs : List ℕ) → Appends a b bs → Appends b c cs → Appends a c (bs ++ cs)
-Appends-both None b c bs cs p q = tt
-Appends-both (Some x) None c bs cs p q = absurd p
-Appends-both (Some x) (Some y) None bs cs p q = absurd q
-Appends-both (Some x) (Some y) (Some z) bs cs p q = q ∙ ap (λ l. l ++ cs) p ∙ append_assoc x bs cs
 
 -- the first so many bytes of some bytes and others
 take_both : (bs cs : List ℕ) (n : ℕ) → take (length bs + n) (bs ++ cs) ≡ bs ++ take n cs
@@ -32,7 +23,7 @@ front_after a b c bs next rest whole e first second =
     ap (take (length bs + n)) e ∙ take_both bs (next ++ rest) n ∙ ap (λ l. bs ++ l) (take-append-le n next rest second.1) in (
       length bs + n,
       omega (arith, second.1, ap length e, length-append bs (next ++ rest), length-append next rest),
-      subst (Appends a c) (sym cut) (Appends-both a b c bs (take n next) first second.2),
+      subst (Appends a c) (sym cut) (Appends-trans a b c bs (take n next) first second.2),
     )
 
 pub front_itself : (a b : Option (List ℕ)) (bs rest whole : List ℕ) → whole ≡ bs ++ rest → Appends a b bs → GrewByFront a b whole

@@ -12,7 +12,8 @@ use Rattle.cascade_model.specs.StyleOf.{style_of}
 use Rattle.report_text.specs.Lines.{batch_line, element_line}
 use Rattle.style_cli.specs.Loops.{GrewByFront}
 use Rattle.style_cli.specs.Text.{line_at, text_of}
-use Rattle.style_cli.proofs.Fronts.{Appends-nothing, Appends-both, front_after}
+use Rattle.std.proofs.KnownBytes.{Appends-nil, Appends-trans}
+use Rattle.style_cli.proofs.Fronts.{front_after}
 
 -- an element's line in UTF-8
 abbrev pub line_bytes : List Element → List PlacedRule → ℕ → List ℕ
@@ -52,14 +53,14 @@ text_is doc rules order line count is many made =
 
 -- a front of the first piece is a front of the whole
 pub front_first : (a b : Option (List ℕ)) (first rest whole : List ℕ) → whole ≡ first ++ rest → GrewByFront a b first → GrewByFront a b whole
-front_first a b first rest whole e grew = front_after a a b [] first rest whole e (Appends-nothing a) grew
+front_first a b first rest whole e grew = front_after a a b [] first rest whole e (Appends-nil a) grew
 
 -- and a front of what comes last is one too
 pub front_last : (a b c : Option (List ℕ)) (first last whole : List ℕ) → whole ≡ first ++ last → Appends a b first → GrewByFront b c last → GrewByFront a c whole
 front_last a b c first last whole e done grew = front_after a b c first last [] whole (e ∙ ap (λ l. first ++ l) (sym (append-nil last))) done grew
 
 pub whole_last : {T E : Type 0} (r : Result T E) (a b c : Option (List ℕ)) (first last whole : List ℕ) → whole ≡ first ++ last → Appends a b first → OnOk r (Appends b c last) → OnOk r (Appends a c whole)
-whole_last (Ok x) a b c first last whole e done more = subst (Appends a c) (sym e) (Appends-both a b c first last done more)
+whole_last (Ok x) a b c first last whole e done more = subst (Appends a c) (sym e) (Appends-trans a b c first last done more)
 whole_last (Err x) a b c first last whole e done more = tt
 
 pub front_of_last : {T E : Type 0} (r : Result T E) (a b c : Option (List ℕ)) (first last whole : List ℕ) → whole ≡ first ++ last → Appends a b first → OnErr r (GrewByFront b c last) → OnErr r (GrewByFront a c whole)

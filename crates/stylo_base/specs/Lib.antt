@@ -3,3 +3,4 @@ pub mod AsciiCase
 pub mod KindName
 pub mod NameList
 pub mod Thousandths
+pub mod Total

@@ -1,5 +1,5 @@
 //! What every other crate of the style engine uses: want of memory, texts, names, fixed-point
-//! numbers, and the words of limits and refusals.
+//! numbers, specificities, and the words of limits and refusals.
 #![tactic(auto)]
 
 mod ascii_case;
@@ -9,6 +9,7 @@ mod memory;
 mod names;
 mod path_text;
 mod refusal;
+mod specificity;
 mod state;
 #[cfg(test)]
 mod tests;
@@ -20,5 +21,6 @@ pub use memory::NoMemory;
 pub use names::{Name, Names};
 pub use path_text::PathText;
 pub use refusal::{EditRefused, Kind};
+pub use specificity::Specificity;
 pub use state::State;
 pub use text::Text;

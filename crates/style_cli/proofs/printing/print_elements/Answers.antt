@@ -6,7 +6,8 @@ use Rattle.std.specs.Io.KnownBytes.{Appends}
 use Rattle.cascade_model.specs.StyleOf.{style_of}
 use Rattle.style_cli.specs.Loops.{GrewByFront}
 use Rattle.plain_style.proofs.Walk.{element_in_order}
-use Rattle.style_cli.proofs.Fronts.{Appends-both, front_after, front_itself, flat_split, flat_rest, flat_more}
+use Rattle.std.proofs.KnownBytes.{Appends-trans}
+use Rattle.style_cli.proofs.Fronts.{front_after, front_itself, flat_split, flat_rest, flat_more}
 use Rattle.style_cli.proofs.Printed.{on_err, line_is, alike_at, line_bytes}
 use Rattle.style_cli.proofs.printing.print_elements.Goals as goal
 
@@ -46,6 +47,6 @@ loop-index-preserved g c = record {
       let own = c.deref-style.ensures ∙ alike_at arc_value (style_of doc placed) c.args.styles.now order k c.index-styles-index.result styled below c.index-styles-index.is in
       let same = line_is doc placed x c.in_ok-line.line _ c.deref-style.result.now c.in_ok-line.ensures c.tag.ensures own in
       subst (Appends (g.K.Sink.held c.args.sink.now) (g.K.Sink.held c.write_line.new.sink)) (sym (flat_more bytes order k 0 below))
-      (Appends-both _ (g.K.Sink.held c.loop-index.sink) _ (flat_map bytes (take k order)) (bytes x) (c.loop-index.invariant.written placed styled)
+      (Appends-trans _ (g.K.Sink.held c.loop-index.sink) _ (flat_map bytes (take k order)) (bytes x) (c.loop-index.invariant.written placed styled)
       (subst (Appends (g.K.Sink.held c.loop-index.sink) (g.K.Sink.held c.write_line.new.sink)) same c.in_ok-write_line.ensures.ok));
 }

@@ -2,7 +2,7 @@
 
 ghost use Rattle.std.specs.Prelude.{◌≡◌, ◌+◌, ◌<◌, ◌^◌};
 ghost use Rattle.selector_model.specs.Specificity.{greater, plus};
-ghost use Rattle.selector_types.specs.Counts.{total};
+ghost use Rattle.stylo_base.specs.Total.{total};
 
 use std::marker::Model;
 
@@ -58,8 +58,8 @@ impl Specificity {
         self.types
     }
 
-    /// The sum.
-    pub(crate) fn plus(self, other: Specificity) -> Specificity
+    /// The sum. There are fewer than 2^64 counted in both.
+    pub fn plus(self, other: Specificity) -> Specificity
         requires { total self + total other < 2 ^ 64 }
         ensures { result ≡ plus self other }
     {
