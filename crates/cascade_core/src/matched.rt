@@ -6,8 +6,8 @@ ghost use Rattle.cascade_core.specs.Matches.{matched_of};
 
 use layer_order::Origin;
 use property_table::{PropId, Value};
-use stylo_base::Specificity;
 use std::cmp::Ordering;
+use stylo_base::Specificity;
 
 /// One declaration that applies to an element, with what the cascade compares.
 #[derive(Clone, Copy, Debug)]

@@ -1,7 +1,6 @@
 use crate::{Matched, cascade};
 use layer_order::Origin;
 use property_table::{Color, Keyword, PropId, Value};
-
 use std::alloc::Global;
 use std::test::Fail;
 use style_value::Style;

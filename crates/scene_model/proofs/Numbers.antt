@@ -30,9 +30,6 @@ differs_turned x y h = grind (arith, nat_tests)
 pub copies_absent : (x : ℕ) (xs : List ℕ) → AllByRecursion (λ y. x ≢ y) xs → copies x xs ≡ []
 copies_absent x xs h = filter_nothing (λ y. y == x) xs (each_weaker (λ y. x ≢ y) (λ y. (y == x) ≡ false) (λ y k. differs y x (λ e. k (sym e))) xs h)
 
-any_absent : (x y : ℕ) (xs : List ℕ) → x ≢ y → is_in x xs ≡ false → is_in x (y ∷ xs) ≡ false
-any_absent x y xs n h = grind (arith, nat_tests)
-
 each_at : (P : ℕ → Type 0) (x y : ℕ) (xs : List ℕ) (b : Bool) → (y == x) ≡ b → P y → (is_in x xs ≡ true → P x) → (b || is_in x xs) ≡ true → P x
 each_at P x y xs true e h r k = subst P (eqb-true y x e) h
 each_at P x y xs false e h r k = r k
