@@ -1,10 +1,10 @@
 -- The parts of a text with ASCII case aside, or not.
-use Rattle.std.proofs.Common.{◌≡◌, ℕ, ◌+◌, ◌-◌, ◌<◌, ◌≤◌, ◌==◌, nat_le, Bool, true, false, ◌&&◌, ◌||◌, List, [], ◌∷◌, ◌++◌, length, map, take, drop, get_or, refl, sym, ap, ◌∙◌, arith, le-leb}
+use Rattle.std.proofs.Common.{◌≡◌, ℕ, ◌-◌, ◌<◌, ◌≤◌, ◌==◌, nat_le, Bool, true, false, ◌&&◌, ◌||◌, List, [], ◌∷◌, ◌++◌, length, take, drop, get_or, refl, sym, ap, ◌∙◌, arith, le-leb}
 use Rattle.std.specs.Char.{to_ascii_lowercase}
 use Rattle.std.proofs.lemmas.List.{length-map, take-map, drop-map, take_rest, get_or-map}
 use Rattle.std.proofs.lemmas.Bool.Decides.{nat_tests}
 use Rattle.scene_model.specs.Words.{same_text}
-use Rattle.selector_model.specs.Comparisons.{folded, begins_with, ends_with, has_part}
+use Rattle.selector_model.specs.Comparisons.{folded, begins_with, ends_with}
 use Rattle.selector_match.proofs.PartLemmas.{begins_with-fits, dash_behind, dash_missed}
 
 pub length-folded : (k : Bool) (xs : List ℕ) → length (folded k xs) ≡ length xs
@@ -33,11 +33,6 @@ ends_with-folded k text part h =
     ap (λ t. same_text (folded k t) (folded k part)) (take_rest text cut)
     ∙ (ap (λ t. same_text t (folded k part)) (folded-drop k cut text ∙ ap (λ n. drop n (folded k text)) (sym same))
     ∙ ap (λ b. b && same_text (drop (length (folded k text) - length (folded k part)) (folded k text)) (folded k part)) (sym fits))
-
--- one more character
-pub has_part-folded : (k : Bool) (c : ℕ) (text part : List ℕ) → has_part (folded k (c ∷ text)) (folded k part) ≡ (begins_with (folded k (c ∷ text)) (folded k part) || has_part (folded k text) (folded k part))
-has_part-folded true c text part = refl
-has_part-folded false c text part = refl
 
 -- a character is `-` in either case, or in none
 dash_lower : (c : ℕ) → (to_ascii_lowercase c == 45) ≡ (c == 45)

@@ -1,5 +1,5 @@
 -- A text with its ASCII letters in lower case: its bytes and its characters.
-use Rattle.std.proofs.Common.{◌≡◌, ℕ, suc, ◌+◌, ◌<◌, ◌≤◌, Bool, true, false, ◌&&◌, List, [], ◌∷◌, ◌++◌, length, map, get_or, encode_utf8, encode_utf8_all, sym, ap, ◌∙◌, refl, arith, inl, inr, ◌⊎◌, append-nil}
+use Rattle.std.proofs.Common.{◌≡◌, ℕ, suc, ◌<◌, ◌≤◌, Bool, true, false, List, [], ◌∷◌, ◌++◌, length, map, get_or, encode_utf8, encode_utf8_all, sym, ap, ◌∙◌, refl, arith, inl, inr, ◌⊎◌, append-nil}
 use Rattle.std.specs.Char.{to_ascii_lowercase}
 use Rattle.std.specs.Str.{chars, IsUtf8, all_scalars}
 use Rattle.std.proofs.Math.Utf8.{scalar, low_scalar}

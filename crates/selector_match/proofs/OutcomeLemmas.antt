@@ -1,22 +1,21 @@
 -- What a try to the left of an element tells of the element.
-use Rattle.std.proofs.Common.{◌≡◌, ℕ, zero, suc, ◌+◌, ◌-◌, ◌==◌, Bool, true, false, cond, not, ◌&&◌, ◌||◌, List, [], ◌∷◌, ◌++◌, length, take, Option, Some, None, slice_get, refl, sym, ap, ◌∙◌, subst, arith, append_assoc, append-nil}
+use Rattle.std.proofs.Common.{◌≡◌, ℕ, ◌-◌, ◌==◌, Bool, true, false, ◌&&◌, ◌||◌, List, [], ◌∷◌, ◌++◌, length, take, Option, Some, None, refl, sym, ap, ◌∙◌, subst, append_assoc}
 use Rattle.std.specs.List.{AllByRecursion, list_any}
-use Rattle.std.proofs.lemmas.Bool.{and_from, and_parts, eqb-true, false≢true}
-use Rattle.std.proofs.lemmas.List.Folds.{list_any-append}
+use Rattle.std.proofs.lemmas.Bool.{and_from, and_parts, eqb-true}
 use Rattle.scene_model.specs.Element.{Element}
-use Rattle.scene_model.specs.Lookups.{IsElement, numbers, parent_of, siblings, left_of}
-use Rattle.scene_model.specs.Ancestors.{up, ancestors}
+use Rattle.scene_model.specs.Lookups.{IsElement, numbers, parent_of, siblings}
+use Rattle.scene_model.specs.Ancestors.{ancestors}
 use Rattle.scene_model.specs.Valid.{IsValid}
 use Rattle.scene_model.proofs.Climbing.{ancestors_each, ancestors-child, ancestors-root}
 use Rattle.scene_model.proofs.Found.{is_element-numbers}
-use Rattle.scene_model.proofs.Numbers.{is_in, same_number, each_is_in}
+use Rattle.scene_model.proofs.Numbers.{is_in, each_is_in}
 use Rattle.selector_model.specs.Selector.{Combinator, descendant, child, next_sibling, later_sibling, Selector, behind, Compound}
 use Rattle.selector_model.specs.Holds.{only, nearest, leftwards, stands, holds, meets}
 use Rattle.selector_match.specs.declared.outcome.Outcome.{Outcome}
 use Rattle.selector_match.specs.declared.outcome.Outcome.TheVariants.{Holds, Fails, FailsBefore, FailsAbove}
 use Rattle.selector_match.specs.Outcomes.{before, IsUnder, Tells, holds_left}
 use Rattle.selector_match.proofs.AnyLemmas.{both_ways, any_in, in_any, none_any, any_none, or_none, none-append, append-none}
-use Rattle.selector_match.proofs.BeforeLemmas.{in_middle, last_split, same_parent, same_ancestors, before-split, none_before, under-parent, each_under}
+use Rattle.selector_match.proofs.BeforeLemmas.{in_middle, last_split, same_parent, same_ancestors, before-split, none_before, each_under}
 use Rattle.selector_match.proofs.SiblingLemmas.{each_sibling, each-left}
 
 -- whether the outcome is that it holds
@@ -181,13 +180,6 @@ module _ (doc : List Element) (v : IsValid doc) (test : ℕ → Bool) where
           let front = sym (ap (list_any test) (before-split doc v x w farther rest whole)) ∙ parts.1 in
           before_none x (sym same ∙ (ap (list_any test) f ∙ append-none test farther (w ∷ []) front (no_or (test w) parts.0)))
       told FailsAbove n h = λ y u. under_for later_sibling x w y asks_later here h u
-
-  pub before_passed : (x w : ℕ) (left farther : List ℕ) → left ≡ farther ++ w ∷ [] → list_any test left ≡ list_any test (before doc x) → test w ≡ false → list_any test farther ≡ list_any test (before doc x)
-  before_passed x w left farther f same h = sym (ap (list_any test) f ∙ (list_any-append test farther (w ∷ []) ∙ last (list_any test farther))) ∙ same
-    where
-      last : (b : Bool) → (b || (test w || false)) ≡ b
-      last true = refl
-      last false = no_or (test w) h
 
 -- a selector with another to the left of it
 

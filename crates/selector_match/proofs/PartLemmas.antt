@@ -1,11 +1,10 @@
 -- Fronts, ends and parts of a text, as tests and as facts.
-use Rattle.std.proofs.Common.{◌≡◌, ◌≢◌, ℕ, zero, suc, ◌+◌, ◌-◌, ◌<◌, ◌≤◌, ◌==◌, nat_eq, nat_le, Bool, true, false, not, ◌&&◌, ◌||◌, List, [], ◌∷◌, ◌++◌, length, take, drop, get_or, refl, sym, ap, ◌∙◌, subst, arith, le-leb, leb-true, eq-eqb, append_assoc, append-nil, length-append, length-take}
+use Rattle.std.proofs.Common.{◌≡◌, ◌≢◌, ℕ, ◌-◌, ◌<◌, ◌≤◌, ◌==◌, nat_le, Bool, true, false, ◌&&◌, ◌||◌, List, [], ◌∷◌, ◌++◌, length, take, drop, get_or, refl, sym, ap, ◌∙◌, subst, arith, le-leb, eq-eqb, append_assoc, append-nil, length-append}
 use Rattle.std.specs.Bool.{Decides}
 use Rattle.std.proofs.lemmas.Bool.{and_from, and_parts, false_from_ne_true, false≢true}
-use Rattle.std.proofs.lemmas.Bool.Decides.{nat_tests}
 use Rattle.std.proofs.lemmas.List.{take-append-drop, take_at, drop_at}
 use Rattle.std.proofs.lemmas.Slice.Eq.{bytes_eq-Decides}
-use Rattle.scene_model.specs.Words.{same_text, is_empty_text}
+use Rattle.scene_model.specs.Words.{same_text}
 use Rattle.selector_model.specs.Comparisons.{begins_with, ends_with, has_part}
 
 pub same_itself : (xs : List ℕ) → same_text xs xs ≡ true
@@ -57,10 +56,6 @@ pub has_part-begins : (text part : List ℕ) → begins_with text part ≡ true 
 has_part-begins [] [] e = refl
 has_part-begins [] (p ∷ part) e = cc
 has_part-begins (c ∷ text) part e = ap (λ b. b || has_part text part) e
-
-pub has_part-none : (part : List ℕ) → begins_with [] part ≡ false → has_part [] part ≡ false
-has_part-none [] e = e
-has_part-none (p ∷ part) e = refl
 
 found_part : (c : ℕ) (text part : List ℕ) (b : Bool) → begins_with (c ∷ text) part ≡ b → (has_part text part ≡ true → HasPart text part) → (b || has_part text part) ≡ true → HasPart (c ∷ text) part
 found_part c text part true e h k = let (rest, f) = (begins_with-Decides (c ∷ text) part).0 e in ([], (rest, f))

@@ -1,11 +1,10 @@
 -- Texts are compared alike by bytes and by characters.
-use Rattle.std.proofs.Common.{◌≡◌, ℕ, zero, suc, ◌+◌, ◌<◌, ◌≤◌, ◌==◌, ◌⊎◌, ◌↔◌, inl, inr, IsTrue, Option, codes, Bool, true, false, not, ◌&&◌, ◌||◌, List, [], ◌∷◌, ◌++◌, length, take, drop, get_or, encode_utf8_all, refl, sym, ap, ◌∙◌, subst, arith, append-nil, length-append}
-use Rattle.std.specs.Bool.{Decides}
+use Rattle.std.proofs.Common.{◌≡◌, ℕ, ◌<◌, ◌≤◌, ◌==◌, ◌⊎◌, ◌↔◌, inl, inr, IsTrue, Option, codes, Bool, true, false, not, ◌&&◌, ◌||◌, List, [], ◌∷◌, ◌++◌, length, take, get_or, encode_utf8_all, refl, sym, ap, ◌∙◌, subst, arith, append-nil, length-append}
 use Rattle.std.specs.Str.{chars, IsAscii, IsUtf8, IsCharBoundary}
 use Rattle.std.proofs.lemmas.Bool.Decides.{same_from_decides, nat_tests}
-use Rattle.std.proofs.lemmas.List.{take_at, drop_at, get_or_at, nil_from_length}
+use Rattle.std.proofs.lemmas.List.{take_at, get_or_at, nil_from_length}
 use Rattle.std.proofs.lemmas.Slice.Eq.{bytes_eq-Decides}
-use Rattle.std.proofs.lemmas.Str.{chars-nil, chars-append, chars-IsAscii, encodes-chars, encodes-append, IsUtf8-take, IsUtf8-drop, IsCharBoundary-start, IsCharBoundary-at_seam, IsUtf8-from_ascii, IsUtf8-nil, IsUtf8-append}
+use Rattle.std.proofs.lemmas.Str.{chars-nil, chars-append, chars-IsAscii, encodes-chars, encodes-append, IsUtf8-take, IsCharBoundary-start, IsCharBoundary-at_seam, IsUtf8-from_ascii, IsUtf8-nil, IsUtf8-append}
 use Rattle.std.proofs.lemmas.Str.Ascii.{IsAscii-nil, IsAscii-cons}
 use Rattle.std.specs.Option.{option_map_or}
 use Rattle.stylo_base.proofs.TextLemmas.{chars_same, chars-ascii}
@@ -16,7 +15,7 @@ use Rattle.selector_model.specs.Selector.{Comparison, equals, includes, dash_mat
 use Rattle.selector_model.specs.Comparisons.{begins_with, ends_with, has_part, compared, folded}
 use Rattle.selector_model.specs.Holds.{is_id}
 use Rattle.selector_match.proofs.LowerLemmas.{IsUtf8-folded, chars-folded}
-use Rattle.selector_match.proofs.PartLemmas.{BeginsWith, EndsWith, HasPart, begins_with-Decides, ends_with-Decides, has_part-Decides}
+use Rattle.selector_match.proofs.PartLemmas.{HasPart, begins_with-Decides, ends_with-Decides, has_part-Decides}
 
 zero_or_more : (n : ℕ) → (n ≡ 0) ⊎ (0 < n)
 zero_or_more n = grind arith

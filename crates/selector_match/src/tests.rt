@@ -61,13 +61,23 @@ fn held(rt: &impl Abort, alloc: Global, doc: &Doc, selector: &Complex) -> Result
     Ok(text)
 }
 
+/// A test by a sign and a name: `.` a class, `#` an id, `[` an attribute, else a type.
+fn simple(alloc: Global, sign: char, name: &str) -> Result<Test, NoMemory> {
+    let name = Text::of_str(alloc, name)?;
+    Ok(Test::Simple(match sign {
+        '.' => Simple::OfClass(name),
+        '#' => Simple::HasId(name),
+        '[' => Simple::HasAttribute(name),
+        _ => Simple::OfType(name),
+    }))
+}
+
 /// The test of a type, or of a class where the name begins with a dot.
 fn named(alloc: Global, name: &str) -> Result<Test, NoMemory> {
-    let test = match name.strip_prefix('.') {
-        Some(class) => Simple::OfClass(Text::of_str(alloc, class)?),
-        None => Simple::OfType(Text::of_str(alloc, name)?),
-    };
-    Ok(Test::Simple(test))
+    match name.strip_prefix('.') {
+        Some(class) => simple(alloc, '.', class),
+        None => simple(alloc, ' ', name),
+    }
 }
 
 /// A compound of one test, with another selector to the left of it or not.
@@ -83,155 +93,248 @@ fn compound(
     }
 }
 
+fn combinator(sign: &str) -> Option<Combinator> {
+    match sign {
+        ">" => Some(Combinator::Child),
+        "+" => Some(Combinator::NextSibling),
+        "~" => Some(Combinator::LaterSibling),
+        "_" => Some(Combinator::Descendant),
+        _ => None,
+    }
+}
+
 /// A selector of types and classes, each behind the combinator by its sign.
 fn row(alloc: Global, words: &[&str]) -> Result<Complex, NoMemory> {
     let mut left = None;
     let mut last = Complex::alone(Vec::new(alloc));
     for word in words {
-        let sign = match *word {
-            ">" => Some(Combinator::Child),
-            "+" => Some(Combinator::NextSibling),
-            "~" => Some(Combinator::LaterSibling),
-            "_" => Some(Combinator::Descendant),
-            _ => None,
-        };
-        match sign {
-            Some(combinator) => {
-                left = Some((combinator, last));
-                last = Complex::alone(Vec::new(alloc));
-            }
-            None => {
-                last = compound(alloc, named(alloc, word)?, left)?;
-                left = None;
-            }
+        if let Some(combinator) = combinator(word) {
+            left = Some((combinator, last));
+            last = Complex::alone(Vec::new(alloc));
+        } else {
+            last = compound(alloc, named(alloc, word)?, left)?;
+            left = None;
         }
     }
     Ok(last)
 }
 
-#[test]
-fn combinators(rt: HostRuntime) -> Result<(), Fail> {
-    let alloc = rt.alloc();
-    let doc = family(&rt, alloc)?;
-    let cases: [(&[&str], &str); 22] = [
-        (&["div", "_", "p"], "3 5 7 "),
-        (&["html", "_", "i"], "4 "),
-        (&["i", "_", "i"], ""),
-        (&["html", ">", "i"], ""),
-        (&["div", ">", "p"], "3 5 7 "),
-        (&["p", "+", "q"], "6 "),
-        (&["p", "+", "p"], "5 "),
-        (&["p", "~", "p"], "5 7 "),
-        (&["q", "~", "p"], "7 "),
-        (&["p", "~", "i"], ""),
-        (&["div", "+", "div"], "8 "),
-        (&["html", "+", "html"], ""),
-        (&["html", "~", "html"], ""),
-        (&[".a", ">", ".b", "_", ".c"], "4 "),
-        (&["html", ">", "p", "_", "i"], ""),
-        (&["html", ">", "div", "_", ".c"], "4 5 7 "),
-        (&["p", "~", "q", "+", "p"], "7 "),
-        (&["p", "+", "q", "~", "p"], "7 "),
-        (&["i", "~", "p", "~", "p"], ""),
-        (&["html", "_", "div", "_", "p", "_", "i"], "4 "),
-        (&["i", "_", "div", "_", "p", "_", "i"], ""),
-        (&[".a", "~", "div"], "8 "),
-    ];
+/// Each selector, and the elements at which it holds.
+fn expect(
+    rt: &impl Abort,
+    alloc: Global,
+    doc: &Doc,
+    cases: &[(&[&str], &str)],
+) -> Result<(), Fail> {
     for (words, wanted) in cases {
         let selector = row(alloc, words)?;
         assert_eq!(rt;
-            held(&rt, alloc, &doc, &selector)?.as_str(),
-            wanted,
+            held(rt, alloc, doc, &selector)?.as_str(),
+            *wanted,
             "{words:?}"
         );
     }
     Ok(())
 }
 
-/// The nearest that passes the next compound is not the one behind which the rest holds.
 #[test]
-fn farther(rt: HostRuntime) -> Result<(), Fail> {
+fn parents(rt: HostRuntime) -> Result<(), Fail> {
     let alloc = rt.alloc();
-    let chain = grown(
+    let doc = family(&rt, alloc)?;
+    expect(
+        &rt,
+        alloc,
+        &doc,
+        &[
+            (&["div", "_", "p"], "3 5 7 "),
+            (&["html", "_", "i"], "4 "),
+            (&["i", "_", "i"], ""),
+            (&["html", ">", "i"], ""),
+            (&["div", ">", "p"], "3 5 7 "),
+            (&["html", ">", "html"], ""),
+            (&[".a", ">", ".b", "_", ".c"], "4 "),
+            (&["html", ">", "p", "_", "i"], ""),
+            (&["html", ">", "div", "_", ".c"], "4 5 7 "),
+            (&["html", "_", "div", "_", "p", "_", "i"], "4 "),
+            (&["i", "_", "div", "_", "p", "_", "i"], ""),
+        ],
+    )
+}
+
+#[test]
+fn siblings(rt: HostRuntime) -> Result<(), Fail> {
+    let alloc = rt.alloc();
+    let doc = family(&rt, alloc)?;
+    expect(
+        &rt,
+        alloc,
+        &doc,
+        &[
+            (&["p", "+", "q"], "6 "),
+            (&["p", "+", "p"], "5 "),
+            (&["p", "~", "p"], "5 7 "),
+            (&["q", "~", "p"], "7 "),
+            (&["p", "~", "i"], ""),
+            (&["div", "+", "div"], "8 "),
+            (&["html", "+", "html"], ""),
+            (&["html", "~", "html"], ""),
+            (&["p", "~", "q", "+", "p"], "7 "),
+            (&["p", "+", "q", "~", "p"], "7 "),
+            (&["i", "~", "p", "~", "p"], ""),
+            (&[".a", "~", "div"], "8 "),
+        ],
+    )
+}
+
+/// The nearest ancestor that passes a compound is not the one behind which the rest holds.
+#[test]
+fn farther_ancestor(rt: HostRuntime) -> Result<(), Fail> {
+    let alloc = rt.alloc();
+    let doc = grown(
         &rt,
         alloc,
         &[(1, "p", ""), (2, "div", ""), (3, "p", ""), (4, "i", "")],
     )?;
-    let selector = row(alloc, &["html", ">", "p", "_", "i"])?;
-    assert_eq!(rt; held(&rt, alloc, &chain, &selector)?.as_str(), "5 ");
-    let fan = grown(
-        &rt,
-        alloc,
-        &[(1, "q", ""), (1, "p", ""), (1, "p", ""), (1, "i", "")],
-    )?;
-    let selector = row(alloc, &["q", "+", "p", "~", "i"])?;
-    assert_eq!(rt; held(&rt, alloc, &fan, &selector)?.as_str(), "5 ");
-    let nested = grown(
+    expect(&rt, alloc, &doc, &[(&["html", ">", "p", "_", "i"], "5 ")])
+}
+
+/// Nor is the nearest sibling.
+#[test]
+fn farther_sibling(rt: HostRuntime) -> Result<(), Fail> {
+    let alloc = rt.alloc();
+    let doc = grown(
         &rt,
         alloc,
         &[
             (1, "q", ""),
             (1, "p", ""),
+            (1, "p", ""),
             (3, "b", ""),
             (3, "b", ""),
-            (5, "i", ""),
+            (6, "i", ""),
+            (1, "u", ""),
         ],
     )?;
-    for words in [
-        ["q", "~", "p", "_", "i"],
-        ["q", "+", "p", "_", "i"],
-        ["b", "~", "b", ">", "i"],
-        ["html", "_", "b", "_", "i"],
-    ] {
-        let selector = row(alloc, &words)?;
-        assert_eq!(rt;
-            held(&rt, alloc, &nested, &selector)?.as_str(),
-            "6 ",
-            "{words:?}"
-        );
+    expect(
+        &rt,
+        alloc,
+        &doc,
+        &[
+            (&["q", "+", "p", "~", "u"], "8 "),
+            (&["q", "~", "p", "_", "i"], "7 "),
+            (&["q", "+", "p", "_", "i"], "7 "),
+            (&["b", "~", "b", ">", "i"], "7 "),
+            (&["html", "_", "b", "_", "i"], "7 "),
+        ],
+    )
+}
+
+/// Sixty elements `p`, each in the one before or all in the root.
+fn sixty(rt: &impl Abort, alloc: Global, deep: bool) -> Result<Doc, Fail> {
+    let mut rows = Vec::new(alloc);
+    for parent in 1..61 {
+        rows.push((if deep { parent } else { 1 }, "p", ""))?;
+    }
+    grown(rt, alloc, rows.as_slice())
+}
+
+/// `.none` and forty-one times `p`, with these combinators by turns.
+fn long(alloc: Global, signs: [&str; 2]) -> Result<Complex, NoMemory> {
+    let mut words = vec![in alloc; ".none", signs[1]]?;
+    for _ in 0..20 {
+        words.extend_from_slice(&["p", signs[0], "p", signs[1]])?;
+    }
+    words.push("p")?;
+    row(alloc, words.as_slice())
+}
+
+/// A selector that fails in the end is not tried in every way: there are more of these than could
+/// be counted.
+#[test]
+fn many_ways(rt: HostRuntime) -> Result<(), Fail> {
+    let alloc = rt.alloc();
+    for deep in [true, false] {
+        let doc = sixty(&rt, alloc, deep)?;
+        for signs in [["_", "_"], [">", "_"], ["~", "~"], ["+", "~"]] {
+            let selector = long(alloc, signs)?;
+            assert_eq!(rt; held(&rt, alloc, &doc, &selector)?.as_str(), "");
+        }
     }
     Ok(())
 }
 
-/// `p, .a`
-fn either(alloc: Global) -> Result<Vec<Complex>, NoMemory> {
-    Ok(vec![in alloc; row(alloc, &["p"])?, row(alloc, &[".a"])?]?)
+/// A list pseudo-class by the first letter of its name.
+fn listed(alloc: Global, kind: char, members: Vec<Complex>) -> Result<Complex, NoMemory> {
+    let test = match kind {
+        'i' => Test::MatchesAny(members),
+        'w' => Test::MatchesWhere(members),
+        _ => Test::MatchesNone(members),
+    };
+    compound(alloc, test, None)
 }
 
+/// The same of types and classes.
+fn named_list(alloc: Global, kind: char, names: &[&str]) -> Result<Complex, NoMemory> {
+    let mut members = Vec::new(alloc);
+    for name in names {
+        members.push(compound(alloc, named(alloc, name)?, None)?)?;
+    }
+    listed(alloc, kind, members)
+}
+
+#[test]
+fn lists(rt: HostRuntime) -> Result<(), Fail> {
+    let alloc = rt.alloc();
+    let doc = family(&rt, alloc)?;
+    let cases: [(char, &[&str], &str); 6] = [
+        ('i', &["p", ".a"], "2 3 5 7 "),
+        ('w', &["p", ".a"], "2 3 5 7 "),
+        ('n', &["p", ".a"], "1 4 6 8 "),
+        ('i', &[], ""),
+        ('w', &[], ""),
+        ('n', &[], "1 2 3 4 5 6 7 8 "),
+    ];
+    for (kind, names, wanted) in cases {
+        let selector = named_list(alloc, kind, names)?;
+        assert_eq!(rt; held(&rt, alloc, &doc, &selector)?.as_str(), wanted);
+    }
+    Ok(())
+}
+
+/// `:where(:not(:not(.b)), div > p)`
+fn nested_left(alloc: Global) -> Result<Complex, NoMemory> {
+    let not = named_list(alloc, 'n', &[".b"])?;
+    let twice = listed(alloc, 'n', vec![in alloc; not]?)?;
+    let child = row(alloc, &["div", ">", "p"])?;
+    listed(alloc, 'w', vec![in alloc; twice, child]?)
+}
+
+/// It with `+ p` behind it.
 #[test]
 fn nested(rt: HostRuntime) -> Result<(), Fail> {
     let alloc = rt.alloc();
     let doc = family(&rt, alloc)?;
-    let any = compound(alloc, Test::MatchesAny(either(alloc)?), None)?;
-    assert_eq!(rt; held(&rt, alloc, &doc, &any)?.as_str(), "2 3 5 7 ");
-    let none = compound(alloc, Test::MatchesNone(either(alloc)?), None)?;
-    assert_eq!(rt; held(&rt, alloc, &doc, &none)?.as_str(), "1 4 6 8 ");
-    let twice = compound(alloc, Test::MatchesNone(vec![in alloc; none]?), None)?;
-    assert_eq!(rt; held(&rt, alloc, &doc, &twice)?.as_str(), "2 3 5 7 ");
-    let within = compound(
-        alloc,
-        Test::MatchesWhere(vec![in alloc; row(alloc, &["div", ">", "p"])?, twice]?),
-        None,
-    )?;
-    let next = compound(
+    let left = nested_left(alloc)?;
+    let selector = compound(
         alloc,
         named(alloc, "p")?,
-        Some((Combinator::NextSibling, within)),
+        Some((Combinator::NextSibling, left)),
     )?;
-    assert_eq!(rt; held(&rt, alloc, &doc, &next)?.as_str(), "5 ");
-    let empty = compound(alloc, Test::MatchesAny(Vec::new(alloc)), None)?;
-    assert_eq!(rt; held(&rt, alloc, &doc, &empty)?.as_str(), "");
-    let all = compound(alloc, Test::MatchesNone(Vec::new(alloc)), None)?;
-    assert_eq!(rt; held(&rt, alloc, &doc, &all)?.as_str(), "1 2 3 4 5 6 7 8 ");
-    let tests = vec![in alloc;
-        named(alloc, "p")?,
-        named(alloc, ".c")?,
-        Test::MatchesNone(vec![in alloc; row(alloc, &[".b"])?]?),
-    ]?;
-    assert_eq!(rt;
-        held(&rt, alloc, &doc, &Complex::alone(tests))?.as_str(),
-        "5 "
-    );
+    assert_eq!(rt; held(&rt, alloc, &doc, &selector)?.as_str(), "5 ");
+    Ok(())
+}
+
+/// `p.b:not(.c)`
+#[test]
+fn several_tests(rt: HostRuntime) -> Result<(), Fail> {
+    let alloc = rt.alloc();
+    let doc = family(&rt, alloc)?;
+    let Complex { subject, left: _ } = named_list(alloc, 'n', &[".c"])?;
+    let mut tests = subject.tests;
+    tests.push(named(alloc, "p")?)?;
+    tests.push(named(alloc, ".b")?)?;
+    let selector = Complex::alone(tests);
+    assert_eq!(rt; held(&rt, alloc, &doc, &selector)?.as_str(), "3 ");
     Ok(())
 }
 
@@ -240,9 +343,8 @@ fn nested(rt: HostRuntime) -> Result<(), Fail> {
 fn selectors(rt: HostRuntime) -> Result<(), Fail> {
     let alloc = rt.alloc();
     let doc = family(&rt, alloc)?;
-    let left = Complex::alone(vec![in alloc;
-        Test::Simple(Simple::OfClass(Text::of_str(alloc, "a")?)),
-    ]?);
+    let class = Text::of_str(alloc, "a")?;
+    let left = Complex::alone(vec![in alloc; Test::Simple(Simple::OfClass(class))]?);
     let tests = vec![in alloc; Test::Simple(Simple::IsEmpty)]?;
     let complex = Complex::behind(alloc, tests, Combinator::Descendant, left)?;
     let selector = Selector::new(alloc, complex)?;
@@ -257,47 +359,61 @@ fn selectors(rt: HostRuntime) -> Result<(), Fail> {
     Ok(())
 }
 
-#[test]
-fn simple_tests(rt: HostRuntime) -> Result<(), Fail> {
-    let alloc = rt.alloc();
+/// A root with each kind of white space in its class, a node with an id, and one with an empty id.
+fn marked(rt: &impl Abort, alloc: Global) -> Result<Doc, Fail> {
     let mut root = node(alloc, "html", "class", "\ta b\nc\u{c}d\re")?;
     root.states.active = true;
     let mut list = NodeList::of_root(alloc, root)?;
     list.push(0, node(alloc, "p", "id", "top")?)?;
     list.push(0, node(alloc, "HTML", "id", "")?)?;
     assert!(rt; list.len() <= 65536);
-    let doc = Doc::start(alloc, &list)?;
-    let text = |word: &str| Text::of_str(alloc, word);
-    let cases = vec![in alloc;
-        (Simple::OfType(text("html")?), "1 "),
-        (Simple::OfType(text("ht")?), ""),
-        (Simple::HasId(text("top")?), "2 "),
-        (Simple::HasId(text("Top")?), ""),
-        (Simple::HasId(text("")?), ""),
-        (Simple::OfClass(text("a")?), "1 "),
-        (Simple::OfClass(text("b")?), "1 "),
-        (Simple::OfClass(text("c")?), "1 "),
-        (Simple::OfClass(text("d")?), "1 "),
-        (Simple::OfClass(text("e")?), "1 "),
-        (Simple::OfClass(text("A")?), ""),
-        (Simple::OfClass(text("a b")?), ""),
-        (Simple::OfClass(text("")?), ""),
-        (Simple::HasAttribute(text("id")?), "2 3 "),
-        (Simple::HasAttribute(text("none")?), ""),
+    Ok(Doc::start(alloc, &list)?)
+}
+
+#[test]
+fn names(rt: HostRuntime) -> Result<(), Fail> {
+    let alloc = rt.alloc();
+    let doc = marked(&rt, alloc)?;
+    for (sign, name, wanted) in [
+        (' ', "html", "1 "),
+        (' ', "ht", ""),
+        ('#', "top", "2 "),
+        ('#', "Top", ""),
+        ('#', "", ""),
+        ('.', "a", "1 "),
+        ('.', "b", "1 "),
+        ('.', "c", "1 "),
+        ('.', "d", "1 "),
+        ('.', "e", "1 "),
+        ('.', "A", ""),
+        ('.', "a b", ""),
+        ('.', "", ""),
+        ('[', "id", "2 3 "),
+        ('[', "none", ""),
+    ] {
+        let selector = compound(alloc, simple(alloc, sign, name)?, None)?;
+        assert_eq!(rt;
+            held(&rt, alloc, &doc, &selector)?.as_str(),
+            wanted,
+            "{sign}{name}"
+        );
+    }
+    Ok(())
+}
+
+#[test]
+fn positions_and_states(rt: HostRuntime) -> Result<(), Fail> {
+    let alloc = rt.alloc();
+    let doc = marked(&rt, alloc)?;
+    for (test, wanted) in [
         (Simple::IsRoot, "1 "),
         (Simple::IsEmpty, "2 3 "),
         (Simple::InState(State::Active), "1 "),
         (Simple::InState(State::Hover), ""),
         (Simple::InState(State::Focus), ""),
-    ]?;
-    for (test, wanted) in cases {
-        let label = format!(in alloc; "{test:?}")?;
+    ] {
         let selector = compound(alloc, Test::Simple(test), None)?;
-        assert_eq!(rt;
-            held(&rt, alloc, &doc, &selector)?.as_str(),
-            wanted,
-            "{label}"
-        );
+        assert_eq!(rt; held(&rt, alloc, &doc, &selector)?.as_str(), wanted);
     }
     Ok(())
 }

@@ -1,4 +1,4 @@
-use Rattle.std.proofs.Common.{rules, ◌≡◌, ◌++◌, ◌∷◌, [], false, ap, sym, ◌∙◌, ⊎_elim, Some, None}
+use Rattle.std.proofs.Common.{rules, ap, sym, ◌∙◌, ⊎_elim}
 use Rattle.std.specs.List.{list_any}
 use Rattle.std.proofs.lemmas.List.{nil_from_length}
 use Rattle.scene_model.proofs.Climbing.{ancestors-root}

@@ -1,4 +1,4 @@
-use Rattle.std.proofs.Common.{◌≡◌, ℕ, List, ◌++◌, length, map, drop, suc}
+use Rattle.std.proofs.Common.{◌≡◌, ℕ, List, ◌++◌, length, map, drop}
 use Rattle.std.specs.List.{list_any}
 use Rattle.scene_model.specs.Lookups.{IsElement}
 use Rattle.scene_model.specs.Ancestors.{ancestors, position_of}

@@ -1,5 +1,5 @@
-use Rattle.std.proofs.Common.{rules, ◌≡◌, ℤ, pos, ◌-ℤ◌, sym, ap, ◌∙◌, FitsSigned, to_z, of_z, w32, w64, arith}
-use Rattle.std.proofs.lemmas.Int.{ints, to_z-of_z}
+use Rattle.std.proofs.Common.{rules, ◌≡◌, pos, ◌-ℤ◌, FitsSigned, to_z, of_z, w32, w64, arith}
+use Rattle.std.proofs.lemmas.Int.{ints}
 use Rattle.selector_types.specs.Simples.{anb_of}
 use Rattle.selector_match.proofs.PlaceLemmas.{is_nth-test}
 use Rattle.selector_match.proofs.place.is_nth.Goals as goal

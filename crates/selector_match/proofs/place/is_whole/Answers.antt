@@ -1,4 +1,4 @@
-use Rattle.std.proofs.Common.{pos, int_le, int_lt, inl, inr, sym, ◌∙◌, to_z, of_z, w64}
+use Rattle.std.proofs.Common.{inl, inr, sym, ◌∙◌, to_z, of_z, w64}
 use Rattle.std.proofs.lemmas.Int.{to_z-of_z}
 use Rattle.selector_match.proofs.PlaceLemmas.{IsAhead, whole_test}
 use Rattle.selector_match.proofs.place.is_whole.Goals as goal

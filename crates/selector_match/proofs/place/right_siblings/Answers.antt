@@ -1,5 +1,5 @@
 use Rattle.std.proofs.Common.{drop, ap, sym, ◌∙◌, ◌+◌, length, arith}
-use Rattle.scene_model.specs.Lookups.{place_of, children}
+use Rattle.scene_model.specs.Lookups.{place_of}
 use Rattle.selector_match.proofs.SiblingLemmas.{place_of-inside, right_of-siblings}
 use Rattle.selector_match.proofs.place.right_siblings.Goals as goal
 

@@ -1,5 +1,4 @@
 use Rattle.std.proofs.Common.{true, false, sym, ◌∙◌, arith}
-use Rattle.std.specs.Str.{chars}
 use Rattle.selector_match.proofs.SiblingLemmas.{same_type-drop}
 use Rattle.selector_match.proofs.place.same_type.Goals as goal
 use Rattle.selector_match.proofs.place.same_type.Goals.{then-has_tag, else-has_tag}
