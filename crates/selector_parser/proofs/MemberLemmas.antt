@@ -1,10 +1,9 @@
 -- A member is read exactly where the grammar has one.
-use Rattle.std.proofs.Common.{◌≡◌, ◌≢◌, ℕ, ◌==◌, ◌<◌, ◌≤◌, Bool, true, false, cond, ◌&&◌, List, [], ◌∷◌, ◌++◌, length, Some, None, refl, sym, ap, ◌∙◌, subst, arith, length-append}
+use Rattle.std.proofs.Common.{◌≡◌, ◌≢◌, ◌==◌, ◌<◌, Bool, true, false, cond, ◌&&◌, List, [], ◌∷◌, ◌++◌, length, Some, None, refl, sym, ap, ◌∙◌, subst, arith, length-append}
 use Rattle.std.proofs.lemmas.Bool.{cond-false, false≢true}
 use Rattle.std.proofs.lemmas.Bool.Decides.{nat_tests}
-use Rattle.selector_model.specs.Selector.{of_type, of_class, Selector, subject, Compound, with_test, Test, simple}
+use Rattle.selector_model.specs.Selector.{of_type, of_class, Selector, subject, Compound, with_test, simple}
 use Rattle.syntax_model.specs.Token.{Token, ident}
-use Rattle.selector_types.specs.Counts.{tests_in}
 use Rattle.selector_types.specs.Selectors.{tested}
 use Rattle.selector_parser.specs.SelectorList as grammar
 use Rattle.selector_parser.specs.SelectorList.{Tests, no_test, class, CompoundOf, typed, universal, SelectorOf, alone, AreWhite, no_white, one_more, MemberOf, member}
@@ -213,21 +212,3 @@ pub member_sound : (tokens : List Token) (selector : Selector) → member_read t
 member_sound tokens selector h =
     let start = past_white tokens in
     member_case tokens start (compound_at start) selector _ _ refl refl (white_passed tokens) (compound_read start) h
-
--- a compound has no more tests than tokens
-
-tests_fit : (own : List Token) (compound : Compound) → Tests own compound → tests_in compound ≤ length own
-tests_fit own compound no_test = omega arith
-tests_fit own compound (class mark name tokens tests e f t) = omega (arith, tests_fit tokens tests t)
-
-own_fits : (own : List Token) (compound : Compound) → CompoundOf own compound → tests_in compound ≤ length own
-own_fits own compound (typed name tokens tests e t) = omega (arith, tests_fit tokens tests t)
-own_fits own compound (universal mark tokens tests e t) = omega (arith, tests_fit tokens tests t)
-own_fits own compound (grammar.tested tokens tests ne t) = tests_fit tokens tests t
-
-pub compound_fits : (tokens : List Token) (tests : List Test) (rest : List Token) (m : ℕ) → compound_at tokens ≡ record { tests = tests; rest = rest } → length rest ≢ length tokens → length tokens < m → tests_in (tested tests) < m
-compound_fits tokens tests rest m e ne l =
-    let rest_is : (compound_at tokens).rest ≡ rest = ap (λ (f : Front). f.rest) e in
-    let tests_are : tested (compound_at tokens).tests ≡ tested tests = ap (λ (f : Front). tested f.tests) e in
-    let read : IsRead CompoundOf tokens (compound_at tokens) = compound_read tokens (λ same. ne (ap (length {A = Token}) (sym rest_is) ∙ same)) in
-    omega (arith, own_fits read.used (tested (compound_at tokens).tests) read.is_one, ap (length {A = Token}) read.whole, length-append read.used (compound_at tokens).rest, ap tests_in tests_are)

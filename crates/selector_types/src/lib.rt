@@ -2,6 +2,7 @@
 #![tactic(auto)]
 
 mod complex;
+mod count;
 mod keys;
 mod selector;
 mod simple;

@@ -5,7 +5,7 @@ ghost use Rattle.selector_model.specs.Specificity.{key_of, specificity_of};
 ghost use Rattle.selector_types.specs.Keys.{key_seen};
 ghost use Rattle.selector_types.specs.Selectors.{complex_of};
 
-use crate::{Complex, Key, Specificity, weight};
+use crate::{Complex, Key, Specificity, count, weight};
 use std::alloc::Global;
 use stylo_base::NoMemory;
 
@@ -20,15 +20,16 @@ pub struct Selector {
 }
 
 impl Selector {
-    ghost use Rattle.std.specs.Prelude.{◌<◌, ◌^◌, IfOk};
-    ghost use Rattle.selector_types.specs.Counts.{test_count};
+    ghost use Rattle.std.specs.Prelude.{IfOk};
     ghost use Rattle.selector_types.specs.Outer.{selector_of};
 
-    /// The selector of these compounds. There are fewer than 2^64 tests in it.
+    /// The selector of these compounds. One of 2^64 tests or more is refused: no memory holds it.
     pub fn new(alloc: Global, complex: Complex) -> Result<Selector, NoMemory>
-        requires { test_count (complex_of complex) < 2 ^ 64 }
         ensures { IfOk result (λ selector. selector_of selector ≡ complex_of complex) }
     {
+        if count::of_complex(&complex).is_none() {
+            return Err(NoMemory);
+        }
         let key = Key::of_compound(alloc, &complex.subject)?;
         let specificity = weight::of_complex(&complex);
         Ok(Selector {

@@ -1,37 +1,23 @@
-ghost use Rattle.std.specs.Prelude.{◌≡◌, IfOk};
-ghost use Rattle.selector_types.specs.Counts.{tests_among, tests_of};
-ghost use Rattle.selector_types.specs.Selectors.{complexes_of, test_of};
-
 use crate::weight::specificity;
-use crate::{
-    Combinator, Complex, Compound, Key, Left, Selector, Simple, Specificity, Test, key_of,
-};
+use crate::{Combinator, Complex, Key, Selector, Simple, Specificity, Test, key_of};
 use std::alloc::Global;
 use std::test::Fail;
 use stylo_base::{NoMemory, Text};
 
-fn of_type(alloc: Global, name: &str) -> Result<Test, NoMemory>
-    ensures { IfOk result (λ test. tests_of (test_of test) ≡ 1) }
-{
+fn of_type(alloc: Global, name: &str) -> Result<Test, NoMemory> {
     Ok(Test::Simple(Simple::OfType(Text::of_str(alloc, name)?)))
 }
 
-fn of_class(alloc: Global, name: &str) -> Result<Test, NoMemory>
-    ensures { IfOk result (λ test. tests_of (test_of test) ≡ 1) }
-{
+fn of_class(alloc: Global, name: &str) -> Result<Test, NoMemory> {
     Ok(Test::Simple(Simple::OfClass(Text::of_str(alloc, name)?)))
 }
 
-fn has_id(alloc: Global, name: &str) -> Result<Test, NoMemory>
-    ensures { IfOk result (λ test. tests_of (test_of test) ≡ 1) }
-{
+fn has_id(alloc: Global, name: &str) -> Result<Test, NoMemory> {
     Ok(Test::Simple(Simple::HasId(Text::of_str(alloc, name)?)))
 }
 
 // `p, #n, .a.b`
-fn members(alloc: Global) -> Result<Vec<Complex>, NoMemory>
-    ensures { IfOk result (λ list. tests_among (complexes_of list.items) ≡ 4) }
-{
+fn members(alloc: Global) -> Result<Vec<Complex>, NoMemory> {
     let last = vec![in alloc; of_class(alloc, "a")?, of_class(alloc, "b")?]?;
     Ok(vec![in alloc;
         Complex::alone(vec![in alloc; of_type(alloc, "p")?]?),
