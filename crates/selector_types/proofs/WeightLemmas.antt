@@ -2,8 +2,7 @@
 use Rattle.std.proofs.Common.{◌≡◌, ℕ, ◌+◌, ◌≤◌, ◌<◌, Bool, true, false, cond, sym, ap, ◌∙◌, arith}
 use Rattle.selector_model.specs.Selector.{Simple, of_type, has_id, of_class, has_attribute, compares, is_root, is_empty, at_places, is_only, in_state, Combinator, Selector, subject, behind, Compound, any, with_test, Test, simple, matches_any, matches_where, matches_none, Selectors, no_more, more}
 use Rattle.selector_model.specs.Specificity.{Specificity, nothing, plus, is_less, greater, specificity_of_simple, specificity_of, specificity_of_compound, specificity_of_test, greatest}
-use Rattle.stylo_base.specs.Total.{total}
-use Rattle.selector_types.specs.Counts.{test_count, tests_in, tests_of, tests_among}
+use Rattle.selector_types.specs.Counts.{total, test_count, tests_in, tests_of, tests_among}
 
 same_counts : (a b : Specificity) → a.ids ≡ b.ids → a.classes ≡ b.classes → a.types ≡ b.types → a ≡ b
 same_counts a b h k l = λ i. record { ids = h i; classes = k i; types = l i }

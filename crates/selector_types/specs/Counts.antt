@@ -1,6 +1,11 @@
 -- How many tests a selector has, which bounds how specific it is.
 use Rattle.std.specs.Prelude.{ℕ, ◌+◌}
 use Rattle.selector_model.specs.Selector.{Selector, subject, behind, Compound, any, with_test, Test, simple, matches_any, matches_where, matches_none, Selectors, no_more, more}
+use Rattle.selector_model.specs.Specificity.{Specificity}
+
+-- all counts together
+abbrev pub total : Specificity → ℕ
+total s = s.ids + s.classes + s.types
 
 -- the simple tests, those of nested lists among them
 abbrev mutual

@@ -1,8 +1,8 @@
 //! How specific a selector is, by its tests.
 
-ghost use Rattle.std.specs.Prelude.{◌≡◌, ◌<◌, ◌^◌};
-ghost use Rattle.selector_model.specs.Specificity.{greatest, nothing, specificity_of, specificity_of_compound, specificity_of_simple, specificity_of_test};
-ghost use Rattle.selector_types.specs.Counts.{test_count, tests_among, tests_in, tests_of};
+ghost use Rattle.std.specs.Prelude.{◌≡◌, ◌+◌, ◌<◌, ◌^◌};
+ghost use Rattle.selector_model.specs.Specificity.{greatest, nothing, plus, specificity_of, specificity_of_compound, specificity_of_simple, specificity_of_test};
+ghost use Rattle.selector_types.specs.Counts.{test_count, tests_among, tests_in, tests_of, total};
 ghost use Rattle.selector_types.specs.Outer.{selector_of};
 ghost use Rattle.selector_types.specs.Selectors.{complex_of, complexes_of, compound_of, test_of};
 ghost use Rattle.selector_types.specs.Simples.{simple_of};
@@ -14,6 +14,18 @@ pub fn specificity(selector: &Selector) -> Specificity
     ensures { result ≡ specificity_of (selector_of selector.now) }
 {
     selector.specificity()
+}
+
+/// The sum of two.
+fn plus(a: Specificity, b: Specificity) -> Specificity
+    requires { total a + total b < 2 ^ 64 }
+    ensures { result ≡ plus a b }
+{
+    Specificity::new(
+        a.ids() + b.ids(),
+        a.classes() + b.classes(),
+        a.types() + b.types(),
+    )
 }
 
 fn of_simple(test: &Simple) -> Specificity
@@ -35,7 +47,7 @@ pub(crate) fn of_complex(complex: &Complex) -> Specificity
     let subject = of_compound(&complex.subject);
     match &complex.left {
         None => subject,
-        Some(left) => subject.plus(of_complex(&left.rest)),
+        Some(left) => plus(subject, of_complex(&left.rest)),
     }
 }
 
@@ -47,7 +59,7 @@ fn of_compound(compound: &Compound) -> Specificity
 {
     let mut sum = Specificity::new(0, 0, 0);
     for test in &compound.tests {
-        sum = sum.plus(of_test(test));
+        sum = plus(sum, of_test(test));
     }
     sum
 }

@@ -3,4 +3,3 @@ pub mod AsciiCase
 pub mod KindName
 pub mod NameList
 pub mod Thousandths
-pub mod Total

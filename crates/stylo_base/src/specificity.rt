@@ -1,8 +1,7 @@
 //! How specific a selector is.
 
-ghost use Rattle.std.specs.Prelude.{◌≡◌, ◌+◌, ◌<◌, ◌^◌};
-ghost use Rattle.selector_model.specs.Specificity.{greater, plus};
-ghost use Rattle.stylo_base.specs.Total.{total};
+ghost use Rattle.std.specs.Prelude.{◌≡◌};
+ghost use Rattle.selector_model.specs.Specificity.{greater};
 
 use std::marker::Model;
 
@@ -56,18 +55,6 @@ impl Specificity {
         ensures { result ≡ self.types }
     {
         self.types
-    }
-
-    /// The sum. There are fewer than 2^64 counted in both.
-    pub fn plus(self, other: Specificity) -> Specificity
-        requires { total self + total other < 2 ^ 64 }
-        ensures { result ≡ plus self other }
-    {
-        Specificity {
-            ids: self.ids + other.ids,
-            classes: self.classes + other.classes,
-            types: self.types + other.types,
-        }
     }
 
     /// The more specific one.
