@@ -6,8 +6,9 @@ use Rattle.std.specs.Cmp.{IsTotalOrder, bool_cmp_total}
 use Rattle.std.specs.declared.cmp.Ordering.{Ordering}
 use Rattle.std.specs.declared.cmp.Ordering.TheVariants.{Less, Equal, Greater}
 use Rattle.std.specs.Ordering.{ordering_then, ordering_reverse, nat_cmp, bool_cmp, on, then_cmp, flip_args}
-use Rattle.selector_model.specs.Specificity.{Specificity, specificity_cmp}
-use Rattle.cascade_model.specs.Key.{Origin, user_agent, user, author, Matched, band, layer_cmp, key_cmp}
+use Rattle.base_model.specs.Specificity.{Specificity, specificity_cmp}
+use Rattle.base_model.specs.Origin.{Origin, user_agent, user, author}
+use Rattle.cascade_model.specs.Key.{Matched, band, layer_cmp, key_cmp}
 
 -- a comparison that answers as a total order does is one
 same_total : {K : Type 0} (R S : K → K → Ordering) → ((x y : K) → R x y ≡ S x y) → IsTotalOrder S → IsTotalOrder R
@@ -58,7 +59,7 @@ same_layers a b h = layers_alike a.important b.important a.layer b.layer h
 -- the same comparison, of parts that each are a total order
 abbrev by_parts : Matched → Matched → Ordering
 by_parts =
-    then_cmp (on (λ (d : Matched). band d.origin d.important) nat_cmp) (then_cmp (on (λ (d : Matched). d.attached) bool_cmp) (then_cmp by_layers (then_cmp (on (λ (d : Matched). d.specificity) specificity_cmp) (then_cmp (on (λ (d : Matched). d.position) nat_cmp) (on (λ (d : Matched). d.place) nat_cmp)))))
+    then_cmp (on (λ (d : Matched). band d.origin d.important) nat_cmp) (then_cmp (on (λ (d : Matched). d.attached) bool_cmp) (then_cmp by_layers (then_cmp (on (λ (d : Matched). d.specificity) specificity_cmp) (then_cmp (on (λ (d : Matched). d.position) nat_cmp) (on (λ (d : Matched). d.index) nat_cmp)))))
 
 -- what is compared third counts only where what is compared first is equal
 third_counts : (x y : ℕ) (second third other rest : Ordering) → (x ≡ y → third ≡ other) → ordering_then (nat_cmp x y) (ordering_then second (ordering_then third rest)) ≡ ordering_then (nat_cmp x y) (ordering_then second (ordering_then other rest))
@@ -72,7 +73,7 @@ specificity_cmp-total =
 
 by_parts-total : IsTotalOrder by_parts
 by_parts-total =
-    then_total (on_total (λ (d : Matched). band d.origin d.important) nat_cmp_total) (then_total (on_total (λ (d : Matched). d.attached) bool_cmp_total) (then_total (then_total (on_total upwards nat_cmp_total) (back_total (on_total downwards nat_cmp_total))) (then_total (on_total (λ (d : Matched). d.specificity) specificity_cmp-total) (then_total (on_total (λ (d : Matched). d.position) nat_cmp_total) (on_total (λ (d : Matched). d.place) nat_cmp_total)))))
+    then_total (on_total (λ (d : Matched). band d.origin d.important) nat_cmp_total) (then_total (on_total (λ (d : Matched). d.attached) bool_cmp_total) (then_total (then_total (on_total upwards nat_cmp_total) (back_total (on_total downwards nat_cmp_total))) (then_total (on_total (λ (d : Matched). d.specificity) specificity_cmp-total) (then_total (on_total (λ (d : Matched). d.position) nat_cmp_total) (on_total (λ (d : Matched). d.index) nat_cmp_total)))))
 
 pub key_cmp-total : IsTotalOrder key_cmp
 key_cmp-total =

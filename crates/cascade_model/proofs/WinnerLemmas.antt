@@ -1,6 +1,6 @@
 -- The winner as declarations come one by one.
-use Rattle.std.proofs.Common.{◌≡◌, ◌≢◌, eq-eqb, ℕ, ◌==◌, Bool, true, false, ◌&&◌, cond, if◌then◌else◌, List, [], ◌∷◌, ◌++◌, Option, Some, None, fold, find, refl, sym, ap, ◌∙◌, ◌⊎◌, inl, inr, ⊎_elim, append_assoc}
-use Rattle.std.proofs.lemmas.Bool.{true≢false, ne_eqb, cond-true, cond-false, cases_Bool, and_parts, and_from, and_right, false_from_ne_true}
+use Rattle.std.proofs.Common.{◌≡◌, Bool, true, false, ◌&&◌, cond, if◌then◌else◌, List, [], ◌∷◌, ◌++◌, Option, Some, None, fold, find, filter, refl, sym, ap, ◌∙◌, ◌⊎◌, inl, inr, ⊎_elim, append_assoc}
+use Rattle.std.proofs.lemmas.Bool.{true≢false, cond-true, cond-false, cases_Bool, and_parts, and_from, and_right, false_from_ne_true}
 use Rattle.std.proofs.lemmas.Cmp.{upto, tied_itself}
 use Rattle.std.proofs.lemmas.Grind.{fold-append}
 use Rattle.std.proofs.lemmas.List.{append-nil}
@@ -14,7 +14,7 @@ use Rattle.std.specs.List.{list_all}
 use Rattle.std.specs.Option.{option_or}
 use Rattle.std.specs.Ordering.{ordering_reverse, is_lt, is_le, is_gt}
 use Rattle.cascade_model.specs.Key.{Matched, key_cmp}
-use Rattle.cascade_model.specs.Winner.{greatest_of, declared_for, winner}
+use Rattle.cascade_model.specs.Winner.{greatest_of, winner}
 use Rattle.cascade_model.proofs.KeyOrder.{key_cmp-total}
 
 and-true : (b : Bool) → (b && true) ≡ b
@@ -171,31 +171,29 @@ greatest_of-more : (ds : List Matched) (d : Matched) (b : Bool) → greatest_of 
 greatest_of-more ds d true = greatest_of-push ds d
 greatest_of-more ds d false = ap greatest_of (append-nil ds)
 
-winner-push : (property : ℕ) (ds : List Matched) (d : Matched) → winner property (ds ++ d ∷ []) ≡ (if d.property == property then better (winner property ds) d else winner property ds)
+winner-push : (passes : Matched → Bool) (ds : List Matched) (d : Matched) → winner passes (ds ++ d ∷ []) ≡ (if passes d then better (winner passes ds) d else winner passes ds)
 unfolding winner
-winner-push property ds d =
-    ap greatest_of (filter-append (λ (d : Matched). d.property == property) ds (d ∷ []))
-    ∙ greatest_of-more (declared_for property ds) d (d.property == property)
+winner-push passes ds d =
+    ap greatest_of (filter-append passes ds (d ∷ []))
+    ∙ greatest_of-more (filter passes ds) d (passes d)
 
-winner_better : (ds : List Matched) (d : Matched) → winner d.property (ds ++ d ∷ []) ≡ better (winner d.property ds) d
-winner_better ds d =
-    winner-push d.property ds d ∙ cond-true (d.property == d.property) _ _ (eq-eqb d.property d.property refl)
+-- a declaration that does not pass changes nothing
+pub winner_other : (passes : Matched → Bool) (ds : List Matched) (d : Matched) → passes d ≡ false → winner passes (ds ++ d ∷ []) ≡ winner passes ds
+winner_other passes ds d other = winner-push passes ds d ∙ cond-false (passes d) _ _ other
 
--- a declaration of another property changes nothing
-pub winner_other : (property : ℕ) (ds : List Matched) (d : Matched) → property ≢ d.property → winner property (ds ++ d ∷ []) ≡ winner property ds
-winner_other property ds d other =
-    winner-push property ds d ∙ cond-false (d.property == property) _ _ (ne_eqb d.property property (λ e. other (sym e)))
+winner_better : (passes : Matched → Bool) (ds : List Matched) (d : Matched) → passes d ≡ true → winner passes (ds ++ d ∷ []) ≡ better (winner passes ds) d
+winner_better passes ds d h = winner-push passes ds d ∙ cond-true (passes d) _ _ h
 
--- the first declaration of a property wins
-pub winner_first : (ds : List Matched) (d : Matched) → winner d.property ds ≡ None → winner d.property (ds ++ d ∷ []) ≡ Some d
-winner_first ds d none = winner_better ds d ∙ ap (λ best. better best d) none
+-- the first declaration that passes wins
+pub winner_first : (passes : Matched → Bool) (ds : List Matched) (d : Matched) → passes d ≡ true → winner passes ds ≡ None → winner passes (ds ++ d ∷ []) ≡ Some d
+winner_first passes ds d h none = winner_better passes ds d h ∙ ap (λ best. better best d) none
 
 -- and then each one that is greater
-pub winner_greater : (ds : List Matched) (d w : Matched) → winner d.property ds ≡ Some w → is_lt (key_cmp w d) ≡ true → winner d.property (ds ++ d ∷ []) ≡ Some d
-winner_greater ds d w wins lt =
-    winner_better ds d ∙ (ap (λ best. better best d) wins ∙ ap (λ b. Some (cond b d w)) lt)
+pub winner_greater : (passes : Matched → Bool) (ds : List Matched) (d w : Matched) → passes d ≡ true → winner passes ds ≡ Some w → is_lt (key_cmp w d) ≡ true → winner passes (ds ++ d ∷ []) ≡ Some d
+winner_greater passes ds d w h wins lt =
+    winner_better passes ds d h ∙ (ap (λ best. better best d) wins ∙ ap (λ b. Some (cond b d w)) lt)
 
 -- and not one that is not
-pub winner_stays : (ds : List Matched) (d w : Matched) → winner d.property ds ≡ Some w → is_lt (key_cmp w d) ≡ false → winner d.property (ds ++ d ∷ []) ≡ Some w
-winner_stays ds d w wins not_lt =
-    winner_better ds d ∙ (ap (λ best. better best d) wins ∙ ap (λ b. Some (cond b d w)) not_lt)
+pub winner_stays : (passes : Matched → Bool) (ds : List Matched) (d w : Matched) → passes d ≡ true → winner passes ds ≡ Some w → is_lt (key_cmp w d) ≡ false → winner passes (ds ++ d ∷ []) ≡ Some w
+winner_stays passes ds d w h wins not_lt =
+    winner_better passes ds d h ∙ (ap (λ best. better best d) wins ∙ ap (λ b. Some (cond b d w)) not_lt)

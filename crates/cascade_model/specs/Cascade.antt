@@ -1,32 +1,36 @@
 -- The style of an element, by the declarations that apply to it, over the style of its parent.
 use Rattle.std.specs.Prelude.{ℕ, ◌+◌, ◌==◌, List, [], ◌∷◌, Bool, ◌&&◌, if◌then◌else◌}
-use Rattle.std.specs.Option.{option_map_or}
 use Rattle.value_model.specs.Value.{Value, current_color, same_value}
-use Rattle.value_model.specs.Table.{Row, table, color_place}
+use Rattle.value_model.specs.Table.{Row, table, color_property}
 use Rattle.value_model.specs.Style.{Style, adjusted}
 use Rattle.cascade_model.specs.Key.{Matched}
-use Rattle.cascade_model.specs.Winner.{winner}
+use Rattle.cascade_model.specs.Ending.{Ending, inherits, initially, unsets, ends_at, ending}
 
--- without a declaration a property is as if `unset` (css-cascade-5, section 7.3)
+-- css-cascade-5, section 7.3
 abbrev pub unset : Row → Value → Value
 unset row parents = if row.inherited then parents else row.initial
 
 -- in `color` the keyword `currentcolor` acts as `inherit` (css-color-4, section 9)
 abbrev pub acts_as_inherit : ℕ → Value → Bool
-acts_as_inherit property value = (property == color_place) && same_value value current_color
+acts_as_inherit property value = (property == color_property) && same_value value current_color
 
--- what a value is computed to, where the parent's value is this one
+-- what a value is computed to, over this value of the parent
 abbrev pub computed : ℕ → Value → Value → Value
 computed property parents value = if acts_as_inherit property value then parents else value
 
-abbrev pub value_of_property : List Matched → ℕ → Row → Value → Value
-value_of_property ds property row parents = option_map_or (λ d. computed property parents d.value) (winner property ds) (unset row parents)
+-- the value of a property, over this value of the parent
+abbrev pub value_at : ℕ → Row → Value → Ending → Value
+value_at property row parents inherits = parents
+value_at property row parents initially = row.initial
+value_at property row parents unsets = unset row parents
+value_at property row parents (ends_at value) = computed property parents value
 
 -- the values of the properties from this one on
 abbrev pub values_from : List Matched → ℕ → List Row → List Value → List Value
 values_from ds property [] parents = []
 values_from ds property (row ∷ rows) [] = []
-values_from ds property (row ∷ rows) (value ∷ parents) = value_of_property ds property row value ∷ values_from ds (property + 1) rows parents
+values_from ds property (row ∷ rows) (value ∷ parents) =
+    value_at property row value (ending property ds) ∷ values_from ds (property + 1) rows parents
 
 abbrev pub cascaded : Bool → Style → List Matched → Style
 cascaded is_root parent ds = adjusted is_root (record { values = values_from ds 0 table parent.values })

@@ -2,24 +2,14 @@
 use Rattle.std.specs.Prelude.{ℕ, ◌-◌, Bool, if◌then◌else◌}
 use Rattle.std.specs.declared.cmp.Ordering.{Ordering}
 use Rattle.std.specs.Ordering.{ordering_then, nat_cmp, bool_cmp}
-use Rattle.selector_model.specs.Specificity.{Specificity, specificity_cmp}
-use Rattle.value_model.specs.Value.{Value}
-
--- where a sheet comes from (css-cascade-5, section 6.2)
-pub data Origin : Type 0 where
-  user_agent : Origin
-  user : Origin
-  author : Origin
-
-abbrev pub origin_rank : Origin → ℕ
-origin_rank user_agent = 0
-origin_rank user = 1
-origin_rank author = 2
+use Rattle.base_model.specs.Specificity.{Specificity, specificity_cmp}
+use Rattle.base_model.specs.Origin.{Origin, origin_rank}
+use Rattle.sheet_model.specs.Declared.{Target, Given}
 
 -- A declaration that applies to an element.
 pub record Matched : Type 0 where
-  pub property : ℕ
-  pub value : Value
+  pub target : Target
+  pub given : Given
   pub origin : Origin
   pub important : Bool
   -- of the `style` attribute
@@ -28,11 +18,11 @@ pub record Matched : Type 0 where
   pub layer : ℕ
   -- the greatest among the selectors of its rule that hold at the element
   pub specificity : Specificity
-  -- the number of its sheet, and where that stands among the sheets
+  -- the number of its sheet, and the position of that among the enabled ones
   pub sheet : ℕ
   pub position : ℕ
-  -- the place in the text of its own sheet, among all declarations of that text
-  pub place : ℕ
+  -- how many declarations come before it in the text of its own sheet
+  pub index : ℕ
 
 -- Important ones of the user agent are highest, then of the user, of the author; then normal ones of the author, of the
 -- user, of the user agent.
@@ -44,12 +34,17 @@ abbrev pub layer_cmp : Bool → ℕ → ℕ → Ordering
 layer_cmp important a b = if important then nat_cmp b a else nat_cmp a b
 
 -- Which of two declarations of one property wins, by these in turn: origin and importance; attached; layer;
--- specificity; the place of the sheet, and the place in it. In one band all are important, or none is.
+-- specificity; the position of the sheet, and the index in it. In one band all are important, or none is.
 abbrev pub key_cmp : Matched → Matched → Ordering
 key_cmp a b =
-    ordering_then (nat_cmp (band a.origin a.important) (band b.origin b.important)) (ordering_then (bool_cmp a.attached b.attached) (ordering_then (layer_cmp a.important a.layer b.layer) (ordering_then (specificity_cmp a.specificity b.specificity) (ordering_then (nat_cmp a.position b.position) (nat_cmp a.place b.place)))))
+    ordering_then (nat_cmp (band a.origin a.important) (band b.origin b.important))
+    (ordering_then (bool_cmp a.attached b.attached)
+    (ordering_then (layer_cmp a.important a.layer b.layer)
+    (ordering_then (specificity_cmp a.specificity b.specificity)
+    (ordering_then (nat_cmp a.position b.position) (nat_cmp a.index b.index)))))
 
 -- The level of a declaration, by which `revert-layer` goes back: its origin, whether it is attached, and its layer.
 abbrev pub level_cmp : Matched → Matched → Ordering
 level_cmp a b =
-    ordering_then (nat_cmp (origin_rank a.origin) (origin_rank b.origin)) (ordering_then (bool_cmp a.attached b.attached) (nat_cmp a.layer b.layer))
+    ordering_then (nat_cmp (origin_rank a.origin) (origin_rank b.origin))
+    (ordering_then (bool_cmp a.attached b.attached) (nat_cmp a.layer b.layer))

@@ -1,5 +1,6 @@
 pub mod Key
 pub mod Matching
 pub mod Winner
+pub mod Ending
 pub mod Cascade
 pub mod StyleOf

@@ -1,7 +1,8 @@
--- The declaration of a property that wins (css-cascade-5, section 6).
-use Rattle.std.specs.Prelude.{ℕ, ◌==◌, List, filter, find, Bool, Option}
+-- The declaration that wins among those that pass, as those of one property (css-cascade-5, section 6).
+use Rattle.std.specs.Prelude.{ℕ, List, filter, find, Bool, Option}
 use Rattle.std.specs.List.{list_all}
 use Rattle.std.specs.Ordering.{is_le}
+use Rattle.sheet_model.specs.Declared.{is_longhand}
 use Rattle.cascade_model.specs.Key.{Matched, key_cmp}
 
 -- none is greater than it
@@ -11,9 +12,9 @@ is_greatest ds d = list_all (λ other. is_le (key_cmp other d)) ds
 abbrev pub greatest_of : List Matched → Option Matched
 greatest_of ds = find (is_greatest ds) ds
 
--- the declarations of a property
-abbrev pub declared_for : ℕ → List Matched → List Matched
-declared_for property ds = filter (λ d. d.property == property) ds
+unfoldable pub winner : (Matched → Bool) → List Matched → Option Matched
+winner passes ds = greatest_of (filter passes ds)
 
-unfoldable pub winner : ℕ → List Matched → Option Matched
-winner property ds = greatest_of (declared_for property ds)
+-- the declarations of a property
+abbrev pub declares_longhand : ℕ → Matched → Bool
+declares_longhand property d = is_longhand property d.target

@@ -4,7 +4,7 @@ use Rattle.std.specs.List.{position_or_len}
 use Rattle.scene_model.specs.Element.{Element}
 use Rattle.scene_model.specs.Lookups.{has_number, parent_of}
 
--- where the element stands in tree order, from 0
+-- the element's position in tree order, from 0
 abbrev pub position_of : List Element → ℕ → ℕ
 position_of doc x = position_or_len (has_number x) doc
 
@@ -18,7 +18,7 @@ abbrev pub climb : List Element → ℕ → ℕ → List ℕ
 climb doc zero x = []
 climb doc (suc steps) x = up (climb doc steps) (parent_of doc x)
 
--- A parent stands before its child, so there are no more ancestors than elements before x.
+-- A parent is before its child, so there are no more ancestors than elements before x.
 unfoldable pub ancestors : List Element → ℕ → List ℕ
 ancestors doc x = climb doc (position_of doc x) x
 

@@ -4,3 +4,4 @@ pub mod Ancestors
 pub mod Words
 pub mod Valid
 pub mod Nodes
+pub mod Document

@@ -1,5 +1,7 @@
 -- What can be asked of a document's elements. Each fact is asked through one of these.
-use Rattle.std.specs.Prelude.{ℕ, ◌==◌, List, [], ◌∷◌, map, filter, find, length, take, Bool, true, false, not, ◌≡◌, if◌then◌else◌, Option, Some, None, unwrap_or, option_and_then, option_map, codes}
+use Rattle.std.specs.Prelude.{◌≡◌, ℕ, ◌==◌, List, [], ◌∷◌, map, filter, find, length, take, codes}
+use Rattle.std.specs.Prelude.{Bool, true, false, not, if◌then◌else◌}
+use Rattle.std.specs.Prelude.{Option, Some, None, unwrap_or, option_and_then, option_map}
 use Rattle.std.specs.List.{list_any, prefix_len}
 use Rattle.std.specs.Option.{option_map_or}
 use Rattle.std.specs.FinMap as map
@@ -40,11 +42,11 @@ beside doc x (Some p) = children doc p
 abbrev pub siblings : List Element → ℕ → List ℕ
 siblings doc x = if is_element doc x then beside doc x (parent_of doc x) else []
 
--- what stands before x in a list of numbers
+-- what is before x in a list of numbers
 abbrev pub left_of : ℕ → List ℕ → List ℕ
 left_of x xs = take (prefix_len (λ y. not (y == x)) xs) xs
 
--- how many siblings stand before it
+-- its sibling index: how many siblings are before it
 abbrev pub place_of : List Element → ℕ → ℕ
 place_of doc x = length (left_of x (siblings doc x))
 

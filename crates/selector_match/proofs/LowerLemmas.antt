@@ -1,75 +1,16 @@
--- A text with its ASCII letters in lower case: its bytes and its characters.
-use Rattle.std.proofs.Common.{◌≡◌, ℕ, suc, ◌<◌, ◌≤◌, Bool, true, false, List, [], ◌∷◌, ◌++◌, length, map, get_or, encode_utf8, encode_utf8_all, sym, ap, ◌∙◌, refl, arith, inl, inr, ◌⊎◌, append-nil}
-use Rattle.std.specs.Char.{to_ascii_lowercase}
-use Rattle.std.specs.Str.{chars, IsUtf8, all_scalars}
-use Rattle.std.proofs.Math.Utf8.{scalar, low_scalar}
-use Rattle.std.proofs.lemmas.Bool.{and_from, and_parts}
-use Rattle.std.proofs.lemmas.List.{map-append}
-use Rattle.std.proofs.lemmas.Str.{encode_ascii, encodes-chars, chars-encodes, scalars-chars, inside_one}
-use Rattle.std.proofs.lemmas.Str.Ascii.{lowercase_is, lowercase_ascii}
+-- A text with its ASCII letters in lower case where case does not count: its bytes and its characters.
+use Rattle.std.proofs.Common.{◌≡◌, ℕ, Bool, true, false, List, sym, ap, ◌∙◌, refl}
+use Rattle.std.specs.Str.{chars, IsUtf8}
+use Rattle.std.proofs.lemmas.Str.{chars-encodes, scalars-chars}
+use Rattle.base_model.specs.Text.{ascii_lower}
+use Rattle.base_model.proofs.CaseLemmas.{lower_bytes, scalars_lower}
 use Rattle.selector_model.specs.Comparisons.{folded}
-
--- a number is that of an ASCII character or not
-low_or_high : (n : ℕ) → (n < 128) ⊎ (128 ≤ n)
-low_or_high n = grind arith
-
--- numbers from 128 on stay
-lower_high : (bs : List ℕ) → ((k : ℕ) → k < length bs → 128 ≤ get_or bs k 0) → map to_ascii_lowercase bs ≡ bs
-lower_high [] h = refl
-lower_high (b ∷ bs) h =
-    let high : 128 ≤ b = h 0 (omega arith) in
-    ap (λ c. c ∷ map to_ascii_lowercase bs) ((lowercase_is b).2 (omega arith))
-    ∙ ap (λ cs. b ∷ cs) (lower_high bs (λ k l. h (suc k) (omega arith)))
-
--- each byte of a character from 128 on is one of these
-high_bytes : (c : ℕ) → 128 ≤ c → (k : ℕ) → k < length (encode_utf8 c) → 128 ≤ get_or (encode_utf8 c) k 0
-high_bytes c h k l =
-    elim (low_or_high (get_or (encode_utf8 c) k 0)) [
-      | inl low ↦
-          let same : c ≡ get_or (encode_utf8 c) k 0 = inside_one c [] (encode_utf8 c) k (sym (append-nil (encode_utf8 c))) l low in
-          omega arith
-      | inr high ↦ high
-    ]
-
-lower_one : (c : ℕ) → map to_ascii_lowercase (encode_utf8 c) ≡ encode_utf8 (to_ascii_lowercase c)
-lower_one c =
-    elim (low_or_high c) [
-      | inl low ↦
-          ap (map to_ascii_lowercase) (encode_ascii c low)
-          ∙ sym (encode_ascii (to_ascii_lowercase c) (lowercase_ascii c low))
-      | inr high ↦
-          lower_high (encode_utf8 c) (high_bytes c high) ∙ ap encode_utf8 (sym ((lowercase_is c).2 (omega arith)))
-    ]
-
-lower_all : (cs : List ℕ) → map to_ascii_lowercase (encode_utf8_all cs) ≡ encode_utf8_all (map to_ascii_lowercase cs)
-lower_all [] = refl
-lower_all (c ∷ cs) =
-    map-append to_ascii_lowercase (encode_utf8 c) (encode_utf8_all cs)
-    ∙ (ap (λ bs. bs ++ map to_ascii_lowercase (encode_utf8_all cs)) (lower_one c)
-    ∙ ap (λ bs. encode_utf8 (to_ascii_lowercase c) ++ bs) (lower_all cs))
-
-scalar_lower : (c : ℕ) → scalar c ≡ true → scalar (to_ascii_lowercase c) ≡ true
-scalar_lower c e =
-    elim (low_or_high c) [
-      | inl low ↦ let below : to_ascii_lowercase c < 128 = lowercase_ascii c low in low_scalar (to_ascii_lowercase c) (omega arith)
-      | inr high ↦ ap scalar ((lowercase_is c).2 (omega arith)) ∙ e
-    ]
-
-scalars_lower : (cs : List ℕ) → all_scalars cs ≡ true → all_scalars (map to_ascii_lowercase cs) ≡ true
-scalars_lower [] e = refl
-scalars_lower (c ∷ cs) e =
-    let parts = and_parts (scalar c) (all_scalars cs) e in
-    and_from (scalar (to_ascii_lowercase c)) (all_scalars (map to_ascii_lowercase cs)) (scalar_lower c parts.0) (scalars_lower cs parts.1)
-
--- the bytes in lower case are the characters in lower case
-lower_bytes : (bs : List ℕ) → IsUtf8 bs → encode_utf8_all (map to_ascii_lowercase (chars bs)) ≡ map to_ascii_lowercase bs
-lower_bytes bs u = sym (lower_all (chars bs)) ∙ ap (map to_ascii_lowercase) (encodes-chars bs u)
 
 pub IsUtf8-folded : (k : Bool) (bs : List ℕ) → IsUtf8 bs → IsUtf8 (folded k bs)
 IsUtf8-folded true bs u = u
-IsUtf8-folded false bs u = (map to_ascii_lowercase (chars bs), (scalars_lower (chars bs) (scalars-chars bs u), lower_bytes bs u))
+IsUtf8-folded false bs u = (ascii_lower (chars bs), (scalars_lower (chars bs) (scalars-chars bs u), sym (lower_bytes bs u)))
 
 pub chars-folded : (k : Bool) (bs : List ℕ) → IsUtf8 bs → chars (folded k bs) ≡ folded k (chars bs)
 chars-folded true bs u = refl
 chars-folded false bs u =
-    ap chars (sym (lower_bytes bs u)) ∙ chars-encodes (map to_ascii_lowercase (chars bs)) (scalars_lower (chars bs) (scalars-chars bs u))
+    ap chars (sym (sym (lower_bytes bs u))) ∙ chars-encodes (ascii_lower (chars bs)) (scalars_lower (chars bs) (scalars-chars bs u))

@@ -1,4 +1,5 @@
 pub mod Selector
 pub mod Comparisons
 pub mod Holds
-pub mod Specificity
+pub mod SpecificityOf
+pub mod Key

@@ -1,53 +1,55 @@
 -- Selectors as data (selectors-4).
-use Rattle.std.specs.Prelude.{ℤ, Bool, Option}
-use Rattle.scene_model.specs.Element.{Characters, State}
+use Rattle.std.specs.Prelude.{ℤ, Bool}
+use Rattle.base_model.specs.Text.{Characters}
+use Rattle.scene_model.specs.Element.{State}
 
+-- how two compounds stand to each other (selectors-4, section 15)
 pub data Combinator : Type 0 where
   descendant : Combinator
   child : Combinator
   next_sibling : Combinator
   later_sibling : Combinator
 
--- how an attribute's value is compared: `=`, `~=`, `|=`, `^=`, `$=`, `*=`
-pub data Comparison : Type 0 where
-  equals : Comparison
-  includes : Comparison
-  dash_match : Comparison
-  prefix : Comparison
-  suffix : Comparison
-  substring : Comparison
+-- how an attribute's value is compared: `=`, `~=`, `|=`, `^=`, `$=`, `*=` (selectors-4, section 6)
+pub data AttributeOperator : Type 0 where
+  equals : AttributeOperator
+  includes : AttributeOperator
+  dash_match : AttributeOperator
+  prefix : AttributeOperator
+  suffix : AttributeOperator
+  substring : AttributeOperator
 
--- the places step * n + first, for n from 0 (the An+B notation)
+-- An+B: the indexes a * n + b, for n from 0 (css-syntax-3, section 6)
 pub record AnB : Type 0 where
-  pub step : ℤ
-  pub first : ℤ
+  pub a : ℤ
+  pub b : ℤ
 
--- the places from the front or from the back, among all siblings or among those of the same type
-pub record Places : Type 0 where
-  pub places : AnB
-  pub from_back : Bool
+-- the indexes from the first or from the last, among all siblings or among those of the same type
+pub record Nth : Type 0 where
+  pub formula : AnB
+  pub from_last : Bool
   pub of_type : Bool
 
--- A test of one element by itself, its attributes, its states or its place.
+-- A test of one element by itself, its attributes, its states or its index among its siblings.
 pub data Simple : Type 0 where
-  of_type : Characters → Simple
-  has_id : Characters → Simple
-  of_class : Characters → Simple
-  has_attribute : Characters → Simple
-  -- name, comparison, value, and whether ASCII case counts
-  compares : Characters → Comparison → Characters → Bool → Simple
-  is_root : Simple
-  is_empty : Simple
-  at_places : Places → Simple
+  type_selector : Characters → Simple
+  id_selector : Characters → Simple
+  class_selector : Characters → Simple
+  attribute_selector : Characters → Simple
+  -- name, operator, value, and whether ASCII case counts
+  attribute_compares : Characters → AttributeOperator → Characters → Bool → Simple
+  root : Simple
+  empty : Simple
+  nth : Nth → Simple
   -- `:only-child`, or `:only-of-type`
-  is_only : Bool → Simple
+  only : Bool → Simple
   in_state : State → Simple
 
--- A selector is its subject, and what stands to the left of it: a combinator and a selector.
+-- A complex selector is its subject, with what is to the left of it: a combinator and a selector.
 mutual
   pub data Selector : Type 0 where
     subject : Compound → Selector
-    behind : Compound → Combinator → Selector → Selector
+    combined : Compound → Combinator → Selector → Selector
 
   -- the universal selector, or one more test
   pub data Compound : Type 0 where
@@ -56,11 +58,12 @@ mutual
 
   pub data Test : Type 0 where
     simple : Simple → Test
-    matches_any : Selectors → Test
-    matches_where : Selectors → Test
-    matches_none : Selectors → Test
+    -- `:is`, `:where` and `:not`
+    is_some : Selectors → Test
+    where_some : Selectors → Test
+    not_some : Selectors → Test
 
-  -- a list of selectors
+  -- the list of selectors in such a pseudo-class
   pub data Selectors : Type 0 where
     no_more : Selectors
     more : Selector → Selectors → Selectors

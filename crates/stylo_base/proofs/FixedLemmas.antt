@@ -1,7 +1,7 @@
 use Rattle.std.proofs.Common.{◌≡◌, ℕ, ◌+◌, ◌<◌, [], ◌∷◌, ◌++◌, codes, decimal, sym, ap, ◌∙◌, arith, ne_eqb}
 use Rattle.std.proofs.lemmas.Bool.{cond-false}
 use Rattle.std.proofs.lemmas.Fmt.{decimal_digit}
-use Rattle.stylo_base.specs.Thousandths.{put_digit, without_zeros, pointed}
+use Rattle.base_model.specs.Thousandths.{put_digit, without_zeros, pointed}
 
 -- a last digit that is no 0 stays
 put_last : (d : ℕ) → 0 < d → put_digit d [] ≡ d ∷ []

@@ -1,7 +1,7 @@
 use Rattle.std.proofs.Common.{◌≡◌, ℕ, zero, suc, ◌+◌, ◌-◌, ◌*◌, ◌%◌, ◌<◌, ◌≤◌, ℤ, pos, negsuc, neg_ℤ, ◌-ℤ◌, ◌*ℤ◌, unsigned_abs, ap, arith, mod-lt}
 use Rattle.std.proofs.lemmas.Int.{ints, clamps}
 use Rattle.std.proofs.lemmas.Nat.{div-add-mod', div_below, le-div}
-use Rattle.stylo_base.specs.Thousandths.{half_up, rounded, IsNearest, IsInRange, clamped}
+use Rattle.base_model.specs.Thousandths.{half_up, rounded, IsNearest, IsInRange, clamped}
 
 -- q times d is nearest to n, and above it where n lies halfway
 record NearBelow (n d q : ℕ) : Type 0 where

@@ -2,15 +2,15 @@ use Rattle.std.specs.Prelude.{◌≡◌, ℕ, ◌≤◌, ◌^◌, Bool, List, []
 use Rattle.std.specs.List.{list_any}
 use Rattle.std.specs.Str.{bytes_eq}
 
--- the text stands among the texts
+-- the text is among the texts
 abbrev pub is_among : List ℕ → List (List ℕ) → Bool
 is_among text texts = list_any (bytes_eq text) texts
 
--- the texts once a text has a name: a new one stands last
+-- the texts once a text has a name: a new one is last
 abbrev pub interned : List (List ℕ) → List ℕ → List (List ℕ)
 interned texts text = if is_among text texts then texts else texts ++ text ∷ []
 
--- no text stands twice: two places of one text are one place
+-- no text is there twice: two places of one text are one place
 abbrev pub StandOnce : List (List ℕ) → Type 0
 StandOnce texts = (i j : ℕ) (text : List ℕ) → slice_get texts i ≡ Some text → slice_get texts j ≡ Some text → i ≡ j
 

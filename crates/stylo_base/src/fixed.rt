@@ -1,7 +1,7 @@
 //! Fixed-point numbers: whole thousandths within a range.
 
 ghost use Rattle.std.specs.Prelude.{◌≡◌, ◌*◌, ◌/◌, ◌%◌, ◌^◌, ◌<◌, ◌∷◌, [], ◌+ℤ◌, ◌*ℤ◌, ◌<ℤ◌, pos, unsigned_abs, IfOk};
-ghost use Rattle.stylo_base.specs.Thousandths.{IsInRange, clamped, pointed, rounded, without_zeros, written};
+ghost use Rattle.base_model.specs.Thousandths.{IsInRange, clamped, pointed, rounded, without_zeros, written};
 
 use crate::{NoMemory, Text};
 use std::alloc::Global;
@@ -19,7 +19,7 @@ pub struct Fixed {
 
 impl Model for Fixed {
     ghost use Rattle.std.specs.Prelude.{ℤ};
-    ghost use Rattle.stylo_base.specs.Thousandths.{IsInRange};
+    ghost use Rattle.base_model.specs.Thousandths.{IsInRange};
 
     ghost Value = { ℤ };
 
@@ -100,7 +100,7 @@ fn divide(z: i128, d: u64) -> i128
     if z < 0 { -size } else { size }
 }
 
-// The point and the digits behind it of `n` thousandths, with no zeros at the end.
+// The point and the digits after it of `n` thousandths, with no zeros at the end.
 fn fraction(alloc: Global, n: u64) -> Result<Text, NoMemory>
     ensures { IfOk result (λ t. t ≡ pointed (without_zeros (n / 100 % 10 ∷ n / 10 % 10 ∷ n % 10 ∷ []))) }
 {

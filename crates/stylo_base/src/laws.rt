@@ -2,7 +2,7 @@
 //! nothing.
 
 ghost use Rattle.std.specs.Prelude.{◌≡◌, ◌<◌, ◌≤◌, ℕ, ℤ, ◌-ℤ◌, unsigned_abs};
-ghost use Rattle.stylo_base.specs.Thousandths.{IsInRange, IsNearest, clamped, rounded};
+ghost use Rattle.base_model.specs.Thousandths.{IsInRange, IsNearest, clamped, rounded};
 
 /// `rounded` is the nearest whole number, halves away from 0, and no other number is.
 pub fn rounds_to_the_nearest()

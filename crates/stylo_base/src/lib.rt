@@ -1,10 +1,11 @@
-//! What every other crate of the style engine uses: want of memory, texts, names, fixed-point
+//! What every other crate of the style engine uses: out of memory, texts, names, fixed-point
 //! numbers, specificities, and the words of limits and refusals.
 #![tactic(auto)]
 
 mod ascii_case;
 mod fixed;
 pub mod laws;
+pub mod limits;
 mod memory;
 mod names;
 mod path_text;

@@ -29,7 +29,7 @@ impl Model for Name {
 }
 
 /// The texts that have names. Contracts see them as lists of characters, in the order of first
-/// use; no text stands there twice.
+/// use; no text is there twice.
 #[derive(Drop)]
 pub struct Names {
     texts: IndexSet<String>,

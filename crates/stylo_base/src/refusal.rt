@@ -10,7 +10,7 @@ use crate::NoMemory;
 pub enum Kind {
     /// The bytes of a job.
     Input,
-    /// The elements that stand at once.
+    /// The elements of a document at once.
     Elements,
     /// The numbers ever given to elements, or to sheets.
     Numbers,
@@ -20,7 +20,7 @@ pub enum Kind {
     Attributes,
     /// The bytes of an attribute's value.
     Value,
-    /// The sheets that stand at once.
+    /// The sheets of a document at once.
     Sheets,
     /// The bytes of a sheet.
     Text,
@@ -54,7 +54,7 @@ pub enum EditRefused {
     UnknownNode(u64),
     /// No sheet has this number.
     UnknownSheet(u64),
-    /// The place is none: the root would go or move, an element would stand below itself, or an
+    /// The place is none: the root would go or move, an element would be below itself, or an
     /// index is past the end.
     BadPlace,
     /// The limit of this kind, with its number, would be exceeded.

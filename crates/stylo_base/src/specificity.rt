@@ -1,12 +1,12 @@
 //! How specific a selector is.
 
 ghost use Rattle.std.specs.Prelude.{◌≡◌};
-ghost use Rattle.selector_model.specs.Specificity.{greater};
+ghost use Rattle.base_model.specs.Specificity.{greater};
 
 use std::marker::Model;
 
 /// How many ids, how many classes, attributes and pseudo-classes, and how many types a selector
-/// has: compared in that turn.
+/// has: compared in that order.
 #[derive(Clone, Copy, Debug, PartialEq, Eq, PartialOrd, Ord)]
 pub struct Specificity {
     ids: u64,
@@ -15,7 +15,7 @@ pub struct Specificity {
 }
 
 impl Model for Specificity {
-    ghost use Rattle.selector_model.specs.Specificity as model;
+    ghost use Rattle.base_model.specs.Specificity as model;
 
     ghost Value = { model.Specificity };
 

@@ -60,7 +60,7 @@ impl Text {
         self.inner.as_str()
     }
 
-    /// Puts `text` behind the text.
+    /// Appends `text`.
     pub fn push_str(&mut self, text: &str) -> Result<(), NoMemory>
         ensures ok { OnOk result (self.new ≡ self.old ++ chars text.now) }
         ensures ascii { is_all_ascii text.now ≡ true → OnOk result (self.new ≡ self.old ++ text.now) }
@@ -70,7 +70,7 @@ impl Text {
         Ok(())
     }
 
-    /// Puts `other` behind the text.
+    /// Appends `other`.
     pub fn push_text(&mut self, other: &Text) -> Result<(), NoMemory>
         ensures ok { OnOk result (self.new ≡ self.old ++ other.now) }
         ensures err { OnErr result (self.new ≡ self.old) }
@@ -78,7 +78,7 @@ impl Text {
         self.push_str(other.as_str())
     }
 
-    /// Puts `number` behind the text, in decimal digits with no leading zero.
+    /// Appends `number`, in decimal digits with no leading zero.
     pub fn push_number(&mut self, number: u64) -> Result<(), NoMemory>
         ensures ok { OnOk result (self.new ≡ self.old ++ decimal number) }
         ensures err { OnErr result (self.new ≡ self.old) }

@@ -1,5 +1,6 @@
--- Brackets, and what stands outside them (css-syntax-3, section 5.4).
+-- Brackets, and what is outside them (css-syntax-3, section 5.4).
 use Rattle.std.specs.Prelude.{◌≡◌, ◌≢◌, ℕ, List, [], ◌∷◌, Bool, true, false, Option, Some, None, if◌then◌else◌}
+use Rattle.base_model.specs.Ascii.{right_parenthesis, right_bracket, right_brace}
 use Rattle.syntax_model.specs.Token.{Token, Kind, function, open_square, close_square, open_round, close_round, open_curly, close_curly}
 
 pub data Bracket : Type 0 where
@@ -31,20 +32,21 @@ same_bracket a b = false
 abbrev pub without_closed : List Bracket → Option Bracket → List Bracket
 without_closed pending None = pending
 without_closed [] (Some bracket) = []
-without_closed (innermost ∷ pending) (Some bracket) = if same_bracket innermost bracket then pending else innermost ∷ pending
+without_closed (innermost ∷ pending) (Some bracket) =
+    if same_bracket innermost bracket then pending else innermost ∷ pending
 
 abbrev pub with_opened : Option Bracket → List Bracket → List Bracket
 with_opened None pending = pending
 with_opened (Some bracket) pending = bracket ∷ pending
 
--- the brackets that are open behind a token, the innermost first
-abbrev pub open_behind : List Bracket → Token → List Bracket
-open_behind pending token = with_opened (opened_by token.kind) (without_closed pending (closed_by token.kind))
+-- the brackets that are open after a token, the innermost first
+abbrev pub open_past : List Bracket → Token → List Bracket
+open_past pending token = with_opened (opened_by token.kind) (without_closed pending (closed_by token.kind))
 
--- the same behind a list of tokens
+-- the same after a list of tokens
 abbrev pub open_after : List Bracket → List Token → List Bracket
 open_after pending [] = pending
-open_after pending (token ∷ tokens) = open_after (open_behind pending token) tokens
+open_after pending (token ∷ tokens) = open_after (open_past pending token) tokens
 
 abbrev pub closer_kind : Bracket → Kind
 closer_kind square = close_square
@@ -52,13 +54,19 @@ closer_kind round = close_round
 closer_kind curly = close_curly
 
 abbrev pub closer_text : Bracket → ℕ
-closer_text square = 93
-closer_text round = 41
-closer_text curly = 125
+closer_text square = right_bracket
+closer_text round = right_parenthesis
+closer_text curly = right_brace
 
--- the closer that the end of input adds; it stands in no span
+-- the closer that the end of input adds; it has no span
 abbrev pub closer : Bracket → Token
-closer bracket = record { kind = closer_kind bracket; spelling = closer_text bracket ∷ []; name = []; value = None; span = None }
+closer bracket = record {
+  kind = closer_kind bracket;
+  spelling = closer_text bracket ∷ [];
+  name = [];
+  value = None;
+  span = None;
+}
 
 -- the closers of what is open
 abbrev pub closers : List Bracket → List Token
@@ -68,9 +76,11 @@ closers (bracket ∷ pending) = closer bracket ∷ closers pending
 -- outside brackets no token is of a kind that passes
 abbrev pub AvoidsOutside : (Kind → Bool) → List Bracket → List Token → Type 0
 AvoidsOutside p pending [] = Unit {0}
-AvoidsOutside p pending (token ∷ tokens) = (pending ≡ [] → p token.kind ≡ false) × AvoidsOutside p (open_behind pending token) tokens
+AvoidsOutside p pending (token ∷ tokens) =
+    (pending ≡ [] → p token.kind ≡ false) × AvoidsOutside p (open_past pending token) tokens
 
 -- some bracket stays open throughout
 abbrev pub StaysOpen : List Bracket → List Token → Type 0
 StaysOpen pending [] = Unit {0}
-StaysOpen pending (token ∷ tokens) = (open_behind pending token ≢ []) × StaysOpen (open_behind pending token) tokens
+StaysOpen pending (token ∷ tokens) =
+    (open_past pending token ≢ []) × StaysOpen (open_past pending token) tokens

@@ -1,5 +1,9 @@
 pub mod Token
 pub mod Preprocess
 pub mod Reading
+pub mod TokensIn
+pub mod Kinds
 pub mod Brackets
+pub mod Outside
 pub mod Rules
+pub mod RulesIn

@@ -1,6 +1,6 @@
 -- Tokens (css-syntax-3, section 4).
-use Rattle.std.specs.Prelude.{ℕ, ℤ, List, Bool, Option}
-use Rattle.scene_model.specs.Element.{Characters}
+use Rattle.std.specs.Prelude.{ℕ, ℤ, Bool, Option}
+use Rattle.base_model.specs.Text.{Characters}
 
 pub data Kind : Type 0 where
   ident : Kind
@@ -30,14 +30,14 @@ pub data Kind : Type 0 where
   open_curly : Kind
   close_curly : Kind
 
--- where a token's text stands, in characters of the preprocessed text
+-- where a token's text is, in characters of the preprocessed text
 pub record Span : Type 0 where
   pub start : ℕ
   pub end : ℕ
 
--- A token owns what it says. The name is a name, a unit, or a string's or url's text, with escapes read, and empty
--- where there is none. The value is that of a number, percentage or dimension, in thousandths. The spelling of white
--- space is one blank. A closer that the end of input adds stands in no span.
+-- A token, independent of its source text. The name is a name, a unit, or a string's or url's text, with escapes read,
+-- and empty where there is none. The value is that of a number, percentage or dimension, in thousandths. The spelling
+-- of whitespace is one space. A closer that the end of input adds has no span.
 pub record Token : Type 0 where
   pub kind : Kind
   pub spelling : Characters

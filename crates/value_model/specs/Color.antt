@@ -2,7 +2,8 @@
 use Rattle.std.specs.Prelude.{ℕ, ◌/◌, ◌%◌, ◌==◌, List, [], ◌∷◌, ◌++◌, Bool, ◌&&◌, if◌then◌else◌, codes, refl}
 use Rattle.std.specs.Char.{digit_char}
 use Rattle.std.specs.Coded.{Coded, code_by, coded×, coded_ℕ}
-use Rattle.scene_model.specs.Element.{Characters}
+use Rattle.base_model.specs.Ascii.{number_sign}
+use Rattle.base_model.specs.Text.{Characters}
 
 -- in sRGB, each part from 0 to 255
 pub record Color : Type 0 where
@@ -33,7 +34,7 @@ alpha_digits alpha = if alpha == 255 then [] else two_digits alpha
 
 -- `#rrggbb`, or `#rrggbbaa`
 abbrev pub color_text : Color → Characters
-color_text c = 35 ∷ (two_digits c.red ++ (two_digits c.green ++ (two_digits c.blue ++ alpha_digits c.alpha)))
+color_text c = number_sign ∷ (two_digits c.red ++ (two_digits c.green ++ (two_digits c.blue ++ alpha_digits c.alpha)))
 
 abbrev pub same_color : Color → Color → Bool
 same_color a b = (a.red == b.red) && ((a.green == b.green) && ((a.blue == b.blue) && (a.alpha == b.alpha)))
@@ -71,4 +72,7 @@ named_colors =
 -- how a proof tells two colours apart
 abbrev pub color_code : Coded Color
 color_code =
-    code_by (ℕ × (ℕ × (ℕ × ℕ))) (coded× coded_ℕ (coded× coded_ℕ (coded× coded_ℕ coded_ℕ))) (λ c. (c.red, (c.green, (c.blue, c.alpha)))) (λ p. record { red = p.0; green = p.1.0; blue = p.1.1.0; alpha = p.1.1.1 }) (λ _. refl)
+    code_by (ℕ × (ℕ × (ℕ × ℕ))) (coded× coded_ℕ (coded× coded_ℕ (coded× coded_ℕ coded_ℕ)))
+    (λ c. (c.red, (c.green, (c.blue, c.alpha))))
+    (λ p. record { red = p.0; green = p.1.0; blue = p.1.1.0; alpha = p.1.1.1 })
+    (λ _. refl)

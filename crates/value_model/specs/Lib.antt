@@ -2,3 +2,5 @@ pub mod Color
 pub mod Value
 pub mod Table
 pub mod Style
+pub mod HexColor
+pub mod Printed

@@ -3,7 +3,7 @@ use Rattle.std.specs.Prelude.{◌≡◌, ◌⊎◌, Bool, false, refl, codes}
 use Rattle.std.specs.Str.{bytes_eq}
 use Rattle.std.specs.Coded.{Coded, code_by, coded⊎, coded_ℕ, coded_list}
 use Rattle.std.proofs.Common.{inl, inr}
-use Rattle.scene_model.specs.Element.{Characters}
+use Rattle.base_model.specs.Text.{Characters}
 use Rattle.value_model.specs.Color.{Color, color_text, same_color, color_code}
 
 -- a keyword is its lower-case text
@@ -31,13 +31,13 @@ abbrev pub value_case : Value → Characters ⊎ Color
 value_case (keyword word) = inl word
 value_case (color c) = inr c
 
-abbrev pub value_in : Characters ⊎ Color → Value
-value_in (inl word) = keyword word
-value_in (inr c) = color c
+abbrev pub value_from_case : Characters ⊎ Color → Value
+value_from_case (inl word) = keyword word
+value_from_case (inr c) = color c
 
-pub value_back : (value : Value) → value_in (value_case value) ≡ value
+pub value_back : (value : Value) → value_from_case (value_case value) ≡ value
 value_back (keyword word) = refl
 value_back (color c) = refl
 
 abbrev pub value_code : Coded Value
-value_code = code_by (Characters ⊎ Color) (coded⊎ (coded_list coded_ℕ) color_code) value_case value_in value_back
+value_code = code_by (Characters ⊎ Color) (coded⊎ (coded_list coded_ℕ) color_code) value_case value_from_case value_back

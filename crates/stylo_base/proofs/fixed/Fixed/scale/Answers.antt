@@ -1,7 +1,7 @@
 use Rattle.std.proofs.Common.{◌≡◌, ◌*ℤ◌, FitsSigned, unsigned_abs, ap, ◌∙◌, rules}
 use Rattle.std.specs.Int.{w64, w128}
 use Rattle.std.proofs.lemmas.Int.{to_z-of_z}
-use Rattle.stylo_base.specs.Thousandths.{clamped, rounded}
+use Rattle.base_model.specs.Thousandths.{clamped, rounded}
 use Rattle.stylo_base.proofs.fixed.Fixed.scale.Goals as goal
 
 pub returns : goal.returns

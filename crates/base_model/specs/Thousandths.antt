@@ -1,4 +1,6 @@
-use Rattle.std.specs.Prelude.{◌≡◌, ℕ, suc, ◌+◌, ◌*◌, ◌/◌, ◌%◌, ◌<◌, ◌≤◌, ℤ, pos, negsuc, neg_ℤ, ◌-ℤ◌, ◌*ℤ◌, ◌≤ℤ◌, unsigned_abs, List, [], ◌∷◌, ◌++◌, map, codes, decimal, if◌then◌else◌, ◌==◌}
+-- Fixed-point numbers in thousandths: rounding, clamping, and how one is written.
+use Rattle.std.specs.Prelude.{◌≡◌, ℕ, suc, ◌+◌, ◌*◌, ◌/◌, ◌%◌, ◌<◌, ◌≤◌, ℤ, pos, negsuc, neg_ℤ, ◌-ℤ◌, ◌*ℤ◌, ◌≤ℤ◌}
+use Rattle.std.specs.Prelude.{unsigned_abs, List, [], ◌∷◌, ◌++◌, map, codes, decimal, if◌then◌else◌, ◌==◌}
 use Rattle.std.specs.Int.{int_max, int_min}
 
 -- the greatest number of thousandths
@@ -38,12 +40,12 @@ abbrev pub without_zeros : List ℕ → List ℕ
 without_zeros [] = []
 without_zeros (d ∷ ds) = put_digit d (without_zeros ds)
 
--- digits behind a point, where there are any
+-- digits after a point, where there are any
 abbrev pub pointed : List ℕ → List ℕ
 pointed [] = []
 pointed (d ∷ ds) = codes "." ++ map (λ x. 48 + x) (d ∷ ds)
 
--- n thousandths: the whole part, and up to three digits behind the point
+-- n thousandths: the whole part, and up to three digits after the point
 abbrev pub spelled : ℕ → List ℕ
 spelled n = decimal (n / 1000) ++ pointed (without_zeros (n / 100 % 10 ∷ n / 10 % 10 ∷ n % 10 ∷ []))
 

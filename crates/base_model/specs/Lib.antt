@@ -1,0 +1,9 @@
+pub mod Options
+pub mod Lists
+pub mod Ascii
+pub mod Text
+pub mod Limits
+pub mod Thousandths
+pub mod Specificity
+pub mod Origin
+pub mod Sheet

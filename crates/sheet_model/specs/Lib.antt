@@ -1,0 +1,5 @@
+pub mod SelectorsIn
+pub mod ValueIn
+pub mod Declared
+pub mod StyleRules
+pub mod Sources

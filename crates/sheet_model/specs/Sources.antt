@@ -1,0 +1,49 @@
+-- What the cascade takes of a document's style sheets: the rules of the enabled ones, each with where it comes from.
+use Rattle.std.specs.Prelude.{ℕ, ◌+◌, List, [], ◌∷◌, ◌++◌, length, filter}
+use Rattle.base_model.specs.Origin.{Origin}
+use Rattle.base_model.specs.Sheet.{Sheet}
+use Rattle.selector_model.specs.Selector.{Selector}
+use Rattle.sheet_model.specs.Declared.{Declared}
+use Rattle.sheet_model.specs.StyleRules.{StyleRule, style_rules_in}
+
+pub record PlacedRule : Type 0 where
+  pub selectors : List Selector
+  pub declarations : List Declared
+  pub origin : Origin
+  -- the number of its sheet, and the position of that among the enabled ones
+  pub sheet : ℕ
+  pub position : ℕ
+  -- how many declarations are kept before it in its sheet's text
+  pub first_index : ℕ
+
+abbrev pub placed : Sheet → ℕ → ℕ → StyleRule → PlacedRule
+placed sheet position first_index rule = record {
+  selectors = rule.selectors;
+  declarations = rule.declarations;
+  origin = sheet.origin;
+  sheet = sheet.number;
+  position = position;
+  first_index = first_index;
+}
+
+-- the rules of a sheet
+abbrev pub all_placed : Sheet → ℕ → ℕ → List StyleRule → List PlacedRule
+all_placed sheet position first_index [] = []
+all_placed sheet position first_index (rule ∷ rules) =
+    placed sheet position first_index rule
+    ∷ all_placed sheet position (first_index + length rule.declarations) rules
+
+-- the rules of sheets that all are enabled, of which the first has this position
+abbrev pub rules_from : ℕ → List Sheet → List PlacedRule
+rules_from position [] = []
+rules_from position (sheet ∷ sheets) =
+    all_placed sheet position 0 (style_rules_in sheet.text) ++ rules_from (position + 1) sheets
+
+unfoldable pub rules_of_sheets : List Sheet → List PlacedRule
+rules_of_sheets sheets = rules_from 0 (filter (λ sheet. sheet.enabled) sheets)
+
+pub record Sources : Type 0 where
+  pub rules : List PlacedRule
+
+abbrev pub sources_of : List Sheet → Sources
+sources_of sheets = record { rules = rules_of_sheets sheets }
