@@ -1,5 +1,2 @@
-pub mod EnabledLemmas
-pub mod TakenLemmas
-pub mod OneLemmas
-pub mod SeenLemmas
-pub mod KeptLemmas
+pub mod Collected
+pub mod Left

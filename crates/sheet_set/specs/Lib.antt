@@ -1,5 +1,1 @@
-pub mod KeptDeclarations
-pub mod KeptRules
-pub mod EnabledSheets
-pub mod Seen
-pub mod Found
+pub mod View

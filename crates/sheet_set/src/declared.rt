@@ -1,10 +1,9 @@
 //! A declaration that is kept.
 
-ghost use Rattle.std.specs.Prelude.{MatchOption};
-ghost use Rattle.cascade_model.specs.Matching as model;
-ghost use Rattle.css_rules.specs.Parts.{declaration_of};
-ghost use Rattle.sheet_set.specs.KeptDeclarations.{Sets};
-ghost use Rattle.sheet_set.specs.Seen.{declared_of};
+ghost use Rattle.std.specs.Prelude.{◌≡◌, option_map};
+ghost use Rattle.css_rules.specs.View.{declaration_of};
+ghost use Rattle.sheet_model.specs.Declared.{declared_by};
+ghost use Rattle.sheet_set.specs.View.{declared_of};
 
 use css_rules::RawDecl;
 use property_table::{PropId, Value, by_name};
@@ -18,12 +17,10 @@ pub struct Declared {
     pub important: bool,
 }
 
-/// What a declaration sets. None: its name is of no property, or the property does not take its
+/// What a declaration declares. None: its name is of no property, or the property does not take its
 /// value.
-pub fn set_by(declaration: &RawDecl) -> Option<Declared>
-    ensures { MatchOption result
-        ((set : model.Declared) → Sets (declaration_of declaration.now) set → ⊥)
-        (λ set. Sets (declaration_of declaration.now) (declared_of set)) }
+pub fn declared(declaration: &RawDecl) -> Option<Declared>
+    ensures { option_map declared_of result ≡ declared_by (declaration_of declaration.now) }
 {
     let property = by_name(declaration.name.as_str())?;
     let value = value(property, declaration.value.as_slice())?;

@@ -2,13 +2,10 @@
 #![tactic(auto)]
 
 mod declared;
-mod found;
-mod kept;
-pub mod laws;
+mod parse_block;
+mod rule_collector;
 mod sheet_rule;
 mod sheets;
-#[cfg(test)]
-mod tests;
 
 pub use declared::Declared;
 pub use layer_order::SheetInput;

@@ -3,57 +3,57 @@
 ghost use Rattle.std.specs.Prelude.{◌≡◌, ◌+◌, ◌<◌, ◌^◌, IfOk, length, vec_len};
 
 use crate::Declared;
-use crate::found::Stand;
+use crate::rule_collector::SheetPosition;
 use layer_order::Origin;
 use stylo_base::NoMemory;
 
-/// A rule of a sheet: its declarations, where its sheet comes from and stands, and the place of its
-/// first declaration among all those of the sheet's text.
+/// A rule of a sheet: its declarations, where its sheet comes from, and how many declarations are kept
+/// before it in the sheet's text.
 #[derive(Drop)]
 pub struct SheetRule {
     declarations: Vec<Declared>,
     origin: Origin,
     sheet: u32,
     position: u32,
-    place: u64,
-    ghost counted: { place + vec_len declarations < 2 ^ 64 },
+    first_index: u64,
+    ghost counted: { first_index + vec_len declarations < 2 ^ 64 },
 }
 
 impl SheetRule {
-    /// A rule of a sheet that stands there. There are fewer than 2^64 declarations in a sheet's
+    /// A rule of the sheet at a position. There are fewer than 2^64 declarations in a sheet's
     /// text: no memory holds more.
     pub(crate) fn new(
         declarations: Vec<Declared>,
         origin: Origin,
-        stand: Stand,
-        place: u64,
+        at: SheetPosition,
+        first_index: u64,
     ) -> Result<SheetRule, NoMemory>
         ensures { IfOk result (λ rule. (rule.declarations ≡ declarations)
-            × ((rule.origin ≡ origin) × ((rule.sheet ≡ stand.number) × ((rule.position ≡ stand.position) × (rule.place ≡ place))))) }
+            × ((rule.origin ≡ origin) × ((rule.sheet ≡ at.number) × ((rule.position ≡ at.position) × (rule.first_index ≡ first_index))))) }
     {
-        if place.checked_add(declarations.len() as u64).is_none() {
+        if first_index.checked_add(declarations.len() as u64).is_none() {
             return Err(NoMemory);
         }
         Ok(SheetRule {
             declarations,
             origin,
-            sheet: stand.number,
-            position: stand.position,
-            place,
+            sheet: at.number,
+            position: at.position,
+            first_index,
         })
     }
 
-    /// The place behind its last declaration.
+    /// The index after its last declaration.
     pub(crate) fn end(&self) -> u64
-        ensures { result ≡ self.now.place + length self.now.declarations.items }
+        ensures { result ≡ self.now.first_index + length self.now.declarations.items }
     {
-        self.place + self.declarations.len() as u64
+        self.first_index + self.declarations.len() as u64
     }
 
     /// Its declarations, in order.
     pub fn declarations(&self) -> &[Declared]
         ensures list { result.now ≡ self.now.declarations.items }
-        ensures counted { self.now.place + length result.now < 2 ^ 64 }
+        ensures counted { self.now.first_index + length result.now < 2 ^ 64 }
     {
         &self.declarations
     }
@@ -72,7 +72,7 @@ impl SheetRule {
         self.sheet
     }
 
-    /// Where its sheet stands among those that take part, from 0.
+    /// The position of its sheet among the enabled ones, from 0.
     pub fn position(&self) -> u32
         ensures { result ≡ self.now.position }
     {
@@ -80,9 +80,9 @@ impl SheetRule {
     }
 
     /// How many declarations are kept before it in its sheet's text.
-    pub fn place(&self) -> u64
-        ensures { result ≡ self.now.place }
+    pub fn first_index(&self) -> u64
+        ensures { result ≡ self.now.first_index }
     {
-        self.place
+        self.first_index
     }
 }

@@ -1,17 +1,18 @@
 -- What the program answers, and what it writes.
-use Rattle.std.specs.Prelude.{◌≡◌, ◌≢◌, ℕ, ◌+◌, ◌≤◌, nat_le, ◌⊎◌, List, [], length, take, Option, Some, None, IfSome, IsSomeAnd, if◌then◌else◌}
+use Rattle.std.specs.Prelude.{◌≡◌, ℕ, ◌+◌, ◌≤◌, nat_le, ◌⊎◌, List, [], length}
+use Rattle.std.specs.Prelude.{Option, Some, None, option_map, IfSome, IsSomeAnd, if◌then◌else◌}
 use Rattle.std.specs.Io.KnownBytes.{Appends}
+use Rattle.base_model.specs.Limits.{input_limit}
 use Rattle.job_json.specs.declared.Job.{Job}
 use Rattle.job_json.specs.JobOf.{Verdict, not_json, bad_shape, good, verdict_of}
 use Rattle.stylo_base.specs.declared.refusal.Kind.TheVariants.{Input}
 use Rattle.style_cli.specs.declared.status.Status.{Status}
-use Rattle.style_cli.specs.declared.status.Status.TheVariants.{Done, ReadFault, Usage, NotJson, NotAJob, Limit, WriteFault, NoMemory}
+use Rattle.style_cli.specs.declared.status.Status.TheVariants.{Done, ReadFault, Usage, NotJson, NotAJob, Limit}
+use Rattle.style_cli.specs.declared.status.Status.TheVariants.{WriteFault, NoMemory}
+use Rattle.style_cli.specs.declared.words.Line.{Line}
+use Rattle.style_cli.specs.declared.words.Line.TheVariants.{Run}
 use Rattle.style_cli.specs.Loops.{GrewByFront}
-use Rattle.style_cli.specs.Text.{HasText}
-
--- how many bytes an input may have
-abbrev pub input_limit : ℕ
-input_limit = 67108864
+use Rattle.style_cli.specs.Text.{text_of}
 
 abbrev pub job_if_good : Verdict → Option Job
 job_if_good not_json = None
@@ -22,9 +23,10 @@ job_if_good (good job) = Some job
 abbrev pub job_in : List ℕ → Option Job
 job_in bytes = if nat_le (length bytes) input_limit then job_if_good (verdict_of bytes) else None
 
--- the bytes of an input are those of a job, some text of which is so
-abbrev pub IsSoOfText : List ℕ → (List ℕ → Type 0) → Type 0
-IsSoOfText bytes IsSo = IsSomeAnd (job_in bytes) (λ job. HasText job IsSo)
+-- The text that is due for a line and an input, if there is one: for a run, that of the input's job.
+abbrev pub due_text : Option Line → List ℕ → Option (List ℕ)
+due_text None bytes = None
+due_text (Some Run) bytes = option_map text_of (job_in bytes)
 
 abbrev pub due_by : Verdict → Status
 due_by not_json = NotJson
@@ -33,7 +35,8 @@ due_by (good job) = Done
 
 -- the status that an input calls for, where nothing fails
 abbrev pub due_status : List ℕ → Status
-due_status bytes = if nat_le (length bytes) input_limit then due_by (verdict_of bytes) else Limit Input input_limit
+due_status bytes =
+    if nat_le (length bytes) input_limit then due_by (verdict_of bytes) else Limit Input input_limit
 
 -- an input, where its bytes are told, was read whole and within the limit, and came to this
 abbrev pub IsReadAs : Option (List ℕ) → Verdict → Type 0
@@ -51,18 +54,20 @@ IsJob left = IfSome left (λ bytes. (job : Job) × (job_in bytes ≡ Some job))
 abbrev pub IsReadToEnd : Option (List ℕ) → Option (List ℕ) → Type 0
 IsReadToEnd old new = IfSome old (λ bytes. new ≡ Some [])
 
--- an output grew by the whole text of an input's job
-abbrev pub IsPrinted : Option (List ℕ) → Option (List ℕ) → Option (List ℕ) → Type 0
-IsPrinted left old new = IfSome left (λ bytes. IsSoOfText bytes (Appends old new))
+-- an output grew by the whole text that is due
+abbrev pub IsPrinted : Option Line → Option (List ℕ) → Option (List ℕ) → Option (List ℕ) → Type 0
+IsPrinted line left old new = IfSome left (λ bytes. IsSomeAnd (due_text line bytes) (Appends old new))
 
 -- it grew by a front of that text
-abbrev pub IsFrontPrinted : Option (List ℕ) → Option (List ℕ) → Option (List ℕ) → Type 0
-IsFrontPrinted left old new = IfSome left (λ bytes. IsSoOfText bytes (GrewByFront old new))
+abbrev pub IsFrontPrinted : Option Line → Option (List ℕ) → Option (List ℕ) → Option (List ℕ) → Type 0
+IsFrontPrinted line left old new = IfSome left (λ bytes. IsSomeAnd (due_text line bytes) (GrewByFront old new))
 
--- Beside what an input calls for there are three answers: want of memory, a fault of the source, and one of the sink, where there is a job.
+-- Besides what an input calls for there are three answers: out of memory, a fault of the source, and one of the sink,
+-- where there is a job.
 abbrev pub IsAnswerTo : List ℕ → Status → Type 0
 IsAnswerTo bytes status =
-    (status ≡ due_status bytes) ⊎ ((status ≡ NoMemory) ⊎ ((status ≡ ReadFault) ⊎ ((status ≡ WriteFault) × (due_status bytes ≡ Done))))
+    (status ≡ due_status bytes)
+    ⊎ ((status ≡ NoMemory) ⊎ ((status ≡ ReadFault) ⊎ ((status ≡ WriteFault) × (due_status bytes ≡ Done))))
 
 -- the statuses that come only before the first line is written
 abbrev pub IsEarly : Status → Type 0
@@ -86,11 +91,12 @@ IsUnread Done = ⊥
 IsUnread Usage = ⊥
 IsUnread WriteFault = ⊥
 
--- what each of them says of an input; nothing of it is the cause of a fault or of want of memory
+-- what each of them says of an input; nothing of it is the cause of a fault or of being out of memory
 abbrev pub IsRefused : Status → List ℕ → Type 0
 IsRefused NotJson bytes = (length bytes ≤ input_limit) × (verdict_of bytes ≡ not_json)
 IsRefused (NotAJob path) bytes = (length bytes ≤ input_limit) × (verdict_of bytes ≡ bad_shape path)
-IsRefused (Limit kind number) bytes = (kind ≡ Input) × ((number ≡ input_limit) × (input_limit + 1 ≤ length bytes))
+IsRefused (Limit kind number) bytes =
+    (kind ≡ Input) × ((number ≡ input_limit) × (input_limit + 1 ≤ length bytes))
 IsRefused status bytes = Unit {0}
 
 -- with these two the input was read to its end

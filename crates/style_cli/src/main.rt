@@ -2,11 +2,8 @@
 //! element to standard output.
 #![tactic(auto)]
 
-pub mod laws;
+mod input;
 mod printing;
-mod reading;
-#[cfg(test)]
-mod sheet_tests;
 mod status;
 #[cfg(test)]
 mod tests;

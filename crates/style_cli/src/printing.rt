@@ -1,16 +1,17 @@
 //! The text of a job, written a line at a time.
 
-ghost use Rattle.std.specs.Prelude.{◌≡◌, ◌≤◌, ◌⊎◌, Err, List, IsErrOf, OnErr, OnOk, encode_utf8_all, length, map};
+ghost use Rattle.std.specs.Prelude.{◌≡◌, ◌≤◌, IsErrOf, OnErr, OnOk, encode_utf8_all, length, map};
 ghost use Rattle.std.specs.List.{flat_map};
 ghost use Rattle.std.specs.Io.KnownBytes.{Appends};
 ghost use Rattle.std.specs.Arc.{arc_value};
+ghost use Rattle.base_model.specs.Limits.{element_limit, sheet_limit};
 ghost use Rattle.io_edges.specs.Cause.{HasCause};
 ghost use Rattle.scene_model.specs.Lookups.{numbers};
-ghost use Rattle.cascade_model.specs.Matching.{PlacedRule};
+ghost use Rattle.sheet_model.specs.Sources.{Sources};
 ghost use Rattle.cascade_model.specs.StyleOf.{style_of};
-ghost use Rattle.sheet_set.specs.Seen.{rules_of};
+ghost use Rattle.sheet_set.specs.View.{sources_seen};
 ghost use Rattle.style_cli.specs.Loops.{GrewByFront};
-ghost use Rattle.style_cli.specs.Text.{HasText, line_at, text_of};
+ghost use Rattle.style_cli.specs.Text.{line_at, text_by, text_of};
 
 use crate::writing::write_all;
 use dom_tree::Doc;
@@ -26,12 +27,10 @@ use stylo_base::Text;
 
 /// Writes the text of a job, each line as soon as it is made.
 pub fn print_job<K: Sink>(alloc: Global, job: &Job, sink: &mut K) -> Result<(), SinkRefused>
-    requires nodes { length job.now.nodes ≤ 65536 }
-    requires sheets { length job.now.sheets ≤ 256 }
-    ensures ok { OnOk result (HasText job.now (Appends (K.held sink.old) (K.held sink.new))) }
-    // Memory may be wanting before the first line is due.
-    ensures err { OnErr result (HasText job.now (GrewByFront (K.held sink.old) (K.held sink.new))
-        ⊎ ((result ≡ Err SinkRefused.NoMemory) × (K.held sink.new ≡ K.held sink.old))) }
+    requires nodes { length job.now.nodes ≤ element_limit }
+    requires sheets { length job.now.sheets ≤ sheet_limit }
+    ensures ok { OnOk result (Appends (K.held sink.old) (K.held sink.new) (text_of job.now)) }
+    ensures err { OnErr result (GrewByFront (K.held sink.old) (K.held sink.new) (text_of job.now)) }
     ensures cause { HasCause (K.faults sink.old) (K.faults sink.new) (IsErrOf result SinkRefused.Failed) }
 {
     let sheets = Sheets::start(alloc, job.sheets.as_slice())?;
@@ -46,8 +45,8 @@ fn print_styled<K: Sink>(
     sheets: &Sheets,
     sink: &mut K,
 ) -> Result<(), SinkRefused>
-    ensures ok { OnOk result (Appends (K.held sink.old) (K.held sink.new) (text_of doc.now (rules_of sheets.now))) }
-    ensures err { OnErr result (GrewByFront (K.held sink.old) (K.held sink.new) (text_of doc.now (rules_of sheets.now))) }
+    ensures ok { OnOk result (Appends (K.held sink.old) (K.held sink.new) (text_by doc.now.elements (sources_seen sheets.now))) }
+    ensures err { OnErr result (GrewByFront (K.held sink.old) (K.held sink.new) (text_by doc.now.elements (sources_seen sheets.now))) }
     ensures cause { HasCause (K.faults sink.old) (K.faults sink.new) (IsErrOf result SinkRefused.Failed) }
 {
     let order = doc.tree_order(alloc)?;
@@ -65,13 +64,13 @@ fn print_elements<K: Sink>(
     styles: &[Arc<Style>],
     sink: &mut K,
 ) -> Result<(), SinkRefused>
-    requires order { order.now ≡ numbers doc.now }
+    requires order { order.now ≡ numbers doc.now.elements }
     requires styles { length styles.now ≡ length order.now }
-    // Where the styles are those by some rules, so are the lines.
-    ensures ok { (rules : List PlacedRule) → map arc_value styles.now ≡ map (style_of doc.now rules) order.now
-        → OnOk result (Appends (K.held sink.old) (K.held sink.new) (flat_map (λ x. encode_utf8_all (line_at doc.now rules x)) order.now)) }
-    ensures err { (rules : List PlacedRule) → map arc_value styles.now ≡ map (style_of doc.now rules) order.now
-        → OnErr result (GrewByFront (K.held sink.old) (K.held sink.new) (flat_map (λ x. encode_utf8_all (line_at doc.now rules x)) order.now)) }
+    // Where the styles are those by some sources, so are the lines.
+    ensures ok { (sources : Sources) → map arc_value styles.now ≡ map (style_of doc.now.elements sources) order.now
+        → OnOk result (Appends (K.held sink.old) (K.held sink.new) (flat_map (λ x. encode_utf8_all (line_at doc.now.elements sources x)) order.now)) }
+    ensures err { (sources : Sources) → map arc_value styles.now ≡ map (style_of doc.now.elements sources) order.now
+        → OnErr result (GrewByFront (K.held sink.old) (K.held sink.new) (flat_map (λ x. encode_utf8_all (line_at doc.now.elements sources x)) order.now)) }
     ensures cause { HasCause (K.faults sink.old) (K.faults sink.new) (IsErrOf result SinkRefused.Failed) }
 {
     for index in 0..order.len() {

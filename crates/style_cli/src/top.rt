@@ -5,11 +5,12 @@ ghost use Rattle.io_edges.specs.Cause.{HasCause, Rose};
 ghost use Rattle.stylo_base.specs.declared.refusal.Kind.{Kind};
 ghost use Rattle.job_json.specs.JobOf.{not_json, bad_shape};
 ghost use Rattle.style_cli.specs.Words.{line_of};
-ghost use Rattle.style_cli.specs.Answer.{IsReadAs, IsTooLong, IsJob, IsPrinted, IsFrontPrinted, IsReadToEnd, IsAnswerTo, IsEarly, IsUnread, IsRefused, IsTold, input_limit, job_in};
+ghost use Rattle.style_cli.specs.Answer.{IsReadAs, IsTooLong, IsJob, IsPrinted, IsFrontPrinted, IsReadToEnd, IsAnswerTo, IsEarly, IsUnread, IsRefused, IsTold, job_in};
+ghost use Rattle.base_model.specs.Limits.{element_limit, input_limit, sheet_limit};
 ghost use Rattle.style_cli.specs.Loops.{LosesAtMost, LosesFront};
 
 use crate::printing::print_job;
-use crate::reading::{INPUT_LIMIT, Stop, read_all};
+use crate::input::{Stop, read_all};
 use crate::status::Status;
 use crate::words::read_line;
 use io_edges::{Sink, SinkRefused, Source};
@@ -17,6 +18,7 @@ use job_json::{Job, JobFault};
 use std::alloc::Global;
 use std::thread::Threads;
 use stylo_base::Kind;
+use stylo_base::limits::INPUT_LIMIT;
 
 /// Reads the job that `source` has left, and writes each element's style to `sink`.
 ///
@@ -34,12 +36,12 @@ pub fn run<R: Threads + Sync, S: Source, K: Sink>(
     ensures usage { (result ≡ Status.Usage) ↔ (line_of (map string_bytes words.items) ≡ None) }
     ensures unread { result ≡ Status.Usage → S.left source.new ≡ S.left source.old }
 
-    // A fault of reading or writing is told only where the counts of faults rose in this call.
+    // A fault of reading or writing is answered only where the counts of faults rose in this call.
     ensures read_fault { result ≡ Status.ReadFault → Rose (S.faults source.old) (S.faults source.new)
         × LosesAtMost input_limit (S.left source.old) (S.left source.new) }
     ensures write_fault { result ≡ Status.WriteFault → Rose (K.faults sink.old) (K.faults sink.new) }
 
-    // The other refusals are told by the input alone.
+    // The other refusals come from the input alone.
     ensures not_json { result ≡ Status.NotJson → IsReadAs (S.left source.old) not_json
         × IsReadToEnd (S.left source.old) (S.left source.new) }
     ensures not_a_job { (path : List ℕ) → result ≡ Status.NotAJob path
@@ -59,13 +61,13 @@ pub fn run<R: Threads + Sync, S: Source, K: Sink>(
 
     // With Done the sink holds what it held before and then exactly the job's text, and the input
     // was read to its end.
-    ensures done { result ≡ Status.Done → IsPrinted (S.left source.old) (K.held sink.old) (K.held sink.new)
+    ensures done { result ≡ Status.Done → IsPrinted (line_of (map string_bytes words.items)) (S.left source.old) (K.held sink.old) (K.held sink.new)
         × IsReadToEnd (S.left source.old) (S.left source.new) }
 
-    // After a failed write it holds a front of that text, and where memory is wanting such a front
+    // After a failed write it holds a front of that text, and where it is out of memory such a front
     // or what it held before.
-    ensures front { result ≡ Status.WriteFault → IsFrontPrinted (S.left source.old) (K.held sink.old) (K.held sink.new) }
-    ensures no_memory { result ≡ Status.NoMemory → IsFrontPrinted (S.left source.old) (K.held sink.old) (K.held sink.new)
+    ensures front { result ≡ Status.WriteFault → IsFrontPrinted (line_of (map string_bytes words.items)) (S.left source.old) (K.held sink.old) (K.held sink.new) }
+    ensures no_memory { result ≡ Status.NoMemory → IsFrontPrinted (line_of (map string_bytes words.items)) (S.left source.old) (K.held sink.old) (K.held sink.new)
         ⊎ (K.held sink.new ≡ K.held sink.old) }
     ensures kept { IsEarly result → K.held sink.new ≡ K.held sink.old }
 
@@ -94,8 +96,8 @@ pub fn run<R: Threads + Sync, S: Source, K: Sink>(
 fn read_job<S: Source>(alloc: Global, source: &mut S) -> Result<Job, Status>
     ensures job { IfOk result (λ job. IfSome (S.left source.old) (λ bytes. job_in bytes ≡ Some job)) }
     ensures end { OnOk result (IsReadToEnd (S.left source.old) (S.left source.new)) }
-    ensures fits { IfOk result (λ job. length job.nodes ≤ 65536) }
-    ensures few { IfOk result (λ job. length job.sheets ≤ 256) }
+    ensures fits { IfOk result (λ job. length job.nodes ≤ element_limit) }
+    ensures few { IfOk result (λ job. length job.sheets ≤ sheet_limit) }
     ensures unread { IfErr result IsUnread }
     ensures refused { IfErr result (λ status. IfSome (S.left source.old) (IsRefused status)) }
     ensures told { IfErr result (λ status. IsTold status (S.left source.old) (S.left source.new)) }

@@ -2,13 +2,12 @@
 
 ghost use Rattle.std.specs.Prelude.{◌+◌, ◌≤◌, length, IfOk, IsErrOf};
 ghost use Rattle.io_edges.specs.Cause.{HasCause};
+ghost use Rattle.base_model.specs.Limits.{input_limit};
 ghost use Rattle.style_cli.specs.Loops.{IsReadWhole, LosesFront, LosesAtMost};
 
 use io_edges::{Failed, Source};
 use std::alloc::{AllocError, Global};
-
-/// The most bytes of an input.
-pub const INPUT_LIMIT: usize = 67_108_864;
+use stylo_base::limits::INPUT_LIMIT;
 
 /// The most bytes of one read.
 const PIECE: usize = 4096;
@@ -20,13 +19,13 @@ pub enum Stop {
     Fault,
     /// The input is longer than the limit.
     TooLong,
-    /// There was no memory.
+    /// It is out of memory.
     NoMemory,
 }
 
 impl From<Failed> for Stop {
     ghost use Rattle.std.specs.Prelude.{◌≡◌};
-    ghost use Rattle.style_cli.specs.declared.reading.Stop.TheVariants.{Fault};
+    ghost use Rattle.style_cli.specs.declared.input.Stop.TheVariants.{Fault};
 
     ghost from_gives = { λ _ e. e ≡ Fault };
 
@@ -37,7 +36,7 @@ impl From<Failed> for Stop {
 
 impl From<AllocError> for Stop {
     ghost use Rattle.std.specs.Prelude.{◌≡◌};
-    ghost use Rattle.style_cli.specs.declared.reading.Stop.TheVariants.{NoMemory};
+    ghost use Rattle.style_cli.specs.declared.input.Stop.TheVariants.{NoMemory};
 
     ghost from_gives = { λ _ e. e ≡ NoMemory };
 
@@ -50,10 +49,10 @@ impl From<AllocError> for Stop {
 /// past the limit.
 pub fn read_all<S: Source>(alloc: Global, source: &mut S) -> Result<Vec<u8>, Stop>
     ensures whole { IfOk result (λ bytes. IsReadWhole (S.left source.old) (S.left source.new) bytes.items) }
-    ensures fits { IfOk result (λ bytes. length bytes.items ≤ INPUT_LIMIT) }
-    ensures too_long { IsErrOf result Stop.TooLong → LosesFront (INPUT_LIMIT + 1) (S.left source.old) (S.left source.new) }
-    ensures most { LosesAtMost (INPUT_LIMIT + 1) (S.left source.old) (S.left source.new) }
-    ensures fault { IsErrOf result Stop.Fault → LosesAtMost INPUT_LIMIT (S.left source.old) (S.left source.new) }
+    ensures fits { IfOk result (λ bytes. length bytes.items ≤ input_limit) }
+    ensures too_long { IsErrOf result Stop.TooLong → LosesFront (input_limit + 1) (S.left source.old) (S.left source.new) }
+    ensures most { LosesAtMost (input_limit + 1) (S.left source.old) (S.left source.new) }
+    ensures fault { IsErrOf result Stop.Fault → LosesAtMost input_limit (S.left source.old) (S.left source.new) }
     ensures cause { HasCause (S.faults source.old) (S.faults source.new) (IsErrOf result Stop.Fault) }
 {
     let mut found = Vec::new(alloc);

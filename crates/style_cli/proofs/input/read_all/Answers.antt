@@ -1,6 +1,6 @@
 use Rattle.std.proofs.Common.{ℕ, ◌+◌, length, arith, length-take, length-drop}
 use Rattle.style_cli.proofs.Told.{LosesFront-read}
-use Rattle.style_cli.proofs.reading.read_all.Goals as goal
+use Rattle.style_cli.proofs.input.read_all.Goals as goal
 
 pub returns-then-count-len-clause-too_long : goal.returns-then-count-len-clause-too_long
 returns-then-count-len-clause-too_long g c = λ _. LosesFront-read _ _ _ c.reading.found.items c.read.new.buf c.in_ok-count.count _
