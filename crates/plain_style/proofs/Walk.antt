@@ -12,27 +12,28 @@ use Rattle.scene_model.proofs.Found.{is_element-numbers}
 use Rattle.scene_model.proofs.ParentBefore.{parent_before}
 use Rattle.value_model.specs.Style.{Style, initial_style}
 use Rattle.cascade_model.specs.Key.{Matched}
-use Rattle.cascade_model.specs.Matching.{PlacedRule, matching}
+use Rattle.sheet_model.specs.Sources.{Sources}
+use Rattle.cascade_model.specs.Matching.{matching}
 use Rattle.cascade_model.specs.Cascade.{cascaded}
 use Rattle.cascade_model.specs.StyleOf.{style_of}
 use Rattle.cascade_model.proofs.StyleAlong.{style_of-child, style_of-root}
 
-pub over_none : {A E : Type 0} (value : A → Matched) (items : List A) (doc : List Element) (rules : List PlacedRule) (x : ℕ) (first : Style) (result : Result Style E) → IsValid doc → parent_of doc x ≡ None
-    → first ≡ initial_style → map value items ≡ matching doc rules x → IfOk result (λ style. style ≡ cascaded true first (map value (items ++ []))) → IfOk result (λ style. style ≡ style_of doc rules x)
-over_none value items doc rules x first (Err e) valid none initial matched made = tt
-over_none value items doc rules x first (Ok style) valid none initial matched made =
-    made ∙ ap (λ s. cascaded true s (map value (items ++ []))) initial ∙ ap (λ l. cascaded true initial_style (map value l)) (append-nil items) ∙ ap (cascaded true initial_style) matched ∙ sym (style_of-root doc rules valid x none)
+pub over_none : {A E : Type 0} (value : A → Matched) (items : List A) (doc : List Element) (sources : Sources) (x : ℕ) (first : Style) (result : Result Style E) → IsValid doc → parent_of doc x ≡ None
+    → first ≡ initial_style → map value items ≡ matching doc sources x → IfOk result (λ style. style ≡ cascaded true first (map value (items ++ []))) → IfOk result (λ style. style ≡ style_of doc sources x)
+over_none value items doc sources x first (Err e) valid none initial matched made = tt
+over_none value items doc sources x first (Ok style) valid none initial matched made =
+    made ∙ ap (λ s. cascaded true s (map value (items ++ []))) initial ∙ ap (λ l. cascaded true initial_style (map value l)) (append-nil items) ∙ ap (cascaded true initial_style) matched ∙ sym (style_of-root doc sources valid x none)
 
 same_in : (a b : Style) → ◌≡◌ {A = Option Style} (Some a) (Some b) → a ≡ b
 same_in a b e = cc
 
-pub over_parent : {A E : Type 0} (value : A → Matched) (items : List A) (doc : List Element) (rules : List PlacedRule) (x p : ℕ) (known : Option Style) (over : Style) (result : Result Style E) → IsValid doc → parent_of doc x ≡ Some p
-    → known ≡ Some (style_of doc rules p) → known ≡ Some over → map value items ≡ matching doc rules x → IfOk result (λ style. style ≡ cascaded false over (map value (items ++ []))) → IfOk result (λ style. style ≡ style_of doc rules x)
-over_parent value items doc rules x p known over (Err e) valid parent is found matched made = tt
-over_parent value items doc rules x p known over (Ok style) valid parent is found matched made =
-    made ∙ ap (λ s. cascaded false s (map value (items ++ []))) (same_in over (style_of doc rules p) (sym found ∙ is)) ∙ ap (λ l. cascaded false (style_of doc rules p) (map value l)) (append-nil items) ∙ ap (cascaded false (style_of doc rules p)) matched ∙ sym (style_of-child doc rules valid x p parent)
+pub over_parent : {A E : Type 0} (value : A → Matched) (items : List A) (doc : List Element) (sources : Sources) (x p : ℕ) (known : Option Style) (over : Style) (result : Result Style E) → IsValid doc → parent_of doc x ≡ Some p
+    → known ≡ Some (style_of doc sources p) → known ≡ Some over → map value items ≡ matching doc sources x → IfOk result (λ style. style ≡ cascaded false over (map value (items ++ []))) → IfOk result (λ style. style ≡ style_of doc sources x)
+over_parent value items doc sources x p known over (Err e) valid parent is found matched made = tt
+over_parent value items doc sources x p known over (Ok style) valid parent is found matched made =
+    made ∙ ap (λ s. cascaded false s (map value (items ++ []))) (same_in over (style_of doc sources p) (sym found ∙ is)) ∙ ap (λ l. cascaded false (style_of doc sources p) (map value l)) (append-nil items) ∙ ap (cascaded false (style_of doc sources p)) matched ∙ sym (style_of-child doc sources valid x p parent)
 
--- the numbers in tree order, round the k-th
+-- the numbers in tree order, around the k-th
 split_order : (doc : List Element) (order : List ℕ) (k : ℕ) → order ≡ numbers doc → k < length order → numbers doc ≡ take k order ++ get_or order k 0 ∷ drop (k + 1) order
 split_order doc order k e below =
     sym e ∙ sym (take-append-drop k order) ∙ ap (λ l. take k order ++ l) (drop-cons order k 0 below ∙ ap (λ m. get_or order k 0 ∷ drop m order) (sym (add-one k)))

@@ -3,9 +3,9 @@ use Rattle.std.specs.Prelude.{◌≡◌, ℕ, List, Option, Some}
 use Rattle.scene_model.specs.Element.{Element}
 use Rattle.scene_model.specs.Lookups.{parent_of}
 use Rattle.value_model.specs.Style.{Style}
-use Rattle.cascade_model.specs.Matching.{PlacedRule}
+use Rattle.sheet_model.specs.Sources.{Sources}
 use Rattle.cascade_model.specs.StyleOf.{style_of}
 
 -- the style of the element's parent, if it has one, is known
-abbrev pub KnowsParent : List Element → List PlacedRule → (ℕ → Option Style) → ℕ → Type 0
-KnowsParent doc rules known x = (p : ℕ) → parent_of doc x ≡ Some p → known p ≡ Some (style_of doc rules p)
+abbrev pub KnowsParent : List Element → Sources → (ℕ → Option Style) → ℕ → Type 0
+KnowsParent doc sources known x = (p : ℕ) → parent_of doc x ≡ Some p → known p ≡ Some (style_of doc sources p)

@@ -4,9 +4,9 @@ ghost use Rattle.std.specs.Prelude.{◌≡◌, ◌++◌, [], None, IfOk, OnOk, m
 ghost use Rattle.scene_model.specs.Lookups.{IsElement};
 ghost use Rattle.selector_model.specs.Holds.{holds};
 ghost use Rattle.cascade_model.specs.Matching.{all_matched, greatest_by, matching};
-ghost use Rattle.cascade_core.specs.Matches.{matched_of};
-ghost use Rattle.selector_types.specs.Outer.{selectors_of};
-ghost use Rattle.sheet_set.specs.Seen.{declared_of, rule_of, rules_of};
+ghost use Rattle.cascade_core.specs.View.{matched_of};
+ghost use Rattle.selector_types.specs.View.{selector_of};
+ghost use Rattle.sheet_set.specs.View.{declared_of, rule_of, sources_seen};
 
 use cascade_core::Matched;
 use dom_tree::Doc;
@@ -23,8 +23,8 @@ pub fn match_element(
     sheets: &Sheets,
     x: u32,
 ) -> Result<Vec<Matched>, NoMemory>
-    requires { IsElement doc.now x }
-    ensures { IfOk result (λ list. map matched_of list.items ≡ matching doc.now (rules_of sheets.now) x) }
+    requires { IsElement doc.now.elements x }
+    ensures { IfOk result (λ list. map matched_of list.items ≡ matching doc.now.elements (sources_seen sheets.now) x) }
 {
     let rules = sheets.rules();
     let selectors = sheets.selectors();
@@ -32,7 +32,7 @@ pub fn match_element(
     for index in 0..rules.len() {
         let rule = &rules[index];
         if let Some(specificity) = greatest(doc, &selectors[index], x) {
-            put_declarations(&mut list, rule, specificity)?;
+            add_declarations(&mut list, rule, specificity)?;
         }
     }
     Ok(list)
@@ -40,8 +40,8 @@ pub fn match_element(
 
 /// The greatest specificity of the selectors that hold at `x`, if some does.
 fn greatest(doc: &Doc, selectors: &[Selector], x: u32) -> Option<Specificity>
-    requires { IsElement doc.now x }
-    ensures { result ≡ greatest_by (λ selector. holds doc.now selector x) None (selectors_of selectors.now) }
+    requires { IsElement doc.now.elements x }
+    ensures { result ≡ greatest_by (λ selector. holds doc.now.elements selector x) None (map selector_of selectors.now) }
 {
     let mut best: Option<Specificity> = None;
     for selector in selectors {
@@ -56,16 +56,16 @@ fn greatest(doc: &Doc, selectors: &[Selector], x: u32) -> Option<Specificity>
     best
 }
 
-/// Puts the declarations of a rule behind the list.
-fn put_declarations(
+/// Adds the declarations of a rule.
+fn add_declarations(
     list: &mut Vec<Matched>,
     rule: &SheetRule,
     specificity: Specificity,
 ) -> Result<(), NoMemory>
     ensures { OnOk result (map matched_of list.new.items ≡ map matched_of list.old.items
-        ++ all_matched (rule_of rule.now []) specificity rule.now.place (map declared_of rule.now.declarations.items)) }
+        ++ all_matched (rule_of rule.now []) specificity rule.now.first_index (map declared_of rule.now.declarations.items)) }
 {
-    let mut place = rule.place();
+    let mut index = rule.first_index();
     for declared in rule.declarations() {
         list.push(Matched {
             property: declared.property,
@@ -77,9 +77,9 @@ fn put_declarations(
             specificity,
             sheet: rule.sheet(),
             position: rule.position(),
-            place,
+            index,
         })?;
-        place += 1;
+        index += 1;
     }
     Ok(())
 }

@@ -5,7 +5,7 @@ ghost use Rattle.std.specs.HashMap.{get};
 ghost use Rattle.std.specs.Arc.{arc_value};
 ghost use Rattle.scene_model.specs.Lookups.{IsElement, numbers};
 ghost use Rattle.cascade_model.specs.StyleOf.{style_of};
-ghost use Rattle.sheet_set.specs.Seen.{rules_of};
+ghost use Rattle.sheet_set.specs.View.{sources_seen};
 ghost use Rattle.plain_style.specs.Known.{KnowsParent};
 
 use crate::matching::match_element;
@@ -23,7 +23,7 @@ type Known = HashMap<u32, Arc<Style>>;
 
 /// The styles of all elements, in tree order.
 pub fn style_all(alloc: Global, doc: &Doc, sheets: &Sheets) -> Result<Vec<Arc<Style>>, NoMemory>
-    ensures { IfOk result (λ styles. map arc_value styles.items ≡ map (style_of doc.now (rules_of sheets.now)) (numbers doc.now)) }
+    ensures { IfOk result (λ styles. map arc_value styles.items ≡ map (style_of doc.now.elements (sources_seen sheets.now)) (numbers doc.now.elements)) }
 {
     let order = doc.tree_order(alloc)?;
     let mut styles = Vec::with_capacity(alloc, order.len())?;
@@ -44,9 +44,9 @@ fn style_over(
     number: u32,
     known: &Known,
 ) -> Result<Style, NoMemory>
-    requires element { IsElement doc.now number }
-    requires parent { KnowsParent doc.now (rules_of sheets.now) (λ q. option_map arc_value (get nat_eq known.now q)) number }
-    ensures { IfOk result (λ style. style ≡ style_of doc.now (rules_of sheets.now) number) }
+    requires element { IsElement doc.now.elements number }
+    requires parent { KnowsParent doc.now.elements (sources_seen sheets.now) (λ q. option_map arc_value (get nat_eq known.now q)) number }
+    ensures { IfOk result (λ style. style ≡ style_of doc.now.elements (sources_seen sheets.now) number) }
 {
     let matched = match_element(alloc, doc, sheets, number)?;
     let Some(parent) = doc.parent(number) else {

@@ -7,24 +7,24 @@ use Rattle.std.proofs.lemmas.List.{length-map}
 use Rattle.scene_model.specs.Element.{Element}
 use Rattle.scene_model.specs.Lookups.{numbers, tag_of}
 use Rattle.value_model.specs.Style.{Style}
-use Rattle.cascade_model.specs.Matching.{PlacedRule}
+use Rattle.sheet_model.specs.Sources.{Sources}
 use Rattle.cascade_model.specs.StyleOf.{style_of}
 use Rattle.report_text.specs.Lines.{batch_line, element_line}
 use Rattle.style_cli.specs.Loops.{GrewByFront}
-use Rattle.style_cli.specs.Text.{line_at, text_of}
+use Rattle.style_cli.specs.Text.{line_at, text_by}
 use Rattle.std.proofs.KnownBytes.{Appends-nil, Appends-trans}
 use Rattle.style_cli.proofs.Fronts.{front_after}
 
 -- an element's line in UTF-8
-abbrev pub line_bytes : List Element → List PlacedRule → ℕ → List ℕ
-line_bytes doc rules x = encode_utf8_all (line_at doc rules x)
+abbrev pub line_bytes : List Element → Sources → ℕ → List ℕ
+line_bytes doc sources x = encode_utf8_all (line_at doc sources x)
 
 pub on_err : {T E : Type 0} (r : Result T E) (P : Type 0) → P → OnErr r P
 on_err (Ok x) P p = tt
 on_err (Err e) P p = p
 
-pub line_is : (doc : List Element) (rules : List PlacedRule) (x : ℕ) (line tag : List ℕ) (style : Style) → line ≡ element_line x tag style → tag ≡ tag_of doc x → style ≡ style_of doc rules x → encode_utf8_all line ≡ line_bytes doc rules x
-line_is doc rules x line tag style made named styled =
+pub line_is : (doc : List Element) (sources : Sources) (x : ℕ) (line tag : List ℕ) (style : Style) → line ≡ element_line x tag style → tag ≡ tag_of doc x → style ≡ style_of doc sources x → encode_utf8_all line ≡ line_bytes doc sources x
+line_is doc sources x line tag style made named styled =
     ap encode_utf8_all (made ∙ ap (λ t. element_line x t style) named ∙ ap (element_line x (tag_of doc x)) styled)
 
 -- two lists that are alike by place
@@ -40,16 +40,16 @@ flat_map-map : {X Y : Type 0} (f : Y → List ℕ) (g : X → Y) (xs : List X) �
 flat_map-map f g [] = refl
 flat_map-map f g (x ∷ xs) = ap (λ l. f (g x) ++ l) (flat_map-map f g xs)
 
-text_as : (doc : List Element) (rules : List PlacedRule) → text_of doc rules ≡ encode_utf8_all (batch_line 0 0 0 (length doc) (length doc)) ++ flat_map (line_bytes doc rules) (numbers doc)
-unfolding text_of
-text_as doc rules =
-    ap (λ l. encode_utf8_all (batch_line 0 0 0 (length doc) (length doc)) ++ l) (flat_map-map encode_utf8_all (line_at doc rules) (numbers doc))
+text_as : (doc : List Element) (sources : Sources) → text_by doc sources ≡ encode_utf8_all (batch_line 0 0 0 (length doc) (length doc)) ++ flat_map (line_bytes doc sources) (numbers doc)
+unfolding text_by
+text_as doc sources =
+    ap (λ l. encode_utf8_all (batch_line 0 0 0 (length doc) (length doc)) ++ l) (flat_map-map encode_utf8_all (line_at doc sources) (numbers doc))
 
 -- the text is the line of the batch and the lines of the elements
-pub text_is : (doc : List Element) (rules : List PlacedRule) (order line : List ℕ) (count : ℕ) → order ≡ numbers doc → count ≡ length order → line ≡ batch_line 0 0 0 count count → text_of doc rules ≡ encode_utf8_all line ++ flat_map (line_bytes doc rules) order
-text_is doc rules order line count is many made =
+pub text_is : (doc : List Element) (sources : Sources) (order line : List ℕ) (count : ℕ) → order ≡ numbers doc → count ≡ length order → line ≡ batch_line 0 0 0 count count → text_by doc sources ≡ encode_utf8_all line ++ flat_map (line_bytes doc sources) order
+text_is doc sources order line count is many made =
     let size : count ≡ length doc = many ∙ ap length is ∙ simp length-map in
-    text_as doc rules ∙ ap (λ n. encode_utf8_all (batch_line 0 0 0 n n) ++ flat_map (line_bytes doc rules) (numbers doc)) (sym size) ∙ ap (λ l. encode_utf8_all l ++ flat_map (line_bytes doc rules) (numbers doc)) (sym made) ∙ ap (λ l. encode_utf8_all line ++ flat_map (line_bytes doc rules) l) (sym is)
+    text_as doc sources ∙ ap (λ n. encode_utf8_all (batch_line 0 0 0 n n) ++ flat_map (line_bytes doc sources) (numbers doc)) (sym size) ∙ ap (λ l. encode_utf8_all l ++ flat_map (line_bytes doc sources) (numbers doc)) (sym made) ∙ ap (λ l. encode_utf8_all line ++ flat_map (line_bytes doc sources) l) (sym is)
 
 -- a front of the first piece is a front of the whole
 pub front_first : (a b : Option (List ℕ)) (first rest whole : List ℕ) → whole ≡ first ++ rest → GrewByFront a b first → GrewByFront a b whole

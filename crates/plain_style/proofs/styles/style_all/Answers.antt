@@ -3,22 +3,22 @@ use Rattle.std.specs.Prelude.{option_map}
 use Rattle.std.specs.HashMap.{get}
 use Rattle.std.specs.Arc.{arc_value}
 use Rattle.cascade_model.specs.StyleOf.{style_of}
-use Rattle.sheet_set.specs.Seen.{rules_of}
+use Rattle.sheet_set.specs.View.{sources_seen}
 use Rattle.plain_style.proofs.Walk.{element_in_order, parent_in_order, styled_more, known_more}
 use Rattle.plain_style.proofs.styles.style_all.Goals as goal
 
 pub style_over-requires-clause-element : goal.style_over-requires-clause-element
 style_over-requires-clause-element c =
-    element_in_order c.args.doc.now c.deref-number-items.result.now c.loop-number.number-index (search rules) (search rules)
+    element_in_order c.args.doc.now.elements c.deref-number-items.result.now c.loop-number.number-index (search rules) (search rules)
 
 pub style_over-requires-clause-parent : goal.style_over-requires-clause-parent
 style_over-requires-clause-parent c =
-    λ p is. c.loop-number.invariant.known p (parent_in_order c.args.doc.now c.deref-number-items.result.now c.loop-number.number-index p c.tree_order.ensures.valid (search rules) (search rules) is)
+    λ p is. c.loop-number.invariant.known p (parent_in_order c.args.doc.now.elements c.deref-number-items.result.now c.loop-number.number-index p c.tree_order.ensures.valid (search rules) (search rules) is)
 
 pub loop-number-preserved : goal.loop-number-preserved
 loop-number-preserved c =
-    let doc = c.args.doc.now in
-    let placed = rules_of c.args.sheets.now in
+    let doc = c.args.doc.now.elements in
+    let placed = sources_seen c.args.sheets.now in
     let order = c.deref-number-items.result.now in
     let k = c.loop-number.number-index in
     let x = get_or order k 0 in

@@ -12,18 +12,18 @@ use Rattle.style_cli.proofs.Printed.{on_err, line_is, alike_at, line_bytes}
 use Rattle.style_cli.proofs.printing.print_elements.Goals as goal
 
 pub tag-requires : goal.tag-requires
-tag-requires g c = element_in_order c.args.doc.now c.args.order.now c.loop-index.index c.requires.order (search rules)
+tag-requires g c = element_in_order c.args.doc.now.elements c.args.order.now c.loop-index.index c.requires.order (search rules)
 
 pub returns-in_err-line-clause-err : goal.returns-in_err-line-clause-err
 returns-in_err-line-clause-err g c = λ placed styled.
-    let bytes = line_bytes c.args.doc.now placed in
+    let bytes = line_bytes c.args.doc.now.elements placed in
     let order = c.args.order.now in
     let k = c.loop-index.index in
     on_err c.from_residual.result _ (front_itself _ _ (flat_map bytes (take k order)) (flat_map bytes (drop k order)) (flat_map bytes order) (flat_rest bytes order k) (c.loop-index.invariant.written placed styled))
 
 pub returns-in_err-write_line-clause-err : goal.returns-in_err-write_line-clause-err
 returns-in_err-write_line-clause-err g c = λ placed styled.
-    let doc = c.args.doc.now in
+    let doc = c.args.doc.now.elements in
     let bytes = line_bytes doc placed in
     let order = c.args.order.now in
     let k = c.loop-index.index in
@@ -38,7 +38,7 @@ pub loop-index-preserved : goal.loop-index-preserved
 loop-index-preserved g c = record {
   later = search rules;
   written = λ placed styled.
-      let doc = c.args.doc.now in
+      let doc = c.args.doc.now.elements in
       let bytes = line_bytes doc placed in
       let order = c.args.order.now in
       let k = c.loop-index.index in
