@@ -1,0 +1,7 @@
+//! Tests that cross libraries: what is kept of sheets, and the style of every element.
+#![tactic(auto)]
+
+#[cfg(test)]
+mod sheets;
+#[cfg(test)]
+mod styles;

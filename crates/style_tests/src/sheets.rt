@@ -1,0 +1,67 @@
+//! What is kept of sheets.
+
+use layer_order::Origin;
+use property_table::{Keyword, PropId, Value};
+use sheet_set::{Declared, SheetInput, Sheets};
+use std::alloc::Global;
+use std::test::Fail;
+use stylo_base::Text;
+
+/// The sheets of a document with one author sheet.
+fn author(alloc: Global, text: &str) -> Result<Sheets, Fail> {
+    let sheet = SheetInput {
+        origin: Origin::Author,
+        enabled: true,
+        text: Text::of_str(alloc, text)?,
+    };
+    Ok(Sheets::start(alloc, &[sheet])?)
+}
+
+#[test]
+fn one_rule(rt: HostRuntime) -> Result<(), Fail> {
+    let sheets = author(rt.alloc(), "p,.a{color:red;colour:x;clear:both}")?;
+    let counts: (usize, usize) = match (sheets.rules(), sheets.selectors()) {
+        ([rule], [selectors]) => (selectors.len(), rule.declarations().len()),
+        _ => (0, 0),
+    };
+    assert_eq!(rt; counts, (2, 2));
+    Ok(())
+}
+
+#[test]
+fn a_declaration(rt: HostRuntime) -> Result<(), Fail> {
+    let sheets = author(rt.alloc(), "p{display:Inline-Block}")?;
+    let first = match sheets.rules() {
+        [rule] => rule.declarations().first().copied(),
+        _ => None,
+    };
+    let wanted = Declared {
+        property: PropId::Display,
+        value: Value::Keyword(Keyword::InlineBlock),
+        important: false,
+    };
+    assert_eq!(rt; first, Some(wanted));
+    Ok(())
+}
+
+#[test]
+fn a_rule_of_the_second_sheet(rt: HostRuntime) -> Result<(), Fail> {
+    let alloc = rt.alloc();
+    let disabled = SheetInput {
+        origin: Origin::User,
+        enabled: false,
+        text: Text::of_str(alloc, "p{}")?,
+    };
+    let enabled = SheetInput {
+        origin: Origin::User,
+        enabled: true,
+        text: Text::of_str(alloc, "p{clear:left}p{}")?,
+    };
+    let sheets = Sheets::start(alloc, &[disabled, enabled])?;
+    let last = match sheets.rules() {
+        [_, rule] => Some((rule.origin(), rule.sheet(), rule.position(), rule.first_index())),
+        _ => None,
+    };
+    assert_eq!(rt; last, Some((Origin::User, 2, 0, 1)));
+    Ok(())
+}
