@@ -24,7 +24,8 @@ pub fn match_element(
     x: u32,
 ) -> Result<Vec<Matched>, NoMemory>
     requires { IsElement doc.now.elements x }
-    ensures { IfOk result (λ list. map matched_of list.items ≡ matching doc.now.elements (sources_seen sheets.now) x) }
+    ensures { IfOk result (λ list.
+        map matched_of list.items ≡ matching doc.now.elements (sources_seen sheets.now) x) }
 {
     let rules = sheets.rules();
     let selectors = sheets.selectors();
@@ -41,7 +42,8 @@ pub fn match_element(
 /// The greatest specificity of the selectors that hold at `x`, if some does.
 fn greatest(doc: &Doc, selectors: &[Selector], x: u32) -> Option<Specificity>
     requires { IsElement doc.now.elements x }
-    ensures { result ≡ greatest_by (λ selector. holds doc.now.elements selector x) None (map selector_of selectors.now) }
+    ensures { result ≡ greatest_by (λ selector. holds doc.now.elements selector x) None
+        (map selector_of selectors.now) }
 {
     let mut best: Option<Specificity> = None;
     for selector in selectors {
@@ -63,7 +65,8 @@ fn add_declarations(
     specificity: Specificity,
 ) -> Result<(), NoMemory>
     ensures { OnOk result (map matched_of list.new.items ≡ map matched_of list.old.items
-        ++ all_matched (rule_of rule.now []) specificity rule.now.first_index (map declared_of rule.now.declarations.items)) }
+        ++ all_matched (rule_of rule.now []) specificity rule.now.first_index
+            (map declared_of rule.now.declarations.items)) }
 {
     let mut index = rule.first_index();
     for declared in rule.declarations() {

@@ -23,7 +23,8 @@ type Known = HashMap<u32, Arc<Style>>;
 
 /// The styles of all elements, in tree order.
 pub fn style_all(alloc: Global, doc: &Doc, sheets: &Sheets) -> Result<Vec<Arc<Style>>, NoMemory>
-    ensures { IfOk result (λ styles. map arc_value styles.items ≡ map (style_of doc.now.elements (sources_seen sheets.now)) (numbers doc.now.elements)) }
+    ensures { IfOk result (λ styles. map arc_value styles.items
+        ≡ map (style_of doc.now.elements (sources_seen sheets.now)) (numbers doc.now.elements)) }
 {
     let order = doc.tree_order(alloc)?;
     let mut styles = Vec::with_capacity(alloc, order.len())?;
@@ -45,7 +46,8 @@ fn style_over(
     known: &Known,
 ) -> Result<Style, NoMemory>
     requires element { IsElement doc.now.elements number }
-    requires parent { KnowsParent doc.now.elements (sources_seen sheets.now) (λ q. option_map arc_value (get nat_eq known.now q)) number }
+    requires parent { KnowsParent doc.now.elements (sources_seen sheets.now)
+        (λ q. option_map arc_value (get nat_eq known.now q)) number }
     ensures { IfOk result (λ style. style ≡ style_of doc.now.elements (sources_seen sheets.now) number) }
 {
     let matched = match_element(alloc, doc, sheets, number)?;

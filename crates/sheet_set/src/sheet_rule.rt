@@ -28,8 +28,9 @@ impl SheetRule {
         at: SheetPosition,
         first_index: u64,
     ) -> Result<SheetRule, NoMemory>
-        ensures { IfOk result (λ rule. (rule.declarations ≡ declarations)
-            × ((rule.origin ≡ origin) × ((rule.sheet ≡ at.number) × ((rule.position ≡ at.position) × (rule.first_index ≡ first_index))))) }
+        ensures { IfOk result (λ rule. (rule.declarations ≡ declarations) × ((rule.origin ≡ origin)
+            × ((rule.sheet ≡ at.number) × ((rule.position ≡ at.position)
+            × (rule.first_index ≡ first_index))))) }
     {
         if first_index.checked_add(declarations.len() as u64).is_none() {
             return Err(NoMemory);

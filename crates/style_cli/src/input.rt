@@ -50,9 +50,11 @@ impl From<AllocError> for Stop {
 pub fn read_all<S: Source>(alloc: Global, source: &mut S) -> Result<Vec<u8>, Stop>
     ensures whole { IfOk result (λ bytes. IsReadWhole (S.left source.old) (S.left source.new) bytes.items) }
     ensures fits { IfOk result (λ bytes. length bytes.items ≤ input_limit) }
-    ensures too_long { IsErrOf result Stop.TooLong → LosesFront (input_limit + 1) (S.left source.old) (S.left source.new) }
+    ensures too_long { IsErrOf result Stop.TooLong
+        → LosesFront (input_limit + 1) (S.left source.old) (S.left source.new) }
     ensures most { LosesAtMost (input_limit + 1) (S.left source.old) (S.left source.new) }
-    ensures fault { IsErrOf result Stop.Fault → LosesAtMost input_limit (S.left source.old) (S.left source.new) }
+    ensures fault { IsErrOf result Stop.Fault
+        → LosesAtMost input_limit (S.left source.old) (S.left source.new) }
     ensures cause { HasCause (S.faults source.old) (S.faults source.new) (IsErrOf result Stop.Fault) }
 {
     let mut found = Vec::new(alloc);

@@ -45,8 +45,10 @@ fn print_styled<K: Sink>(
     sheets: &Sheets,
     sink: &mut K,
 ) -> Result<(), SinkRefused>
-    ensures ok { OnOk result (Appends (K.held sink.old) (K.held sink.new) (text_by doc.now.elements (sources_seen sheets.now))) }
-    ensures err { OnErr result (GrewByFront (K.held sink.old) (K.held sink.new) (text_by doc.now.elements (sources_seen sheets.now))) }
+    ensures ok { OnOk result (Appends (K.held sink.old) (K.held sink.new)
+        (text_by doc.now.elements (sources_seen sheets.now))) }
+    ensures err { OnErr result (GrewByFront (K.held sink.old) (K.held sink.new)
+        (text_by doc.now.elements (sources_seen sheets.now))) }
     ensures cause { HasCause (K.faults sink.old) (K.faults sink.new) (IsErrOf result SinkRefused.Failed) }
 {
     let order = doc.tree_order(alloc)?;
@@ -67,10 +69,14 @@ fn print_elements<K: Sink>(
     requires order { order.now ≡ numbers doc.now.elements }
     requires styles { length styles.now ≡ length order.now }
     // Where the styles are those by some sources, so are the lines.
-    ensures ok { (sources : Sources) → map arc_value styles.now ≡ map (style_of doc.now.elements sources) order.now
-        → OnOk result (Appends (K.held sink.old) (K.held sink.new) (flat_map (λ x. encode_utf8_all (line_at doc.now.elements sources x)) order.now)) }
-    ensures err { (sources : Sources) → map arc_value styles.now ≡ map (style_of doc.now.elements sources) order.now
-        → OnErr result (GrewByFront (K.held sink.old) (K.held sink.new) (flat_map (λ x. encode_utf8_all (line_at doc.now.elements sources x)) order.now)) }
+    ensures ok { (sources : Sources)
+        → map arc_value styles.now ≡ map (style_of doc.now.elements sources) order.now
+        → OnOk result (Appends (K.held sink.old) (K.held sink.new)
+        (flat_map (λ x. encode_utf8_all (line_at doc.now.elements sources x)) order.now)) }
+    ensures err { (sources : Sources)
+        → map arc_value styles.now ≡ map (style_of doc.now.elements sources) order.now
+        → OnErr result (GrewByFront (K.held sink.old) (K.held sink.new)
+        (flat_map (λ x. encode_utf8_all (line_at doc.now.elements sources x)) order.now)) }
     ensures cause { HasCause (K.faults sink.old) (K.faults sink.new) (IsErrOf result SinkRefused.Failed) }
 {
     for index in 0..order.len() {

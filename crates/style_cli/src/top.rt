@@ -61,13 +61,16 @@ pub fn run<R: Threads + Sync, S: Source, K: Sink>(
 
     // With Done the sink holds what it held before and then exactly the job's text, and the input
     // was read to its end.
-    ensures done { result ≡ Status.Done → IsPrinted (line_of (map string_bytes words.items)) (S.left source.old) (K.held sink.old) (K.held sink.new)
+    ensures done { result ≡ Status.Done → IsPrinted (line_of (map string_bytes words.items))
+        (S.left source.old) (K.held sink.old) (K.held sink.new)
         × IsReadToEnd (S.left source.old) (S.left source.new) }
 
     // After a failed write it holds a front of that text, and where it is out of memory such a front
     // or what it held before.
-    ensures front { result ≡ Status.WriteFault → IsFrontPrinted (line_of (map string_bytes words.items)) (S.left source.old) (K.held sink.old) (K.held sink.new) }
-    ensures no_memory { result ≡ Status.NoMemory → IsFrontPrinted (line_of (map string_bytes words.items)) (S.left source.old) (K.held sink.old) (K.held sink.new)
+    ensures front { result ≡ Status.WriteFault → IsFrontPrinted (line_of (map string_bytes words.items))
+        (S.left source.old) (K.held sink.old) (K.held sink.new) }
+    ensures no_memory { result ≡ Status.NoMemory → IsFrontPrinted (line_of (map string_bytes words.items))
+        (S.left source.old) (K.held sink.old) (K.held sink.new)
         ⊎ (K.held sink.new ≡ K.held sink.old) }
     ensures kept { IsEarly result → K.held sink.new ≡ K.held sink.old }
 
@@ -102,7 +105,8 @@ fn read_job<S: Source>(alloc: Global, source: &mut S) -> Result<Job, Status>
     ensures refused { IfErr result (λ status. IfSome (S.left source.old) (IsRefused status)) }
     ensures told { IfErr result (λ status. IsTold status (S.left source.old) (S.left source.new)) }
     ensures limit { (kind : Kind) (number : ℕ) → result ≡ Err (Status.Limit kind number)
-        → (kind ≡ Kind.Input) × ((number ≡ input_limit) × LosesFront (input_limit + 1) (S.left source.old) (S.left source.new)) }
+        → (kind ≡ Kind.Input) × ((number ≡ input_limit)
+        × LosesFront (input_limit + 1) (S.left source.old) (S.left source.new)) }
     ensures most { LosesAtMost (input_limit + 1) (S.left source.old) (S.left source.new) }
     ensures fault { result ≡ Err Status.ReadFault → LosesAtMost input_limit (S.left source.old) (S.left source.new) }
     ensures cause { HasCause (S.faults source.old) (S.faults source.new) (result ≡ Err Status.ReadFault) }
