@@ -4,7 +4,7 @@ use crate::Keyword;
 
 /// What a property takes, beside the keywords that every property takes.
 #[derive(Clone, Copy, Debug, PartialEq, Eq)]
-pub enum Form {
+pub enum ValueForm {
     /// This keyword.
     Word(Keyword),
     /// Any colour.
