@@ -17,6 +17,11 @@ length-by_row f g i [] values = refl
 length-by_row f g i (row ∷ rows) [] = refl
 length-by_row f g i (row ∷ rows) (value ∷ values) = ap suc (length-by_row f g (i + 1) rows values)
 
+pub by_row-within : (f : ℕ → Row → Value → Value) (i : ℕ) (rows : List Row) (values : List Value) → length (by_row f i rows values) ≤ length rows
+by_row-within f i [] values = omega arith
+by_row-within f i (row ∷ rows) [] = omega arith
+by_row-within f i (row ∷ rows) (value ∷ values) = omega (arith, by_row-within f (i + 1) rows values)
+
 get-by_row : (f : ℕ → Row → Value → Value) (i : ℕ) (rows : List Row) (values : List Value) (k : ℕ) (row : Row) → slice_get rows k ≡ Some row → slice_get (by_row f i rows values) k ≡ option_map (f (i + k) row) (slice_get values k)
 get-by_row f i [] values k row at = absurd (none-some row at)
 get-by_row f i (first ∷ rows) [] k row at = refl
