@@ -1,10 +1,11 @@
 //! A reader of tokens.
 
-ghost use Rattle.std.specs.Prelude.{◌≡◌, ◌≤◌, ◌&&◌, ◌∷◌, [], IfOk, OnOk, MatchOption, true, false, length, take};
+ghost use Rattle.std.specs.Prelude.{◌≡◌, ◌≤◌, ◌&&◌, ◌∷◌, [], IfOk, OnOk, MatchOption, true, false, length, take, List};
 ghost use Rattle.base_model.specs.Lists.{is_nil};
 ghost use Rattle.syntax_model.specs.Brackets.{open_after};
 ghost use Rattle.syntax_model.specs.Kinds.{is_colon, is_delim, is_ident, without_white};
 ghost use Rattle.syntax_model.specs.Outside.{from_first, length_before, up_to};
+ghost use Rattle.syntax_model.specs.Token as model;
 ghost use Rattle.css_tokens.specs.Taken.{IsKept, IsNameTaken, IsTaken};
 ghost use Rattle.css_tokens.specs.View.{separates};
 
@@ -56,6 +57,14 @@ impl<'a> Cursor<'a> {
         ensures { result.now ≡ self.now }
     {
         self.rest
+    }
+
+    /// The next token.
+    pub fn peek(&self) -> Option<&'a Token>
+        ensures { MatchOption result (self.now ≡ [])
+            (λ token. (after : List model.Token) × (self.now ≡ token.now ∷ after)) }
+    {
+        self.rest.first()
     }
 
     /// Consumes the next token.
