@@ -1,15 +1,17 @@
 -- The winner of each property, as declarations come one by one.
-use Rattle.std.proofs.Common.{◌≡◌, ◌≢◌, ℕ, ◌<◌, List, [], ◌∷◌, ◌++◌, Option, Some, slice_get, length, map, get_or, set, sym, ap, ◌∙◌, ⊎_elim, arith}
-use Rattle.std.proofs.lemmas.Bool.{cases_eq}
+use Rattle.std.proofs.Common.{◌≡◌, ◌≢◌, ◌==◌, false, ℕ, ◌<◌, List, [], ◌∷◌, ◌++◌, Option, Some, slice_get, length, map, get_or, set, sym, ap, ◌∙◌, ⊎_elim, arith}
+use Rattle.std.proofs.lemmas.Bool.{cases_eq, eqb-true, false_from_ne_true}
 use Rattle.std.proofs.lemmas.List.{length-map, length-set, get_or-map, get_or-set_same, get_or-set_other, map-set, same_lists}
 use Rattle.std.proofs.lemmas.List.FromFn.{length-range_with_len, get_or-range_with_len}
 use Rattle.std.proofs.lemmas.Option.{slice_get_within, get_or_from_slice_get}
 use Rattle.std.specs.List.{range_with_len}
 use Rattle.cascade_model.specs.Key.{Matched}
-use Rattle.cascade_model.specs.Winner.{winner}
+use Rattle.cascade_model.specs.Winner.{winner, declares_longhand}
+use Rattle.cascade_model.specs.Ending.{ending, ending_of}
+use Rattle.sheet_model.specs.Declared.{longhand, is_longhand}
 use Rattle.cascade_model.proofs.WinnerLemmas.{winner_other}
 use Rattle.value_model.specs.Table.{table}
-use Rattle.cascade_core.specs.Matches.{winners_of}
+use Rattle.cascade_core.specs.View.{winners_of}
 
 -- what a function gives at each number below a bound
 abbrev along : {A : Type 0} → (ℕ → A) → ℕ → List A
@@ -31,24 +33,34 @@ along-set f g n p lt others =
     get_or-along g n k d within
     ∙ ⊎_elim (λ (e : k ≡ p). ap g e ∙ (sym (get_or-set_same (along f n) p (g p) d (omega (arith, length-along f n))) ∙ ap (λ j. get_or (set (along f n) p (g p)) j d) (sym e))) (λ (ne : k ≢ p). others k ne ∙ (sym (get_or-along f n k d within) ∙ sym (get_or-set_other (along f n) p k (g p) d ne))) (cases_eq k p))
 
--- what wins once a declaration is added is put at the place of its property
-pub winners-set : {A : Type 0} (seen : A → Option Matched) (best : List A) (place : ℕ) (old new : A) (d : Matched) (ds : List Matched) → map seen best ≡ winners_of ds → place ≡ d.property → place < length table → old ≡ get_or best place old → (winner d.property ds ≡ seen old → winner d.property (ds ++ d ∷ []) ≡ seen new) → map seen (set best place new) ≡ winners_of (ds ++ d ∷ [])
-winners-set seen best place old new d ds is at within read put =
-    let before : ℕ → Option Matched = λ property. winner property ds in
-    let behind : ℕ → Option Matched = λ property. winner property (ds ++ d ∷ []) in
-    let long : length best ≡ length table = sym (length-map best seen) ∙ (ap length is ∙ length-along before (length table)) in
-    let lt : place < length best = omega arith in
-    let in_table : d.property < length table = omega arith in
-    let was : winner d.property ds ≡ seen old = sym (sym (get_or-map seen best place old (seen old) lt ∙ ap seen (sym read)) ∙ (ap (λ list. get_or list place (seen old)) is ∙ (ap (λ k. get_or (winners_of ds) k (seen old)) at ∙ get_or-along before (length table) d.property (seen old) in_table))) in
-    map-set seen best place new
-    ∙ (ap (λ list. set list place (seen new)) is
-    ∙ (ap (λ k. set (winners_of ds) k (seen new)) at
-    ∙ (ap (set (winners_of ds) d.property) (sym (put was)) ∙ sym (along-set before behind (length table) d.property in_table (λ k other. winner_other k ds d other)))))
+-- a declaration of another property
+declares_other : (p k : ℕ) → k ≢ p → (p == k) ≡ false
+declares_other p k other = false_from_ne_true _ (λ e. other (sym (eqb-true p k e)))
 
--- what stands at the place of a property wins
-pub winner_at : (ds : List Matched) (winners : List (Option Matched)) (p : ℕ) (best : Option Matched) → winners ≡ winners_of ds → slice_get winners p ≡ Some best → winner p ds ≡ best
+-- the winner among declarations of a property
+abbrev won : List Matched → ℕ → Option Matched
+won ds property = winner (declares_longhand property) ds
+
+-- what wins once a declaration is added is put at the row of its property
+pub winners-set : {A : Type 0} (seen : A → Option Matched) (best : List A) (row : ℕ) (old new : A) (d : Matched) (p : ℕ) (ds : List Matched) → map seen best ≡ winners_of ds → row ≡ p → d.target ≡ longhand p → row < length table → old ≡ get_or best row old → (won ds p ≡ seen old → won (ds ++ d ∷ []) p ≡ seen new) → map seen (set best row new) ≡ winners_of (ds ++ d ∷ [])
+winners-set seen best row old new d p ds is at target within read put =
+    let long : length best ≡ length table = sym (length-map best seen) ∙ (ap length is ∙ length-along (won ds) (length table)) in
+    let lt : row < length best = omega arith in
+    let in_table : p < length table = omega arith in
+    let was : won ds p ≡ seen old = sym (sym (get_or-map seen best row old (seen old) lt ∙ ap seen (sym read)) ∙ (ap (λ list. get_or list row (seen old)) is ∙ (ap (λ k. get_or (winners_of ds) k (seen old)) at ∙ get_or-along (won ds) (length table) p (seen old) in_table))) in
+    map-set seen best row new
+    ∙ (ap (λ list. set list row (seen new)) is
+    ∙ (ap (λ k. set (winners_of ds) k (seen new)) at
+    ∙ (ap (set (winners_of ds) p) (sym (put was)) ∙ sym (along-set (won ds) (won (ds ++ d ∷ [])) (length table) p in_table (λ k other. winner_other (declares_longhand k) ds d (ap (is_longhand k) target ∙ declares_other p k other))))))
+
+-- what is at the row of a property wins
+winner_at : (ds : List Matched) (winners : List (Option Matched)) (p : ℕ) (best : Option Matched) → winners ≡ winners_of ds → slice_get winners p ≡ Some best → won ds p ≡ best
 winner_at ds winners p best is at =
     let found : slice_get (winners_of ds) p ≡ Some best = ap (λ list. slice_get list p) (sym is) ∙ at in
-    let within : p < length table = omega (arith, slice_get_within (winners_of ds) p best found, length-along (λ property. winner property ds) (length table)) in
-    sym (get_or-along (λ property. winner property ds) (length table) p best within)
+    let within : p < length table = omega (arith, slice_get_within (winners_of ds) p best found, length-along (won ds) (length table)) in
+    sym (get_or-along (won ds) (length table) p best within)
     ∙ get_or_from_slice_get (winners_of ds) p best best found
+
+-- and the property comes to what it is given
+pub ending_at : (ds : List Matched) (winners : List (Option Matched)) (p : ℕ) (best : Option Matched) → winners ≡ winners_of ds → slice_get winners p ≡ Some best → ending p ds ≡ ending_of best
+ending_at ds winners p best is at = ap ending_of (winner_at ds winners p best is at)

@@ -1,104 +1,68 @@
 -- The values of an element, row by row.
-use Rattle.std.proofs.Common.{◌≡◌, ℕ, ◌+◌, ◌<◌, ◌≤◌, zero, suc, List, [], ◌∷◌, ◌++◌, Some, None, IfSome, length, map, get_or, set, take, drop, slice_get, refl, sym, ap, ◌∙◌, subst, arith, append_assoc}
-use Rattle.std.proofs.lemmas.Grind.{take-set_at}
-use Rattle.std.proofs.lemmas.List.{length-drop, drop-drop, drop-set-lt, set-get_or, set_past, take_all}
-use Rattle.std.proofs.lemmas.Option.{MatchOption-at_some, get_or_from_slice_get}
-use Rattle.std.specs.Option.{option_map_or}
+use Rattle.std.proofs.Common.{◌≡◌, ℕ, ◌+◌, ◌<◌, ◌≤◌, arith, List, [], ◌∷◌, Some, IfSome, length, map, get_or, set, slice_get, option_map, refl, sym, ap, ◌∙◌, subst}
+use Rattle.std.specs.List.{range_with_len}
+use Rattle.std.proofs.lemmas.Option.{MatchOption-at_some}
 use Rattle.value_model.specs.Value.{Value}
 use Rattle.value_model.specs.Table as model
+use Rattle.value_model.specs.Table.{table}
 use Rattle.value_model.specs.Style.{Style, inherited_values}
+use Rattle.value_model.proofs.ByRow.{by_row, by_row-at, by_row-unsets, inherited-at, length-by_row, by_row-within, map_is, IsFilled, filled_set, filled_kept}
+use Rattle.value_model.proofs.ByRow as rows_model
 use Rattle.cascade_model.specs.Key.{Matched}
-use Rattle.cascade_model.specs.Cascade.{value_of_property, values_from, unset, computed}
-use Rattle.cascade_model.specs.Winner.{winner}
-use Rattle.std.specs.List.{range_with_len}
-use Rattle.property_table.specs.Rows.{property_of, row_seen}
+use Rattle.cascade_model.specs.Ending.{Ending, unsets, ends_at, ending}
+use Rattle.cascade_model.specs.Cascade.{value_at, values_from, computed}
+use Rattle.property_table.specs.View.{property_of, row_seen}
 use Rattle.property_table.specs.declared.property.Row.{Row}
-use Rattle.property_table.proofs.RowLemmas.{drop_at, row_at, place_at}
+use Rattle.property_table.proofs.RowLemmas.{row_at, property_at}
 
--- The values before a place are computed, and those from it on are what they are as if unset.
-pub record IsFilled (ds : List Matched) (parent style : Style) (i : ℕ) : Type 0 where
-  pub done : take i style.values ++ values_from ds i (drop i model.table) (drop i parent.values) ≡ values_from ds 0 model.table parent.values
-  pub left : drop i style.values ≡ inherited_values (drop i model.table) (drop i parent.values)
+abbrev of_declarations : List Matched → ℕ → model.Row → Value → Value
+of_declarations ds i row value = value_at i row value (ending i ds)
 
-values_from-none : (ds : List Matched) (p : ℕ) (rows : List model.Row) → values_from ds p rows [] ≡ []
-values_from-none ds p [] = refl
-values_from-none ds p (row ∷ rows) = refl
+by_row-values : (ds : List Matched) (i : ℕ) (rows : List model.Row) (values : List Value) → by_row (of_declarations ds) i rows values ≡ values_from ds i rows values
+by_row-values ds i [] values = refl
+by_row-values ds i (row ∷ rows) [] = refl
+by_row-values ds i (row ∷ rows) (value ∷ values) =
+    ap (λ l. of_declarations ds i row value ∷ l) (by_row-values ds (i + 1) rows values)
 
-inherited_values-none : (rows : List model.Row) → inherited_values rows [] ≡ []
-inherited_values-none [] = refl
-inherited_values-none (row ∷ rows) = refl
+-- the values on the way from the inherited ones to those by the declarations
+abbrev pub IsPartly : List Matched → List Value → List Value → ℕ → Type 0
+IsPartly ds parents values i = IsFilled (values_from ds 0 table parents) (inherited_values table parents) values i
 
-drop_next : {A : Type 0} (xs rest : List A) (i : ℕ) → drop 1 (drop i xs) ≡ rest → drop (i + 1) xs ≡ rest
-drop_next xs rest i h = sym (drop-drop 1 i xs) ∙ h
+pub length-values : (ds : List Matched) (parents : List Value) → length (values_from ds 0 table parents) ≡ length (inherited_values table parents)
+length-values ds parents =
+    ap length (sym (by_row-values ds 0 table parents))
+    ∙ (length-by_row (of_declarations ds) rows_model.unsets 0 table parents
+    ∙ ap length (by_row-unsets 0 table parents))
 
--- a value is put at a place of the lists
-put : (ds : List Matched) (i : ℕ) (row : model.Row) (rows : List model.Row) (style parents left all : List Value) (value : Value) → drop i parents ≡ left → drop i style ≡ inherited_values (row ∷ rows) left → take i style ++ values_from ds i (row ∷ rows) left ≡ all → ((x : Value) → slice_get left 0 ≡ Some x → value ≡ value_of_property ds i row x) → (take (i + 1) (set style i value) ++ values_from ds (i + 1) rows (drop (i + 1) parents) ≡ all) × (drop (i + 1) (set style i value) ≡ inherited_values rows (drop (i + 1) parents))
-put ds i row rows style parents [] all value p s done is =
-    let past : drop (i + 1) parents ≡ [] = drop_next parents [] i (ap (drop 1) p) in
-    let short : length style ≤ i = omega (arith, length-drop i style, ap length s) in
-    let same : set style i value ≡ style = set_past style i value short in
-    let whole : take (i + 1) style ≡ take i style = take_all (i + 1) style (omega arith) ∙ sym (take_all i style short) in (
-      ap (λ list. take (i + 1) list ++ values_from ds (i + 1) rows (drop (i + 1) parents)) same
-          ∙ (ap (λ list. take (i + 1) style ++ values_from ds (i + 1) rows list) past
-          ∙ (ap (λ list. take (i + 1) style ++ list) (values_from-none ds (i + 1) rows) ∙ (ap (λ list. list ++ []) whole ∙ done))),
-      ap (drop (i + 1)) same
-          ∙ (drop_next style [] i (ap (drop 1) s) ∙ sym (ap (inherited_values rows) past ∙ inherited_values-none rows)),
-    )
-put ds i row rows style parents (x ∷ xs) all value p s done is =
-    let past : drop (i + 1) parents ≡ xs = drop_next parents xs i (ap (drop 1) p) in
-    let within : i < length style = omega (arith, length-drop i style, ap length s) in (
-      ap (λ list. list ++ values_from ds (i + 1) rows (drop (i + 1) parents)) (take-set_at style i (i + 1) value refl within)
-          ∙ (ap (λ list. (take i style ++ value ∷ []) ++ values_from ds (i + 1) rows list) past
-          ∙ (append_assoc (take i style) (value ∷ []) (values_from ds (i + 1) rows xs)
-          ∙ (ap (λ v. take i style ++ v ∷ values_from ds (i + 1) rows xs) (is x refl) ∙ done))),
-      drop-set-lt (i + 1) style i value (omega arith)
-          ∙ (drop_next style (inherited_values rows xs) i (ap (drop 1) s) ∙ ap (inherited_values rows) (sym past)),
-    )
+pub values-within : (ds : List Matched) (parents : List Value) → length (values_from ds 0 table parents) ≤ length table
+values-within ds parents =
+    let same = ap length (by_row-values ds 0 table parents) in
+    omega (arith, by_row-within (of_declarations ds) 0 table parents, same)
 
--- what stands first behind a place
-first_behind : {A : Type 0} (xs : List A) (i : ℕ) → slice_get (drop i xs) 0 ≡ slice_get xs i
-first_behind [] zero = refl
-first_behind [] (suc i) = refl
-first_behind (x ∷ xs) zero = refl
-first_behind (x ∷ xs) (suc i) = first_behind xs i
+module _ (ds : List Matched) (parents : List Value) (rows : List Row) (i : ℕ) (d : Row) (all : map row_seen rows ≡ table) (order : map (λ (row : Row). property_of row.id) rows ≡ range_with_len 0 (length table)) (within : i < length rows) where
+  abbrev row : model.Row
+  row = row_seen (get_or rows i d)
 
--- a value is put at the place of a row
-filled_set : (ds : List Matched) (parent style : Style) (i : ℕ) (row : model.Row) (value : Value) → slice_get model.table i ≡ Some row → ((x : Value) → slice_get parent.values i ≡ Some x → value ≡ value_of_property ds i row x) → IsFilled ds parent style i → IsFilled ds parent (record { values = set style.values i value }) (i + 1)
-filled_set ds parent style i row value at is filled =
-    let rows : List model.Row = drop (i + 1) model.table in
-    let split : drop i model.table ≡ row ∷ rows = drop_at model.table i row at in
-    let next = put ds i row rows style.values parent.values (drop i parent.values) (values_from ds 0 model.table parent.values) value refl (filled.left ∙ ap (λ list. inherited_values list (drop i parent.values)) split) (ap (λ list. take i style.values ++ values_from ds i list (drop i parent.values)) (sym split) ∙ filled.done) (λ x h. is x (sym (first_behind parent.values i) ∙ h)) in record {
-      done = next.0;
-      left = next.1;
-    }
+  abbrev property : ℕ
+  property = property_of (get_or rows i d).id
 
--- where a declaration wins its value is computed
-put_winner : (ds : List Matched) (parent old new : Style) (i p : ℕ) (row : model.Row) (d : Matched) (value : Value) → slice_get model.table i ≡ Some row → p ≡ i → winner p ds ≡ Some d → IfSome (slice_get parent.values p) (λ parents. value ≡ computed p parents d.value) → new ≡ record { values = set old.values p value } → IsFilled ds parent old i → IsFilled ds parent new (i + 1)
-put_winner ds parent old new i p row d value at place wins is put filled =
-    let value_is : (x : Value) → slice_get parent.values i ≡ Some x → value ≡ value_of_property ds i row x = λ x h. MatchOption-at_some _ (λ parents. value ≡ computed p parents d.value) x (ap (slice_get parent.values) place ∙ h) is ∙ (sym (ap (λ best. option_map_or (λ (d : Matched). computed p x d.value) best (unset row x)) wins) ∙ ap (λ k. value_of_property ds k row x) place) in
-    let new_is : record { values = set old.values i value } ≡ new = sym (put ∙ ap (λ k. record { values = set old.values k value }) place) in
-    subst (λ style. IsFilled ds parent style (i + 1)) new_is (filled_set ds parent old i row value at value_is filled)
+  -- what the declarations come to at the index
+  values-at : (e : Ending) → ending property ds ≡ e → slice_get (values_from ds 0 table parents) i ≡ option_map (λ v. value_at i row v e) (slice_get parents i)
+  values-at e is =
+      ap (λ l. slice_get l i) (sym (by_row-values ds 0 table parents))
+      ∙ (by_row-at (of_declarations ds) table parents i row (row_at rows i d all within)
+      ∙ ap (λ (e : Ending). option_map (λ v. value_at i row v e) (slice_get parents i)) (ap (λ k. ending k ds) (sym (property_at rows i d order within)) ∙ is))
 
--- what stands at a place as if unset
-unset_at : (parents values : List Value) (i : ℕ) (row : model.Row) (x d : Value) → slice_get model.table i ≡ Some row → slice_get parents i ≡ Some x → drop i values ≡ inherited_values (drop i model.table) (drop i parents) → get_or values i d ≡ unset row x
-unset_at parents values i row x d at here left =
-    let split : drop i values ≡ unset row x ∷ inherited_values (drop (i + 1) model.table) (drop (i + 1) parents) = left ∙ (ap (λ rows. inherited_values rows (drop i parents)) (drop_at model.table i row at) ∙ ap (inherited_values (row ∷ drop (i + 1) model.table)) (drop_at parents i x here)) in
-    get_or_from_slice_get values i (unset row x) d (sym (first_behind values i) ∙ ap (λ list. slice_get list 0) split)
+  -- a value is computed
+  pub sets_one : (old new : Style) (given x : Value) → ending property ds ≡ ends_at given → IfSome (slice_get parents property) (λ v. x ≡ computed property v given) → new ≡ record { values = set old.values property x } → IsPartly ds parents old.values i → IsPartly ds parents new.values (i + 1)
+  sets_one old new given x ends is put filled =
+      let at : property ≡ i = property_at rows i d order within in
+      let one : (y : Value) → slice_get (values_from ds 0 table parents) i ≡ Some y → x ≡ y = λ y here. map_is (λ v. value_at i row v (ends_at given)) (slice_get parents i) x y (λ v found. MatchOption-at_some _ (λ u. x ≡ computed property u given) v (ap (slice_get parents) at ∙ found) is ∙ ap (λ k. computed k v given) at) (sym (values-at (ends_at given) ends) ∙ here) in
+      let done : new ≡ record { values = set old.values i x } = put ∙ ap (λ k. record { values = set old.values k x }) at in
+      subst (λ (s : Style). IsPartly ds parents s.values (i + 1)) (sym done) (filled_set _ _ old.values i x one filled)
 
--- where none wins the value stays what it is as if unset
-keep_unset : (ds : List Matched) (parent old new : Style) (i p : ℕ) (row : model.Row) → slice_get model.table i ≡ Some row → p ≡ i → winner p ds ≡ None → new ≡ old → IsFilled ds parent old i → IsFilled ds parent new (i + 1)
-keep_unset ds parent old new i p row at place none kept filled =
-    let value : Value = get_or old.values i row.initial in
-    let value_is : (x : Value) → slice_get parent.values i ≡ Some x → value ≡ value_of_property ds i row x = λ x h. unset_at parent.values old.values i row x row.initial at h filled.left ∙ (sym (ap (λ best. option_map_or (λ (d : Matched). computed p x d.value) best (unset row x)) none) ∙ ap (λ k. value_of_property ds k row x) place) in
-    let new_is : record { values = set old.values i value } ≡ new = ap (λ list. record { values = list }) (set-get_or old.values i row.initial) ∙ sym kept in
-    subst (λ style. IsFilled ds parent style (i + 1)) new_is (filled_set ds parent old i row value at value_is filled)
-
--- the same at a row of the code
-module _ (rows : List Row) (i : ℕ) (d : Row) (all : map row_seen rows ≡ model.table) (places : map (λ (row : Row). property_of row.id) rows ≡ range_with_len 0 (length model.table)) (within : i < length rows) (ds : List Matched) (parent old new : Style) where
-  pub filled_put : (w : Matched) (value : Value) → winner (property_of (get_or rows i d).id) ds ≡ Some w → IfSome (slice_get parent.values (property_of (get_or rows i d).id)) (λ parents. value ≡ computed (property_of (get_or rows i d).id) parents w.value) → new ≡ record { values = set old.values (property_of (get_or rows i d).id) value } → IsFilled ds parent old i → IsFilled ds parent new (i + 1)
-  filled_put w value =
-      put_winner ds parent old new i (property_of (get_or rows i d).id) (row_seen (get_or rows i d)) w value (row_at rows i d all within) (place_at rows i d places within)
-
-  pub filled_kept : winner (property_of (get_or rows i d).id) ds ≡ None → new ≡ old → IsFilled ds parent old i → IsFilled ds parent new (i + 1)
-  filled_kept =
-      keep_unset ds parent old new i (property_of (get_or rows i d).id) (row_seen (get_or rows i d)) (row_at rows i d all within) (place_at rows i d places within)
+  -- without a declaration the value stays as if unset
+  pub unsets_one : (old new : Style) → ending property ds ≡ unsets → new ≡ old → IsPartly ds parents old.values i → IsPartly ds parents new.values (i + 1)
+  unsets_one old new ends kept filled =
+      let same : slice_get (values_from ds 0 table parents) i ≡ slice_get (inherited_values table parents) i = values-at unsets ends ∙ sym (inherited-at table parents i row (row_at rows i d all within)) in
+      subst (λ (s : Style). IsPartly ds parents s.values (i + 1)) (sym kept) (filled_kept _ _ old.values i same filled)

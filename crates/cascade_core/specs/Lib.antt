@@ -1,1 +1,1 @@
-pub mod Matches
+pub mod View

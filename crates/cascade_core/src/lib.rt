@@ -1,10 +1,9 @@
 //! The style of an element, from the declarations that apply to it and the style of its parent.
 #![tactic(auto)]
 
+mod ending;
 mod matched;
 mod styled;
-#[cfg(test)]
-mod tests;
 mod winners;
 
 pub use matched::Matched;

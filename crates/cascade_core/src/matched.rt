@@ -2,7 +2,7 @@
 
 ghost use Rattle.std.specs.Prelude.{◌≡◌};
 ghost use Rattle.cascade_model.specs.Key.{band, key_cmp, layer_cmp};
-ghost use Rattle.cascade_core.specs.Matches.{matched_of};
+ghost use Rattle.cascade_core.specs.View.{matched_of};
 
 use layer_order::Origin;
 use property_table::{PropId, Value};
@@ -28,10 +28,10 @@ pub struct Matched {
     pub specificity: Specificity,
     /// The number of its sheet.
     pub sheet: u32,
-    /// Where that stands among the sheets, from 0.
+    /// The position of that among the enabled sheets, from 0.
     pub position: u32,
     /// How many declarations come before it in the text of its own sheet.
-    pub place: u64,
+    pub index: u64,
 }
 
 /// Which of two declarations of one property wins: the greater one (css-cascade-5, section 6.1).
@@ -44,10 +44,10 @@ pub(crate) fn compare(a: &Matched, b: &Matched) -> Ordering
         .then(compare_layers(a, b))
         .then(a.specificity.cmp(&b.specificity))
         .then(a.position.cmp(&b.position))
-        .then(a.place.cmp(&b.place))
+        .then(a.index.cmp(&b.index))
 }
 
-/// Important declarations of the user agent stand highest, normal ones of it lowest
+/// Important declarations of the user agent are highest, normal ones of it lowest
 /// (css-cascade-5, section 6.1).
 fn band(d: &Matched) -> u32
     ensures { result ≡ band (matched_of d.now).origin d.now.important }

@@ -2,12 +2,12 @@
 
 ghost use Rattle.std.specs.Prelude.{◌≡◌, ◌++◌, IfOk, IfSome, map, slice_get};
 ghost use Rattle.cascade_model.specs.Cascade.{cascaded, computed, values_from};
-ghost use Rattle.property_table.specs.Rows.{property_of};
-ghost use Rattle.property_table.specs.Values.{value_of};
+ghost use Rattle.property_table.specs.View.{property_of, value_of};
 ghost use Rattle.value_model.specs.Table.{table};
-ghost use Rattle.cascade_core.specs.Matches.{matched_of};
+ghost use Rattle.cascade_core.specs.View.{matched_of};
 
 use crate::Matched;
+use crate::ending::Ending;
 use crate::winners::Winners;
 use property_table::{Keyword, PropId, Row, Value};
 use std::alloc::Global;
@@ -15,9 +15,8 @@ use style_value::Style;
 use stylo_base::{Fixed, NoMemory};
 
 /// The style of an element, from the declarations of the rules that match it, those of its `style`
-/// attribute, and the style of its parent (css-cascade-5, sections 6 and 7): for each property the
-/// value of the declaration that wins, or as if `unset` where there is none, and then the
-/// adjustments. At the root `parent` is the style of all initial values. `root_size` is the root's
+/// attribute, and the style of its parent (css-cascade-5, sections 6 and 7): for each property what
+/// its declarations come to, computed over the parent's value, and then the adjustments. At the root `parent` is the style of all initial values. `root_size` is the root's
 /// font size in pixels, which nothing asks for until there are lengths.
 pub fn cascade(
     alloc: Global,
@@ -50,14 +49,14 @@ fn values(
     let winners = Winners::among(matched, attached);
     let mut style = parent.inherited_part(alloc)?;
     for row in Row::all() {
-        if let Some(d) = winners.of(row.id) {
-            style.set(row.id, computed_of(row.id, d.value, parent));
+        if let Ending::EndsAt(value) = winners.ending(row.id) {
+            style.set(row.id, computed_of(row.id, value, parent));
         }
     }
     Ok(style)
 }
 
-/// What the value of a declaration is computed to. In `color` the keyword `currentcolor` acts as
+/// What a value is computed to. In `color` the keyword `currentcolor` acts as
 /// `inherit` (css-color-4, section 9).
 fn computed_of(id: PropId, value: Value, parent: &Style) -> Value
     ensures { let property = property_of id in IfSome (slice_get parent.now.values property)

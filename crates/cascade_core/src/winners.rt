@@ -2,11 +2,13 @@
 
 ghost use Rattle.std.specs.Prelude.{◌≡◌, ◌∷◌, [], ◌++◌, List, Some, map, option_copied, option_map, slice_get};
 ghost use Rattle.cascade_model.specs.Key.{Matched as Declaration};
-ghost use Rattle.cascade_model.specs.Winner.{winner};
-ghost use Rattle.property_table.specs.Rows.{property_of};
-ghost use Rattle.cascade_core.specs.Matches.{matched_of, winners_of};
+ghost use Rattle.cascade_model.specs.Winner.{winner, declares_longhand};
+ghost use Rattle.cascade_model.specs.Ending.{ending};
+ghost use Rattle.property_table.specs.View.{property_of};
+ghost use Rattle.cascade_core.specs.View.{ending_seen, matched_of, winners_of};
 
 use crate::Matched;
+use crate::ending::Ending;
 use crate::matched::compare;
 use property_table::{COUNT, PropId};
 use std::marker::Model;
@@ -20,7 +22,7 @@ pub(crate) struct Winners<'a> {
 impl<'a> Model for Winners<'a> {
     ghost use Rattle.std.specs.Prelude.{List, Option, map, option_copied, option_map};
     ghost use Rattle.cascade_model.specs.Key as model;
-    ghost use Rattle.cascade_core.specs.Matches.{matched_of};
+    ghost use Rattle.cascade_core.specs.View.{matched_of};
 
     ghost Value = { List (Option model.Matched) };
 
@@ -43,13 +45,24 @@ impl<'a> Winners<'a> {
         winners
     }
 
+    /// What the declarations of a property come to.
+    pub(crate) fn ending(&self, id: PropId) -> Ending
+        ensures { (ds : List Declaration) → self.now ≡ winners_of ds
+            → ending_seen result ≡ ending (property_of id) ds }
+    {
+        match self.of(id) {
+            Some(d) => Ending::EndsAt(d.value),
+            None => Ending::Unsets,
+        }
+    }
+
     /// The one that wins for a property.
-    pub(crate) fn of(&self, id: PropId) -> Option<&'a Matched>
+    fn of(&self, id: PropId) -> Option<&'a Matched>
         ensures { slice_get self.now (property_of id)
             ≡ Some (option_map matched_of (option_copied result)) }
     {
         let best = &self.best[..];
-        best[id.place()]
+        best[id.row()]
     }
 
     fn none() -> Winners<'a>
@@ -65,16 +78,17 @@ impl<'a> Winners<'a> {
             → self.new ≡ winners_of (ds ++ matched_of d.now ∷ []) }
     {
         let best = &mut self.best[..];
-        let place = d.property.place();
-        best[place] = Some(better_of(best[place], d));
+        let row = d.property.row();
+        best[row] = Some(better_of(best[row], d));
     }
 }
 
-/// The winner of a property once this declaration comes behind those in which `best` wins.
+/// The winner of a property once this declaration comes after those in which `best` wins.
 fn better_of<'a>(best: Option<&'a Matched>, d: &'a Matched) -> &'a Matched
     ensures { (ds : List Declaration) → let property = property_of d.now.property in
-        winner property ds ≡ option_map matched_of (option_copied best.entry)
-        → winner property (ds ++ matched_of d.now ∷ []) ≡ Some (matched_of result.now) }
+        winner (declares_longhand property) ds ≡ option_map matched_of (option_copied best.entry)
+        → winner (declares_longhand property) (ds ++ matched_of d.now ∷ [])
+        ≡ Some (matched_of result.now) }
 {
     let Some(winner) = best else {
         return d;

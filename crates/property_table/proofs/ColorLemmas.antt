@@ -7,7 +7,7 @@ use Rattle.std.proofs.lemmas.Str.{IsUtf8-from_ascii, chars-IsAscii}
 use Rattle.std.proofs.lemmas.Bool.Decides.{nat_tests, Decides-eqb, Decides-and, Decides-like}
 use Rattle.value_model.specs.Color as model
 use Rattle.value_model.specs.Color.{rgba, same_color, color_text, two_digits, alpha_digits}
-use Rattle.property_table.specs.Colors.{color_of}
+use Rattle.property_table.specs.View.{color_of}
 use Rattle.property_table.specs.declared.color.Color.{Color}
 use Rattle.property_table.specs.contracts.color.ColorPartialEq.TheImpl.{ghosts}
 

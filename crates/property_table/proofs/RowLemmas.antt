@@ -1,24 +1,24 @@
 -- The rows of the code against those of the model.
-use Rattle.std.proofs.Common.{◌≡◌, ℕ, suc, ◌+◌, ◌<◌, List, ◌∷◌, length, get_or, drop, Some, map, slice_get, option_map, sym, ap, ◌∙◌, refl, arith, add-one, drop-cons}
+use Rattle.std.proofs.Common.{◌≡◌, ℕ, ◌+◌, ◌<◌, List, ◌∷◌, length, get_or, drop, Some, map, slice_get, option_map, sym, ap, ◌∙◌, refl, arith}
 use Rattle.std.specs.List.{range_with_len}
-use Rattle.std.proofs.lemmas.List.{get_or-map, length-map}
+use Rattle.std.proofs.lemmas.List.{get_or-map, length-map, drop_more}
 use Rattle.std.proofs.lemmas.List.FromFn.{get_or-range_with_len, length-range_with_len}
 use Rattle.std.proofs.lemmas.Option.{slice_get-map, slice_get-get_or, slice_get_within, get_or_from_slice_get}
 use denote.Enum.Bare.{tag_one}
 use denote.Enum.Declared.{tag_of}
 use Rattle.value_model.specs.Table as model
-use Rattle.property_table.specs.Rows.{property_of, row_seen}
+use Rattle.property_table.specs.View.{property_of, row_seen}
 use Rattle.property_table.specs.declared.property.PropId.{PropId}
 use Rattle.property_table.specs.declared.property.PropId.TheVariants.{Color}
 use Rattle.property_table.specs.declared.property.Row.{Row}
 use Rattle.property_table.specs.contracts.property.PropId.{the_type}
 
--- the properties stand in the order of the variants
+-- the rows are in the order of the variants
 property_of-tag : (id : PropId) → property_of id ≡ tag_of the_type id
 property_of-tag Color = refl
 property_of-tag _ = refl
 
--- no two properties have one place
+-- no two properties have one row
 pub property_of-same : (a b : PropId) → property_of a ≡ property_of b → a ≡ b
 property_of-same a b h = tag_one the_type tt a b (sym (property_of-tag a) ∙ h ∙ property_of-tag b)
 
@@ -30,25 +30,25 @@ length-table = refl
 pub length-rows : (rows : List Row) → map row_seen rows ≡ model.table → length rows ≡ length model.table
 length-rows rows h = sym (length-map rows row_seen) ∙ ap length h
 
--- the row of the table at a place
-pub row_at : (rows : List Row) (place : ℕ) (d : Row) → map row_seen rows ≡ model.table → place < length rows → slice_get model.table place ≡ Some (row_seen (get_or rows place d))
-row_at rows place d h lt =
-    ap (λ list. slice_get list place) (sym h)
-    ∙ (slice_get-map row_seen rows place ∙ ap (option_map row_seen) (slice_get-get_or rows place d lt))
+-- the row of the table at an index
+pub row_at : (rows : List Row) (i : ℕ) (d : Row) → map row_seen rows ≡ model.table → i < length rows → slice_get model.table i ≡ Some (row_seen (get_or rows i d))
+row_at rows i d h lt =
+    ap (λ list. slice_get list i) (sym h)
+    ∙ (slice_get-map row_seen rows i ∙ ap (option_map row_seen) (slice_get-get_or rows i d lt))
 
 abbrev property_of_row : Row → ℕ
 property_of_row row = property_of row.id
 
--- the property of a row has the row's place
-pub place_at : (rows : List Row) (place : ℕ) (d : Row) → map (λ (row : Row). property_of row.id) rows ≡ range_with_len 0 (length model.table) → place < length rows → property_of (get_or rows place d).id ≡ place
-place_at rows place d h lt =
-    let within : place < length model.table =
+-- the property of the row at an index is that index
+pub property_at : (rows : List Row) (i : ℕ) (d : Row) → map (λ (row : Row). property_of row.id) rows ≡ range_with_len 0 (length model.table) → i < length rows → property_of (get_or rows i d).id ≡ i
+property_at rows i d h lt =
+    let within : i < length model.table =
     omega (arith, length-map rows property_of_row, ap length h, length-range_with_len 0 (length model.table)) in
-    sym (get_or-map property_of_row rows place d 0 lt)
-    ∙ (ap (λ list. get_or list place 0) h ∙ (get_or-range_with_len 0 (length model.table) place 0 within ∙ omega arith))
+    sym (get_or-map property_of_row rows i d 0 lt)
+    ∙ (ap (λ list. get_or list i 0) h ∙ (get_or-range_with_len 0 (length model.table) i 0 within ∙ omega arith))
 
--- what stands from a place on in a list, such as the table: the element there and the rest
+-- what is left of a list, such as the table, from an index on: the item there and the rest
 pub drop_at : {A : Type 0} (xs : List A) (i : ℕ) (x : A) → slice_get xs i ≡ Some x → drop i xs ≡ x ∷ drop (i + 1) xs
 drop_at xs i x h =
-    let within : i < length xs = slice_get_within xs i x h in
-    rw add-one (drop-cons xs i x within ∙ ap (λ y. y ∷ drop (suc i) xs) (get_or_from_slice_get xs i x x h))
+    drop_more xs i x (slice_get_within xs i x h)
+    ∙ ap (λ y. y ∷ drop (i + 1) xs) (get_or_from_slice_get xs i x x h)

@@ -4,7 +4,7 @@ use Rattle.std.specs.Bool.{Decides}
 use Rattle.std.proofs.lemmas.Slice.Eq.{bytes_eq-Decides}
 use denote.Enum.Bare.{same_true, true_same}
 use Rattle.value_model.specs.Value as model
-use Rattle.property_table.specs.Values.{value_of}
+use Rattle.property_table.specs.View.{value_of}
 use Rattle.property_table.specs.declared.value.Value.{Value}
 use Rattle.property_table.specs.declared.value.Value.TheVariants.{Keyword, Color}
 use Rattle.property_table.specs.contracts.keyword.Keyword.{the_type}

@@ -2,8 +2,8 @@
 use Rattle.std.proofs.Common.{◌≡◌, List, [], ◌∷◌, Option, Some, refl, sym, ap, ◌∙◌}
 use Rattle.std.specs.Prelude.{find}
 use Rattle.std.specs.Str.{bytes_eq}
-use Rattle.scene_model.specs.Element.{Characters}
-use Rattle.property_table.specs.Words.{word_of}
+use Rattle.base_model.specs.Text.{Characters}
+use Rattle.property_table.specs.View.{word_of}
 use Rattle.property_table.specs.declared.keyword.Keyword.{Keyword}
 use Rattle.property_table.specs.declared.keyword.Keyword.TheVariants.{Inline, Block, InlineBlock, Flex, InlineFlex, None, Left, Right, Both, Visible, Hidden, Collapse, CurrentColor}
 

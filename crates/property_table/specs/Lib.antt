@@ -1,5 +1,1 @@
-pub mod Words
-pub mod Colors
-pub mod Values
-pub mod Forms
-pub mod Rows
+pub mod View

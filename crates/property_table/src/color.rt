@@ -3,7 +3,7 @@
 ghost use Rattle.std.specs.Prelude.{◌≡◌, ◌<◌, ◌++◌, ◌∷◌, ◌==◌, if◌then◌else◌, OnErr, OnOk};
 ghost use Rattle.std.specs.Char.{digit_char};
 ghost use Rattle.value_model.specs.Color.{color_text, two_digits};
-ghost use Rattle.property_table.specs.Colors.{color_of};
+ghost use Rattle.property_table.specs.View.{color_of};
 
 use stylo_base::{NoMemory, Text};
 
@@ -23,7 +23,7 @@ pub struct Color {
 }
 
 impl Color {
-    /// Puts the colour behind `text`: `#rrggbb`, or `#rrggbbaa` where it is not opaque, in lower
+    /// Appends the colour to `text`: `#rrggbb`, or `#rrggbbaa` where it is not opaque, in lower
     /// case.
     pub fn write(self, text: &mut Text) -> Result<(), NoMemory>
         ensures ok { OnOk result (text.new ≡ text.old ++ color_text (color_of self)) }

@@ -2,7 +2,7 @@
 
 ghost use Rattle.std.specs.Prelude.{◌≡◌, true};
 ghost use Rattle.stylo_base.specs.Ascii.{is_all_ascii};
-ghost use Rattle.property_table.specs.Words.{word_of};
+ghost use Rattle.property_table.specs.View.{word_of};
 
 /// A keyword of a value.
 #[derive(Clone, Copy, Debug, PartialEq, Eq)]

@@ -4,15 +4,13 @@
 #![tactic(auto)]
 
 mod color;
-mod form;
 mod keyword;
 mod property;
-#[cfg(test)]
-mod tests;
 mod value;
+mod value_form;
 
 pub use color::Color;
-pub use form::Form;
 pub use keyword::Keyword;
 pub use property::{COUNT, PropId, Row, by_name, inherited, initial, name, standing};
 pub use value::Value;
+pub use value_form::ValueForm;

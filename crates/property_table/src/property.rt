@@ -4,10 +4,9 @@ ghost use Rattle.std.specs.Prelude.{◌≡◌, ◌<◌, Some, length, map, optio
 ghost use Rattle.std.specs.List.{range_with_len};
 ghost use Rattle.std.specs.Str.{chars};
 ghost use Rattle.value_model.specs.Table.{property_named, table};
-ghost use Rattle.property_table.specs.Values.{value_of};
-ghost use Rattle.property_table.specs.Rows.{property_of, row_of, row_seen};
+ghost use Rattle.property_table.specs.View.{value_of, property_of, row_of, row_seen};
 
-use crate::{Color, Form, Keyword, Value};
+use crate::{Color, Keyword, Value, ValueForm};
 use stylo_base::eq_ascii_case;
 
 /// A property.
@@ -33,7 +32,7 @@ pub struct Row {
     /// What is not printed.
     pub standing: Value,
     /// What it takes.
-    pub forms: &'static [Form],
+    pub forms: &'static [ValueForm],
 }
 
 /// The number of properties.
@@ -54,7 +53,7 @@ static ROWS: [Row; COUNT] = [
         inherited: true,
         initial: BLACK,
         standing: BLACK,
-        forms: &[Form::AnyColor],
+        forms: &[ValueForm::AnyColor],
     },
     Row {
         id: PropId::Display,
@@ -63,12 +62,12 @@ static ROWS: [Row; COUNT] = [
         initial: Value::Keyword(Keyword::Inline),
         standing: Value::Keyword(Keyword::Inline),
         forms: &[
-            Form::Word(Keyword::Inline),
-            Form::Word(Keyword::Block),
-            Form::Word(Keyword::InlineBlock),
-            Form::Word(Keyword::Flex),
-            Form::Word(Keyword::InlineFlex),
-            Form::Word(Keyword::None),
+            ValueForm::Word(Keyword::Inline),
+            ValueForm::Word(Keyword::Block),
+            ValueForm::Word(Keyword::InlineBlock),
+            ValueForm::Word(Keyword::Flex),
+            ValueForm::Word(Keyword::InlineFlex),
+            ValueForm::Word(Keyword::None),
         ],
     },
     Row {
@@ -78,10 +77,10 @@ static ROWS: [Row; COUNT] = [
         initial: Value::Keyword(Keyword::None),
         standing: Value::Keyword(Keyword::None),
         forms: &[
-            Form::Word(Keyword::None),
-            Form::Word(Keyword::Left),
-            Form::Word(Keyword::Right),
-            Form::Word(Keyword::Both),
+            ValueForm::Word(Keyword::None),
+            ValueForm::Word(Keyword::Left),
+            ValueForm::Word(Keyword::Right),
+            ValueForm::Word(Keyword::Both),
         ],
     },
     Row {
@@ -91,17 +90,17 @@ static ROWS: [Row; COUNT] = [
         initial: Value::Keyword(Keyword::Visible),
         standing: Value::Keyword(Keyword::Visible),
         forms: &[
-            Form::Word(Keyword::Visible),
-            Form::Word(Keyword::Hidden),
-            Form::Word(Keyword::Collapse),
+            ValueForm::Word(Keyword::Visible),
+            ValueForm::Word(Keyword::Hidden),
+            ValueForm::Word(Keyword::Collapse),
         ],
     },
 ];
 
 impl PropId {
-    /// The place in the table, from 0.
-    pub fn place(self) -> usize
-        ensures place { result ≡ property_of self }
+    /// Its row in the table, from 0.
+    pub fn row(self) -> usize
+        ensures row { result ≡ property_of self }
         ensures within { result < COUNT }
     {
         self as usize
@@ -112,7 +111,7 @@ impl Row {
     /// All rows, in the order of the table.
     pub fn all() -> &'static [Row]
         ensures rows { map row_seen result.now ≡ table }
-        ensures places { map (λ row. property_of row.id) result.now
+        ensures order { map (λ row. property_of row.id) result.now
             ≡ range_with_len 0 (length table) }
     {
         &ROWS
@@ -120,15 +119,15 @@ impl Row {
 
     /// The row of a property.
     pub fn of(id: PropId) -> &'static Row
-        ensures place { slice_get table (property_of id) ≡ Some (row_of id) }
+        ensures found { slice_get table (property_of id) ≡ Some (row_of id) }
         ensures row { row_seen result.now ≡ row_of id }
         ensures id { result.now.id ≡ id }
     {
-        &Row::all()[id.place()]
+        &Row::all()[id.row()]
     }
 }
 
-/// The property of that name, ASCII case aside. It takes no memory.
+/// The property of that name, ignoring ASCII case. It takes no memory.
 pub fn by_name(name: &str) -> Option<PropId>
     ensures { option_map property_of result ≡ property_named (chars name.now) }
 {

@@ -2,7 +2,7 @@
 
 ghost use Rattle.std.specs.Prelude.{◌≡◌, ◌++◌, ◌↔◌, IsTrue, OnErr, OnOk};
 ghost use Rattle.value_model.specs.Value.{same_value, written};
-ghost use Rattle.property_table.specs.Values.{value_of};
+ghost use Rattle.property_table.specs.View.{value_of};
 
 use crate::{Color, Keyword};
 use stylo_base::{NoMemory, Text};
@@ -23,7 +23,7 @@ impl Value {
         self == other
     }
 
-    /// Puts the value behind `text`, as it is printed.
+    /// Appends the value to `text`, as it is printed.
     pub fn write(self, text: &mut Text) -> Result<(), NoMemory>
         ensures ok { OnOk result (text.new ≡ text.old ++ written (value_of self)) }
         ensures err { OnErr result (text.new ≡ text.old) }

@@ -4,15 +4,14 @@ use Rattle.std.specs.List.{range_with_len}
 use Rattle.std.specs.Str.{IsUtf8}
 use lib.Utf8.{encode}
 use Rattle.stylo_base.specs.Ascii.{is_all_ascii}
-use Rattle.scene_model.specs.Element.{Characters}
+use Rattle.base_model.specs.Text.{Characters}
 use Rattle.value_model.specs.Value.{Value, same_value}
 use Rattle.value_model.specs.Table as model
 use Rattle.value_model.specs.Table.{table}
-use Rattle.property_table.specs.Rows.{property_of, row_seen}
-use Rattle.property_table.specs.Values.{value_of}
+use Rattle.property_table.specs.View.{property_of, row_seen, value_of}
 use Rattle.property_table.specs.declared.property.Row.{Row}
-use Rattle.property_table.proofs.RowLemmas.{row_at, place_at, drop_at}
-use Rattle.report_text.specs.Lines.{declaration, declarations, behind}
+use Rattle.property_table.proofs.RowLemmas.{row_at, property_at, drop_at}
+use Rattle.value_model.specs.Printed.{declaration_text, declaration_texts, each_after}
 
 abbrev pub between : Characters
 between = codes "; "
@@ -21,61 +20,61 @@ between-IsUtf8 : IsUtf8 between
 unfolding encode
 between-IsUtf8 = (between, (refl, refl))
 
--- what is still to print: the first text behind a separator of its own, the rest behind the usual one
+-- what is still to print: the first text after a separator of its own, the rest after the usual one
 abbrev pub led_by : Characters → List Characters → Characters
 led_by separator [] = []
-led_by separator (text ∷ texts) = separator ++ (text ++ behind between texts)
+led_by separator (text ∷ texts) = separator ++ (text ++ each_after between texts)
 
-behind-led_by : (texts : List Characters) → led_by between texts ≡ behind between texts
-behind-led_by [] = refl
-behind-led_by (text ∷ texts) = refl
+after-led_by : (texts : List Characters) → led_by between texts ≡ each_after between texts
+after-led_by [] = refl
+after-led_by (text ∷ texts) = refl
 
--- the declarations from a place of the table on
-abbrev pub declarations_from : List Value → ℕ → List Characters
-declarations_from values i = declarations (drop i table) (drop i values)
+-- the declarations from an index of the table on
+abbrev pub texts_from : List Value → ℕ → List Characters
+texts_from values i = declaration_texts (drop i table) (drop i values)
 
 -- the line and what is still to print make the whole
 pub record IsPrinted (values : List Value) (line separator whole : Characters) (i : ℕ) : Type 0 where
   pub text : IsUtf8 separator
   pub ascii : is_all_ascii separator ≡ true
-  pub printed : line ++ led_by separator (declarations_from values i) ≡ whole
+  pub printed : line ++ led_by separator (texts_from values i) ≡ whole
 
 -- a row whose value is the standing one gives no declaration, each other one gives one
-declarations_row : (rows : List Row) (values : List Value) (i : ℕ) (d : Row) (value : Value) (standing : Bool) → map row_seen rows ≡ table → map (λ (row : Row). property_of row.id) rows ≡ range_with_len 0 (length table) → i < length rows → slice_get values (property_of (get_or rows i d).id) ≡ Some value → standing ≡ same_value value (value_of (get_or rows i d).standing) → declarations_from values i ≡ (if standing then declarations_from values (i + 1) else declaration (row_seen (get_or rows i d)) value ∷ declarations_from values (i + 1))
-declarations_row rows values i d value standing h places lt there same =
+declarations_row : (rows : List Row) (values : List Value) (i : ℕ) (d : Row) (value : Value) (standing : Bool) → map row_seen rows ≡ table → map (λ (row : Row). property_of row.id) rows ≡ range_with_len 0 (length table) → i < length rows → slice_get values (property_of (get_or rows i d).id) ≡ Some value → standing ≡ same_value value (value_of (get_or rows i d).standing) → texts_from values i ≡ (if standing then texts_from values (i + 1) else declaration_text (row_seen (get_or rows i d)) value ∷ texts_from values (i + 1))
+declarations_row rows values i d value standing h order lt there same =
     let row : model.Row = row_seen (get_or rows i d) in
-    let here : slice_get values i ≡ Some value = ap (slice_get values) (sym (place_at rows i d places lt)) ∙ there in
-    ap (λ list. declarations list (drop i values)) (drop_at table i row (row_at rows i d h lt))
-    ∙ (ap (declarations (row ∷ drop (i + 1) table)) (drop_at values i value here)
-    ∙ ap (λ b. if b then declarations_from values (i + 1) else declaration row value ∷ declarations_from values (i + 1)) (sym same))
+    let here : slice_get values i ≡ Some value = ap (slice_get values) (sym (property_at rows i d order lt)) ∙ there in
+    ap (λ list. declaration_texts list (drop i values)) (drop_at table i row (row_at rows i d h lt))
+    ∙ (ap (declaration_texts (row ∷ drop (i + 1) table)) (drop_at values i value here)
+    ∙ ap (λ b. if b then texts_from values (i + 1) else declaration_text row value ∷ texts_from values (i + 1)) (sym same))
 
 -- a standing value is not printed
 pub printed_not : (rows : List Row) (values : List Value) (line new separator next whole : Characters) (i : ℕ) (d : Row) (value : Value) → map row_seen rows ≡ table → map (λ (row : Row). property_of row.id) rows ≡ range_with_len 0 (length table) → i < length rows → slice_get values (property_of (get_or rows i d).id) ≡ Some value → true ≡ same_value value (value_of (get_or rows i d).standing) → new ≡ line → next ≡ separator → IsPrinted values line separator whole i → IsPrinted values new next whole (i + 1)
-printed_not rows values line new separator next whole i d value h places lt there same as_before kept old =
-    let none : declarations_from values i ≡ declarations_from values (i + 1) =
-    declarations_row rows values i d value true h places lt there same in record {
+printed_not rows values line new separator next whole i d value h order lt there same as_before kept old =
+    let none : texts_from values i ≡ texts_from values (i + 1) =
+    declarations_row rows values i d value true h order lt there same in record {
       text = subst IsUtf8 (sym kept) old.text;
       ascii = ap is_all_ascii kept ∙ old.ascii;
       printed =
-          ap (λ text. text ++ led_by next (declarations_from values (i + 1))) as_before
-          ∙ (ap (λ text. line ++ led_by text (declarations_from values (i + 1))) kept
+          ap (λ text. text ++ led_by next (texts_from values (i + 1))) as_before
+          ∙ (ap (λ text. line ++ led_by text (texts_from values (i + 1))) kept
           ∙ (ap (λ texts. line ++ led_by separator texts) (sym none) ∙ old.printed));
     }
 
--- another one is printed behind the separator
-pub printed_one : (rows : List Row) (values : List Value) (line led new separator next whole : Characters) (i : ℕ) (d : Row) (value : Value) → map row_seen rows ≡ table → map (λ (row : Row). property_of row.id) rows ≡ range_with_len 0 (length table) → i < length rows → slice_get values (property_of (get_or rows i d).id) ≡ Some value → false ≡ same_value value (value_of (get_or rows i d).standing) → led ≡ line ++ separator → new ≡ led ++ declaration (row_seen (get_or rows i d)) value → next ≡ between → IsPrinted values line separator whole i → IsPrinted values new next whole (i + 1)
-printed_one rows values line led new separator next whole i d value h places lt there same behind_line behind_led is old =
-    let text : Characters = declaration (row_seen (get_or rows i d)) value in
-    let rest : List Characters = declarations_from values (i + 1) in
-    let one : declarations_from values i ≡ text ∷ rest =
-    declarations_row rows values i d value false h places lt there same in record {
+-- another one is printed after the separator
+pub printed_one : (rows : List Row) (values : List Value) (line led new separator next whole : Characters) (i : ℕ) (d : Row) (value : Value) → map row_seen rows ≡ table → map (λ (row : Row). property_of row.id) rows ≡ range_with_len 0 (length table) → i < length rows → slice_get values (property_of (get_or rows i d).id) ≡ Some value → false ≡ same_value value (value_of (get_or rows i d).standing) → led ≡ line ++ separator → new ≡ led ++ declaration_text (row_seen (get_or rows i d)) value → next ≡ between → IsPrinted values line separator whole i → IsPrinted values new next whole (i + 1)
+printed_one rows values line led new separator next whole i d value h order lt there same after_line after_led is old =
+    let text : Characters = declaration_text (row_seen (get_or rows i d)) value in
+    let rest : List Characters = texts_from values (i + 1) in
+    let one : texts_from values i ≡ text ∷ rest =
+    declarations_row rows values i d value false h order lt there same in record {
       text = subst IsUtf8 (sym is) between-IsUtf8;
       ascii = ap is_all_ascii is;
       printed =
-          ap (λ start. start ++ led_by next rest) (behind_led ∙ ap (λ start. start ++ text) behind_line)
+          ap (λ start. start ++ led_by next rest) (after_led ∙ ap (λ start. start ++ text) after_line)
           ∙ (ap (λ lead. ((line ++ separator) ++ text) ++ led_by lead rest) is
-          ∙ (ap (λ more. ((line ++ separator) ++ text) ++ more) (behind-led_by rest)
-          ∙ (append_assoc (line ++ separator) text (behind between rest)
-          ∙ (append_assoc line separator (text ++ behind between rest)
+          ∙ (ap (λ more. ((line ++ separator) ++ text) ++ more) (after-led_by rest)
+          ∙ (append_assoc (line ++ separator) text (each_after between rest)
+          ∙ (append_assoc line separator (text ++ each_after between rest)
           ∙ (ap (λ texts. line ++ led_by separator texts) (sym one) ∙ old.printed)))));
     }

@@ -1,12 +1,11 @@
 //! What is printed for a batch and for an element, each line with its line feed.
 
-ghost use Rattle.std.specs.Prelude.{◌≡◌, ◌++◌, IfOk, OnOk, codes, decimal, true};
+ghost use Rattle.std.specs.Prelude.{◌≡◌, ◌++◌, IfOk, OnOk, decimal, true};
 ghost use Rattle.std.specs.Str.{chars};
 ghost use Rattle.stylo_base.specs.Ascii.{is_all_ascii};
-ghost use Rattle.value_model.specs.Table.{table};
-ghost use Rattle.property_table.specs.Rows.{row_seen};
-ghost use Rattle.property_table.specs.Values.{value_of};
-ghost use Rattle.report_text.specs.Lines.{batch_line, declaration, declarations, element_line, joined};
+ghost use Rattle.value_model.specs.Printed.{declaration_text, printed_declarations};
+ghost use Rattle.property_table.specs.View.{row_seen, value_of};
+ghost use Rattle.report_text.specs.Lines.{batch_line, element_line};
 
 use property_table::{Row, Value};
 use std::alloc::Global;
@@ -50,10 +49,9 @@ pub fn element_line(alloc: Global, number: u32, tag: &str, style: &Style) -> Res
     Ok(line)
 }
 
-/// Puts the properties whose value is not the standing one behind the line.
+/// Appends the properties whose value is not the standing one to the line.
 fn push_declarations(line: &mut Text, style: &Style) -> Result<(), NoMemory>
-    ensures { let texts = declarations table style.now.values in
-        OnOk result (line.new ≡ line.old ++ joined (codes "; ") texts) }
+    ensures { OnOk result (line.new ≡ line.old ++ printed_declarations style.now) }
 {
     let mut separator = "";
     for row in Row::all() {
@@ -67,9 +65,9 @@ fn push_declarations(line: &mut Text, style: &Style) -> Result<(), NoMemory>
     Ok(())
 }
 
-/// Puts a property and its value behind the line.
+/// Appends a property and its value to the line.
 fn push_declaration(line: &mut Text, row: &Row, value: Value) -> Result<(), NoMemory>
-    ensures { let text = declaration (row_seen row.now) (value_of value) in
+    ensures { let text = declaration_text (row_seen row.now) (value_of value) in
         OnOk result (line.new ≡ line.old ++ text) }
 {
     line.push_str(row.name)?;
@@ -77,7 +75,7 @@ fn push_declaration(line: &mut Text, row: &Row, value: Value) -> Result<(), NoMe
     value.write(line)
 }
 
-/// Puts a word in ASCII and a number behind the line.
+/// Appends a word in ASCII and a number to the line.
 fn push_count(line: &mut Text, before: &str, count: u64) -> Result<(), NoMemory>
     requires { is_all_ascii before.now ≡ true }
     ensures { OnOk result (line.new ≡ line.old ++ (before.now ++ decimal count)) }

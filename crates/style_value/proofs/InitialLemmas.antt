@@ -1,11 +1,10 @@
--- The initial values, place by place.
+-- The initial values, row by row.
 use Rattle.std.proofs.Common.{◌≡◌, ℕ, ◌<◌, List, Some, length, map, get_or, slice_get, option_map, sym, ap, ◌∙◌, arith}
 use Rattle.std.proofs.lemmas.List.{length-map, get_or-map, same_lists}
 use Rattle.std.proofs.lemmas.Option.{slice_get-map, get_or_from_slice_get}
 use Rattle.value_model.specs.Table as model
 use Rattle.value_model.specs.Style.{initial_style}
-use Rattle.property_table.specs.Rows.{row_seen}
-use Rattle.property_table.specs.Values.{value_of}
+use Rattle.property_table.specs.View.{row_seen, value_of}
 use Rattle.property_table.specs.declared.keyword.Keyword.TheVariants.{Inline}
 use Rattle.property_table.specs.declared.value.Value.{Value}
 use Rattle.property_table.specs.declared.value.Value.TheVariants.{Keyword}
@@ -13,13 +12,13 @@ use Rattle.property_table.specs.declared.property.Row.{Row}
 use Rattle.property_table.proofs.RowLemmas.{row_at}
 use Rattle.style_value.proofs.StyleLemmas.{seen}
 
--- the initial value at a place of the table
-pub initial_at : (rows : List Row) (place : ℕ) (d : Row) → map row_seen rows ≡ model.table → place < length rows → slice_get initial_style.values place ≡ Some (value_of (get_or rows place d).initial)
-initial_at rows place d h lt =
-    slice_get-map (λ (row : model.Row). row.initial) model.table place
-    ∙ ap (option_map (λ (row : model.Row). row.initial)) (row_at rows place d h lt)
+-- the initial value at an index of the table
+pub initial_at : (rows : List Row) (i : ℕ) (d : Row) → map row_seen rows ≡ model.table → i < length rows → slice_get initial_style.values i ≡ Some (value_of (get_or rows i d).initial)
+initial_at rows i d h lt =
+    slice_get-map (λ (row : model.Row). row.initial) model.table i
+    ∙ ap (option_map (λ (row : model.Row). row.initial)) (row_at rows i d h lt)
 
--- values that are the initial ones at each place
+-- values that are the initial ones at each index
 pub all_initial : (values : List Value) → length values ≡ length model.table → ((k : ℕ) (d : Value) → k < length model.table → slice_get initial_style.values k ≡ Some (value_of (get_or values k d))) → seen values ≡ initial_style
 all_initial values long each =
     let longer : length (map value_of values) ≡ length initial_style.values =

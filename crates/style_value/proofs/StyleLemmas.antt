@@ -5,7 +5,7 @@ use Rattle.std.specs.Cmp.Lexicographic.{pointwise}
 use Rattle.std.proofs.lemmas.List.{map-set}
 use Rattle.std.proofs.lemmas.Slice.Eq.{slice_eq-Decides}
 use Rattle.value_model.specs.Style.{Style}
-use Rattle.property_table.specs.Values.{value_of}
+use Rattle.property_table.specs.View.{value_of}
 use Rattle.property_table.specs.declared.value.Value.{Value}
 use Rattle.property_table.proofs.ValueLemmas.{value_of-same}
 
@@ -13,7 +13,7 @@ use Rattle.property_table.proofs.ValueLemmas.{value_of-same}
 abbrev pub seen : List Value → Style
 seen values = record { values = map value_of values }
 
--- a value is put at a place
+-- a value is changed
 pub seen-set : (values : List Value) (style : Style) (i j : ℕ) (v : Value) → seen values ≡ style → i ≡ j → seen (set values i v) ≡ record { values = set style.values j (value_of v) }
 seen-set values style i j v h e =
     ap (λ list. record { values = list }) (map-set value_of values i v

@@ -2,7 +2,7 @@
 
 ghost use Rattle.std.specs.Prelude.{◌≡◌};
 ghost use Rattle.value_model.specs.Style.{blockified};
-ghost use Rattle.property_table.specs.Values.{value_of};
+ghost use Rattle.property_table.specs.View.{value_of};
 
 use property_table::{Keyword, Value};
 

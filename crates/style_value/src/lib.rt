@@ -3,8 +3,6 @@
 
 mod blockify;
 mod style;
-#[cfg(test)]
-mod tests;
 
 pub use blockify::blockified;
 pub use style::Style;

@@ -1,10 +1,9 @@
 //! A style, which contracts see as the list of its values in the order of the table.
 
 ghost use Rattle.std.specs.Prelude.{◌≡◌, ◌<◌, ◌↔◌, Some, IfOk, IsTrue, length, slice_get, slice_set};
-ghost use Rattle.value_model.specs.Table.{display_place, table};
+ghost use Rattle.value_model.specs.Table.{display_property, table};
 ghost use Rattle.value_model.specs.Style.{blockified, inherited_part, initial_style, with_changed};
-ghost use Rattle.property_table.specs.Rows.{property_of};
-ghost use Rattle.property_table.specs.Values.{value_of};
+ghost use Rattle.property_table.specs.View.{property_of, value_of};
 
 use crate::blockified;
 use property_table::{COUNT, PropId, Row, Value};
@@ -22,7 +21,7 @@ impl Model for Style {
     ghost use Rattle.std.specs.Prelude.{◌≡◌, length, map};
     ghost use Rattle.value_model.specs.Style as model;
     ghost use Rattle.value_model.specs.Table.{table};
-    ghost use Rattle.property_table.specs.Values.{value_of};
+    ghost use Rattle.property_table.specs.View.{value_of};
 
     ghost Value = { model.Style };
 
@@ -64,7 +63,7 @@ impl Style {
         ensures value { slice_get self.now.values (property_of id) ≡ Some (value_of result) }
         ensures all { length self.now.values ≡ length table }
     {
-        self.values[id.place()]
+        self.values[id.row()]
     }
 
     /// Gives a property a value.
@@ -72,7 +71,7 @@ impl Style {
         ensures { let values = slice_set self.old.values (property_of id) (value_of value) in
             self.new ≡ record self.old { values = values } }
     {
-        self.values[id.place()] = value;
+        self.values[id.row()] = value;
     }
 
     /// Whether the two have the same values.
@@ -84,17 +83,17 @@ impl Style {
 
     /// Makes the element a block.
     pub fn blockify(&mut self)
-        ensures { self.new ≡ with_changed blockified display_place self.old }
+        ensures { self.new ≡ with_changed blockified display_property self.old }
     {
         let display = self.value(PropId::Display);
         self.set(PropId::Display, blockified(display));
     }
 }
 
-/// The initial value of the property at a place of the table.
-fn initial_at(place: usize) -> Value
-    requires { place < COUNT }
-    ensures { slice_get initial_style.values place ≡ Some (value_of result) }
+/// The initial value of the property of a row of the table.
+fn initial_at(row: usize) -> Value
+    requires { row < COUNT }
+    ensures { slice_get initial_style.values row ≡ Some (value_of result) }
 {
-    Row::all()[place].initial
+    Row::all()[row].initial
 }

@@ -1,16 +1,31 @@
-use Rattle.std.proofs.Common.{option_copied, option_map, ap, ◌∙◌}
-use Rattle.cascade_core.specs.Matches.{matched_of}
-use Rattle.cascade_core.proofs.BestLemmas.{winner_at}
-use Rattle.cascade_core.proofs.FilledLemmas.{filled_put, filled_kept}
+use Rattle.std.proofs.Common.{List, ◌++◌, map, arith, ap, sym, ◌∙◌}
+use Rattle.value_model.specs.Style.{Style}
+use Rattle.value_model.proofs.ByRow.{filled_all}
+use Rattle.property_table.proofs.RowLemmas.{length-rows}
+use Rattle.cascade_model.specs.Key as model
+use Rattle.cascade_core.specs.View.{ending_seen, matched_of}
+use Rattle.cascade_core.proofs.FilledLemmas.{sets_one, unsets_one, length-values, values-within}
 use Rattle.cascade_core.proofs.styled.values.Goals as goal
-use Rattle.cascade_core.proofs.styled.values.Goals.{in-Some, in_default}
+use Rattle.cascade_core.proofs.styled.values.Goals.{in-EndsAt, in_default}
+
+pub loop-row-init : goal.loop-row-init
+loop-row-init c = record {
+  long = length-values (map matched_of (c.args.matched.now ++ c.args.attached.now)) c.args.parent.now.values;
+  filled = ap (λ (s : Style). s.values) c.in_ok-style.ensures;
+}
 
 pub loop-row-preserved : goal.loop-row-preserved
 loop-row-preserved c =
+    let ds : List model.Matched = map matched_of (c.args.matched.now ++ c.args.attached.now) in
     let rows = c.all-row-items.ensures in
     let within = c.loop-row-test.true in
-    let wins = winner_at _ _ _ _ c.among-winners.ensures c.of.ensures in
-    elim c.match-of.branch [
-      | in-Some w ↦ filled_put _ _ _ rows.rows rows.places within _ _ _ _ (matched_of w.in-Some.d.now) _ (wins ∙ ap (λ best. option_map matched_of (option_copied best)) w.in-Some.is) w.computed_of.ensures (w.style-is ∙ w.set.ensures) c.loop-row.invariant
-      | in_default w ↦ filled_kept _ _ _ rows.rows rows.places within _ _ _ _ (wins ∙ ap (λ best. option_map matched_of (option_copied best)) w.in_default.is) w.style-is c.loop-row.invariant
+    let ends = c.ending.ensures ds c.among-winners.ensures in
+    elim c.match-ending.branch [
+      | in-EndsAt w ↦ sets_one ds c.args.parent.now.values _ _ _ rows.rows rows.order within _ _ _ _ (sym ends ∙ ap ending_seen w.in-EndsAt.is) w.computed_of.ensures (w.style-is ∙ w.set.ensures) c.loop-row.invariant
+      | in_default w ↦ unsets_one ds c.args.parent.now.values _ _ _ rows.rows rows.order within _ _ (sym ends ∙ ap ending_seen w.in_default.is) w.style-is c.loop-row.invariant
     ]
+
+pub returns : goal.returns
+returns c =
+    let within = values-within (map matched_of (c.args.matched.now ++ c.args.attached.now)) c.args.parent.now.values in
+    ap (λ list. record { values = list }) (filled_all _ _ _ c.loop-row.row-index (omega (arith, within, length-rows _ c.all-row-items.ensures.rows, c.loop-row-test.false)) c.loop-row.invariant)

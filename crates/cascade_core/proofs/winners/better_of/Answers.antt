@@ -1,17 +1,25 @@
-use Rattle.std.proofs.Common.{option_copied, option_map, sym, ap, ◌∙◌}
+use Rattle.std.proofs.Common.{Bool, option_copied, option_map, refl, sym, ap, ◌∙◌}
 use Rattle.std.specs.Ordering.{is_lt}
+use Rattle.std.proofs.lemmas.Bool.{eq-eqb}
+use Rattle.cascade_model.specs.Key.{Matched}
+use Rattle.cascade_model.specs.Winner.{declares_longhand}
 use Rattle.cascade_model.proofs.WinnerLemmas.{winner_first, winner_greater, winner_stays}
-use Rattle.cascade_core.specs.Matches.{matched_of}
+use Rattle.property_table.specs.View.{property_of}
+use Rattle.property_table.specs.declared.property.PropId.{PropId}
+use Rattle.cascade_core.specs.View.{matched_of}
 use Rattle.cascade_core.proofs.winners.better_of.Goals as goal
+
+abbrev of_property : PropId → Matched → Bool
+of_property id = declares_longhand (property_of id)
 
 pub returns-in_default : goal.returns-in_default
 returns-in_default c = λ ds wins.
-    winner_first ds (matched_of c.args.d.now) (wins ∙ ap (λ best. option_map matched_of (option_copied best)) c.in_default.is)
+    winner_first (of_property c.args.d.now.property) ds (matched_of c.args.d.now) (eq-eqb _ _ refl) (wins ∙ ap (λ best. option_map matched_of (option_copied best)) c.in_default.is)
 
 pub returns-then-is_lt : goal.returns-then-is_lt
 returns-then-is_lt c = λ ds wins.
-    winner_greater ds (matched_of c.args.d.now) (matched_of c.in-Some.winner.now) (wins ∙ ap (λ best. option_map matched_of (option_copied best)) c.in-Some.is) (ap is_lt (sym c.compare.ensures) ∙ (sym c.is_lt.ensures ∙ c.if-is_lt.true))
+    winner_greater (of_property c.args.d.now.property) ds (matched_of c.args.d.now) (matched_of c.in-Some.winner.now) (eq-eqb _ _ refl) (wins ∙ ap (λ best. option_map matched_of (option_copied best)) c.in-Some.is) (ap is_lt (sym c.compare.ensures) ∙ (sym c.is_lt.ensures ∙ c.if-is_lt.true))
 
 pub returns-else-is_lt : goal.returns-else-is_lt
 returns-else-is_lt c = λ ds wins.
-    winner_stays ds (matched_of c.args.d.now) (matched_of c.in-Some.winner.now) (wins ∙ ap (λ best. option_map matched_of (option_copied best)) c.in-Some.is) (ap is_lt (sym c.compare.ensures) ∙ (sym c.is_lt.ensures ∙ c.if-is_lt.false))
+    winner_stays (of_property c.args.d.now.property) ds (matched_of c.args.d.now) (matched_of c.in-Some.winner.now) (eq-eqb _ _ refl) (wins ∙ ap (λ best. option_map matched_of (option_copied best)) c.in-Some.is) (ap is_lt (sym c.compare.ensures) ∙ (sym c.is_lt.ensures ∙ c.if-is_lt.false))

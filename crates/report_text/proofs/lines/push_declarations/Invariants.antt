@@ -1,9 +1,8 @@
-use Rattle.std.proofs.Common.{◌++◌, codes}
-use Rattle.value_model.specs.Table.{table}
-use Rattle.report_text.specs.Lines.{declarations, joined}
+use Rattle.std.proofs.Common.{◌++◌}
+use Rattle.value_model.specs.Printed.{printed_declarations}
 use Rattle.report_text.proofs.DeclarationLemmas.{IsPrinted}
 use Rattle.report_text.proofs.lines.push_declarations.Given as goal
 
 abbrev pub invariant-loop-row : goal.invariant-loop-row
 invariant-loop-row l =
-    IsPrinted l.style.values l.line l.separator (l.initial.line ++ joined (codes "; ") (declarations table l.style.values)) l.row-index
+    IsPrinted l.style.values l.line l.separator (l.initial.line ++ printed_declarations l.style) l.row-index

@@ -1,5 +1,5 @@
 use Rattle.std.proofs.Common.{◌≡◌, ◌++◌, OnOk, List, ℕ, rules, subst, ◌∙◌}
-use Rattle.property_table.specs.Colors.{color_of}
+use Rattle.property_table.specs.View.{color_of}
 use Rattle.property_table.proofs.ColorLemmas.{color_text_is, printed-IsUtf8, chars-printed}
 use Rattle.property_table.proofs.color.Color.write.Goals as goal
 

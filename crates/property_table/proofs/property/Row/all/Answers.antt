@@ -7,6 +7,6 @@ pub returns-clause-rows : goal.returns-clause-rows
 unfolding chars table
 returns-clause-rows c = refl
 
-pub returns-clause-places : goal.returns-clause-places
+pub returns-clause-order : goal.returns-clause-order
 unfolding table
-returns-clause-places c = refl
+returns-clause-order c = refl

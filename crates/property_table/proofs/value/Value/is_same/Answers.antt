@@ -1,5 +1,5 @@
 use Rattle.std.proofs.lemmas.Bool.Decides.{Decides-at, same_from_decides}
-use Rattle.property_table.specs.Values.{value_of}
+use Rattle.property_table.specs.View.{value_of}
 use Rattle.property_table.proofs.ValueLemmas.{eq-Decides, same_value-Decides}
 use Rattle.property_table.proofs.value.Value.is_same.Goals as goal
 

@@ -1,0 +1,35 @@
+-- What a declaration that applies to an element stands for, and what its property ends in.
+use Rattle.std.specs.Prelude.{List, Option, map, length}
+use Rattle.std.specs.List.{range_with_len}
+use Rattle.sheet_model.specs.Declared.{longhand, exactly}
+use Rattle.cascade_model.specs.Key as model
+use Rattle.cascade_model.specs.Ending as ending_model
+use Rattle.cascade_model.specs.Winner.{winner, declares_longhand}
+use Rattle.layer_order.specs.View.{origin_of}
+use Rattle.property_table.specs.View.{property_of, value_of}
+use Rattle.value_model.specs.Table.{table}
+use Rattle.cascade_core.specs.declared.matched.Matched.{Matched}
+use Rattle.cascade_core.specs.declared.ending.Ending.{Ending}
+use Rattle.cascade_core.specs.declared.ending.Ending.TheVariants.{Unsets, EndsAt}
+
+abbrev pub matched_of : Matched → model.Matched
+matched_of d = record {
+  target = longhand (property_of d.property);
+  given = exactly (value_of d.value);
+  origin = origin_of d.origin;
+  important = d.important;
+  attached = d.attached;
+  layer = d.layer;
+  specificity = d.specificity;
+  sheet = d.sheet;
+  position = d.position;
+  index = d.index;
+}
+
+abbrev pub ending_seen : Ending → ending_model.Ending
+ending_seen Unsets = ending_model.unsets
+ending_seen (EndsAt value) = ending_model.ends_at (value_of value)
+
+-- for each property of the table the declaration that wins, if there is one
+abbrev pub winners_of : List model.Matched → List (Option model.Matched)
+winners_of ds = map (λ property. winner (declares_longhand property) ds) (range_with_len 0 (length table))
