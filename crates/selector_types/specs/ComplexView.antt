@@ -1,4 +1,4 @@
--- What the types of selectors stand for, one layer at a time.
+-- The views of compounds and of what combines them, one layer at a time.
 use Rattle.std.specs.Prelude.{List, [], ◌∷◌, map, Option, Some, None, Box}
 use Rattle.std.specs.declared.alloc.Global.{Global}
 use Rattle.selector_model.specs.Selector as model
@@ -11,7 +11,7 @@ use Rattle.selector_types.specs.declared.complex.Left.{Left}
 use Rattle.selector_types.specs.declared.complex.Test.TheOpen as layer
 use Rattle.selector_types.specs.declared.complex.Test.TheOpen.{Test-F, Complex-F, Compound-F, Left-F}
 use Rattle.selector_types.specs.declared.complex.Test.TheFolds.{fold-Test, fold-Complex, fold-Compound, fold-Left}
-use Rattle.selector_types.specs.Simples.{simple_of}
+use Rattle.selector_types.specs.SimpleView.{simple_of}
 
 abbrev pub combinator_of : Combinator → model.Combinator
 combinator_of combinators.Descendant = model.descendant
@@ -34,13 +34,13 @@ tested (test ∷ rest) = model.with_test test (tested rest)
 
 abbrev pub joined : model.Compound → Option (Box Leftward Global) → model.Selector
 joined subject None = model.subject subject
-joined subject (Some left) = model.behind subject left.value.combinator left.value.rest
+joined subject (Some left) = model.combined subject left.value.combinator left.value.rest
 
 abbrev pub test_step : Test-F model.Test model.Selector model.Compound Leftward → model.Test
 test_step (layer.Simple s) = model.simple (simple_of s)
-test_step (layer.MatchesAny v) = model.matches_any (listed v.items)
-test_step (layer.MatchesWhere v) = model.matches_where (listed v.items)
-test_step (layer.MatchesNone v) = model.matches_none (listed v.items)
+test_step (layer.Is v) = model.is_some (listed v.items)
+test_step (layer.Where v) = model.where_some (listed v.items)
+test_step (layer.Not v) = model.not_some (listed v.items)
 
 abbrev pub complex_step : Complex-F model.Test model.Selector model.Compound Leftward → model.Selector
 complex_step c = joined c.subject c.left
@@ -54,7 +54,6 @@ left_step l = record { combinator = combinator_of l.combinator; rest = l.rest }
 abbrev pub test_of : Test → model.Test
 test_of = fold-Test model.Test model.Selector model.Compound Leftward test_step complex_step compound_step left_step
 
--- a selector as what it stands for
 abbrev pub complex_of : Complex → model.Selector
 complex_of = fold-Complex model.Test model.Selector model.Compound Leftward test_step complex_step compound_step left_step
 
