@@ -1,8 +1,8 @@
 use Rattle.std.proofs.Common.{ap, ◌∙◌}
 use Rattle.std.specs.Str.{chars}
-use Rattle.scene_model.specs.Words.{same_text}
+use Rattle.base_model.specs.Text.{same_text}
 use Rattle.selector_match.proofs.TextLemmas.{same_text-chars}
-use Rattle.selector_match.proofs.place.has_tag.Goals as goal
+use Rattle.selector_match.proofs.index.has_tag.Goals as goal
 
 pub returns : goal.returns
 returns c =

@@ -1,15 +1,16 @@
--- The places An+B by a whole number of steps.
+-- The indexes An+B by a whole number of steps.
 use Rattle.std.proofs.Common.{◌≡◌, ℕ, zero, suc, ◌+◌, ◌-◌, ◌*◌, ◌/◌, ◌%◌, ◌≤◌, Bool, true, false, ◌&&◌, ◌↔◌, ◌⊎◌, inl, inr, IsTrue, ℤ, pos, negsuc, ◌+ℤ◌, ◌-ℤ◌, ◌*ℤ◌, neg_ℤ, nat_abs, int_le, int_lt, nat_lt, nat_le, cond, refl, sym, subst, ap, ◌∙◌, arith}
+use Rattle.std.specs.Cmp.{both_ways}
 use Rattle.std.specs.List.{range_with_len}
 use Rattle.std.proofs.Math.Nat.{mul-div_cancel', dvd_of_mod-eq-zero, mul-mod_right}
 use Rattle.std.proofs.lemmas.Bool.{false≢true}
 use Rattle.std.proofs.lemmas.Bool.Decides.{nat_tests}
 use Rattle.std.proofs.lemmas.Int.{ints}
+use Rattle.scene_model.proofs.Any.{any_in, in_any}
 use Rattle.scene_model.proofs.Numbers.{is_in-range}
 use lib.IntN.{sub_ℕ}
 use Rattle.selector_model.specs.Selector.{AnB}
 use Rattle.selector_model.specs.Comparisons.{same_int, is_nth}
-use Rattle.selector_match.proofs.AnyLemmas.{both_ways, any_in, in_any}
 
 -- a number of steps, from 0
 
@@ -81,7 +82,7 @@ few_steps (pos zero) gap n e = (0, (omega arith, omega (arith, ints)))
 few_steps (pos (suc s)) gap n e = (n, (subst (λ g. n ≤ nat_abs g) e (grows s n), e))
 few_steps (negsuc s) gap n e = (n, (subst (λ g. n ≤ nat_abs g) e (subst (λ m. n ≤ m) (sym (size_turned (suc s * n))) (grows s n)), e))
 
--- the equation of a place
+-- the equation of an index
 
 same_nat : (a b : ℕ) → (nat_le a b && nat_le b a) ≡ true → a ≡ b
 same_nat a b h = grind (arith, nat_tests)
@@ -99,23 +100,23 @@ same_int-same (negsuc a) = grind (arith, nat_tests)
 steps_from : (m first : ℤ) (p : ℕ) → m +ℤ first ≡ pos p → m ≡ pos p -ℤ first
 steps_from m first p e = omega (arith, ints)
 
-place_from : (m first : ℤ) (p : ℕ) → m ≡ pos p -ℤ first → m +ℤ first ≡ pos p
-place_from m first p e = omega (arith, ints)
+index_from : (m first : ℤ) (p : ℕ) → m ≡ pos p -ℤ first → m +ℤ first ≡ pos p
+index_from m first p e = omega (arith, ints)
 
-is_nth-from : (places : AnB) (place : ℕ) → IsWhole places.step (pos place -ℤ places.first) → is_nth places place ≡ true
-is_nth-from places place (n, e) =
-    let (m, (few, is)) = few_steps places.step (pos place -ℤ places.first) n e in
-    let size = size_gap place places.first in
-    in_any (λ n. same_int ((places.step *ℤ pos n) +ℤ places.first) (pos place)) m (range_with_len 0 (place + nat_abs places.first + 1)) (is_in-range m 0 (place + nat_abs places.first + 1) (omega arith) (omega arith))
-    (ap (λ z. same_int z (pos place)) (place_from (places.step *ℤ pos m) places.first place is) ∙ same_int-same (pos place))
+is_nth-from : (formula : AnB) (index : ℕ) → IsWhole formula.a (pos index -ℤ formula.b) → is_nth formula index ≡ true
+is_nth-from formula index (n, e) =
+    let (m, (few, is)) = few_steps formula.a (pos index -ℤ formula.b) n e in
+    let size = size_gap index formula.b in
+    in_any (λ n. same_int ((formula.a *ℤ pos n) +ℤ formula.b) (pos index)) m (range_with_len 0 (index + nat_abs formula.b + 1)) (is_in-range m 0 (index + nat_abs formula.b + 1) (omega arith) (omega arith))
+    (ap (λ z. same_int z (pos index)) (index_from (formula.a *ℤ pos m) formula.b index is) ∙ same_int-same (pos index))
 
-is_nth-to : (places : AnB) (place : ℕ) → is_nth places place ≡ true → IsWhole places.step (pos place -ℤ places.first)
-is_nth-to places place h =
-    let (n, (i, t)) = any_in (λ n. same_int ((places.step *ℤ pos n) +ℤ places.first) (pos place)) (range_with_len 0 (place + nat_abs places.first + 1)) h in
-    (n, steps_from (places.step *ℤ pos n) places.first place (same_int-true ((places.step *ℤ pos n) +ℤ places.first) (pos place) t))
+is_nth-to : (formula : AnB) (index : ℕ) → is_nth formula index ≡ true → IsWhole formula.a (pos index -ℤ formula.b)
+is_nth-to formula index h =
+    let (n, (i, t)) = any_in (λ n. same_int ((formula.a *ℤ pos n) +ℤ formula.b) (pos index)) (range_with_len 0 (index + nat_abs formula.b + 1)) h in
+    (n, steps_from (formula.a *ℤ pos n) formula.b index (same_int-true ((formula.a *ℤ pos n) +ℤ formula.b) (pos index) t))
 
-pub is_nth-test : (places : AnB) (place : ℕ) (step gap : ℤ) (r : Bool) → step ≡ places.step → gap ≡ pos place -ℤ places.first → IsTrue r ↔ IsWhole step gap → r ≡ is_nth places place
-is_nth-test places place step gap r same_step same_gap h =
-    both_ways r (is_nth places place)
-    (λ t. is_nth-from places place (subst (λ s. IsWhole s (pos place -ℤ places.first)) same_step (subst (IsWhole step) same_gap (h.0 t))))
-    (λ t. h.1 (subst (λ s. IsWhole s gap) (sym same_step) (subst (IsWhole places.step) (sym same_gap) (is_nth-to places place t))))
+pub is_nth-test : (formula : AnB) (index : ℕ) (step gap : ℤ) (r : Bool) → step ≡ formula.a → gap ≡ pos index -ℤ formula.b → IsTrue r ↔ IsWhole step gap → r ≡ is_nth formula index
+is_nth-test formula index step gap r same_step same_gap h =
+    both_ways r (is_nth formula index)
+    (λ t. is_nth-from formula index (subst (λ s. IsWhole s (pos index -ℤ formula.b)) same_step (subst (IsWhole step) same_gap (h.0 t))))
+    (λ t. h.1 (subst (λ s. IsWhole s gap) (sym same_step) (subst (IsWhole formula.a) (sym same_gap) (is_nth-to formula index t))))

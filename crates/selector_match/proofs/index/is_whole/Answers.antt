@@ -1,8 +1,8 @@
 use Rattle.std.proofs.Common.{inl, inr, sym, ◌∙◌, to_z, of_z, w64}
 use Rattle.std.proofs.lemmas.Int.{to_z-of_z}
-use Rattle.selector_match.proofs.PlaceLemmas.{IsAhead, whole_test}
-use Rattle.selector_match.proofs.place.is_whole.Goals as goal
-use Rattle.selector_match.proofs.place.is_whole.Goals.{then-step-lt0, else-step-lt0}
+use Rattle.selector_match.proofs.NthLemmas.{IsAhead, whole_test}
+use Rattle.selector_match.proofs.index.is_whole.Goals as goal
+use Rattle.selector_match.proofs.index.is_whole.Goals.{then-step-lt0, else-step-lt0}
 
 pub returns-then-ahead : goal.returns-then-ahead
 returns-then-ahead c =
