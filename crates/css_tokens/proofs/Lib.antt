@@ -1,4 +1,4 @@
-pub mod ScanLemmas
 pub mod CharacterLemmas
 pub mod InputLemmas
 pub mod ReadingLemmas
+pub mod BracketLemmas

@@ -1,5 +1,4 @@
 pub mod Input
-pub mod Kinds
-pub mod Scan
-pub mod Seen
 pub mod Spans
+pub mod Taken
+pub mod View

@@ -2,7 +2,7 @@
 
 ghost use Rattle.std.specs.Prelude.{◌≡◌};
 ghost use Rattle.syntax_model.specs.Brackets.{closer_kind};
-ghost use Rattle.css_tokens.specs.Kinds.{bracket_of, kind_of};
+ghost use Rattle.css_tokens.specs.View.{bracket_of, kind_of};
 
 use crate::Kind;
 

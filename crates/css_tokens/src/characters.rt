@@ -14,7 +14,7 @@ pub fn characters_of(alloc: Global, text: &str) -> Result<Vec<char>, AllocError>
     text.chars().collect(alloc)
 }
 
-/// Puts a character behind a text.
+/// Appends a character to a text.
 pub fn push_character(text: &mut String, c: char) -> Result<(), AllocError>
     ensures { OnOk result
         (chars (string_bytes text.new) ≡ chars (string_bytes text.old) ++ c ∷ []) }

@@ -16,26 +16,26 @@ pub fn preprocess(alloc: Global, text: &str) -> Result<String, NoMemory>
     ensures ready { IfOk result (λ s. IsTrue (is_preprocessed (chars (string_bytes s)))) }
 {
     let mut out = String::with_capacity(alloc, text.len())?;
-    let mut is_behind_cr = false;
+    let mut is_after_cr = false;
     for c in text.chars() {
-        push_given(&mut out, is_behind_cr, c)?;
-        is_behind_cr = c == '\r';
+        push_given(&mut out, is_after_cr, c)?;
+        is_after_cr = c == '\r';
     }
     Ok(out)
 }
 
-// Puts what a character gives behind the text.
-fn push_given(out: &mut String, is_behind_cr: bool, c: char) -> Result<(), AllocError>
+// Appends what a character gives to the text.
+fn push_given(out: &mut String, is_after_cr: bool, c: char) -> Result<(), AllocError>
     ensures { OnOk result
-        (chars (string_bytes out.new) ≡ chars (string_bytes out.old) ++ given_by is_behind_cr c) }
+        (chars (string_bytes out.new) ≡ chars (string_bytes out.old) ++ given_by is_after_cr c) }
 {
-    if c == '\n' && is_behind_cr {
+    if c == '\n' && is_after_cr {
         return Ok(());
     }
     push_character(out, replaced(c))
 }
 
-// The character that stands for one, wherever it stays.
+// The character that is read for one, unless it goes.
 fn replaced(c: char) -> char
     ensures { result ≡ replaced c }
 {

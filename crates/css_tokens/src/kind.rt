@@ -3,7 +3,7 @@
 ghost use Rattle.std.specs.Prelude.{◌≡◌};
 ghost use Rattle.std.specs.Option.{option_map};
 ghost use Rattle.syntax_model.specs.Brackets.{closed_by, opened_by};
-ghost use Rattle.css_tokens.specs.Kinds.{bracket_of, kind_of};
+ghost use Rattle.css_tokens.specs.View.{bracket_of, kind_of};
 
 use crate::Bracket;
 
@@ -24,7 +24,7 @@ pub enum Kind {
     Number { is_integer: bool },
     Percentage,
     Dimension { is_integer: bool },
-    /// A run of white space.
+    /// A run of whitespace.
     Whitespace,
     /// `<!--`
     Cdo,

@@ -1,48 +1,51 @@
-//! The piece of text that the first token of a text takes.
+//! The kind and length of the token that a text begins with.
 
 ghost use Rattle.std.specs.Prelude.{◌≡◌, ◌==◌, ◌<◌, ◌≤◌, ◌&&◌, length};
 ghost use Rattle.std.specs.List.{prefix_len};
+ghost use Rattle.base_model.specs.Ascii.{number_sign};
 ghost use Rattle.syntax_model.specs.Reading.{begins, is_blank, is_name_char, is_name_start, kind_at, mark_kind, starts_ident};
-ghost use Rattle.css_tokens.specs.Kinds.{kind_of};
-ghost use Rattle.css_tokens.specs.Scan.{IsFirstPiece};
+ghost use Rattle.syntax_model.specs.TokensIn.{piece_length};
+ghost use Rattle.css_tokens.specs.View.{kind_of};
 
 use crate::Kind;
 
 /// The kind of a token, and how many characters its text has.
 #[derive(Clone, Copy, Debug, PartialEq, Eq)]
-pub struct Piece {
+pub struct Scanned {
     pub kind: Kind,
     pub len: usize,
 }
 
-/// The piece that a text begins with.
-pub fn first_piece(text: &[char]) -> Piece
+/// The kind and length of the token that a text begins with.
+pub fn scan(text: &[char]) -> Scanned
     requires { 0 < length text.now }
     ensures kind { kind_of result.kind ≡ kind_at text.now }
-    ensures piece { IsFirstPiece text.now result.len }
+    ensures len { result.len ≡ piece_length (kind_at text.now) text.now }
+    ensures some { 0 < result.len }
+    ensures inside { result.len ≤ length text.now }
 {
     let Some((first, rest)) = text.split_first() else {
         unreachable!()
     };
     if is_blank(*first) {
-        Piece {
+        Scanned {
             kind: Kind::Whitespace,
             len: 1 + blank_len(rest),
         }
     } else if starts_hash(*first, rest) {
-        Piece {
+        Scanned {
             kind: Kind::Hash {
                 is_id: starts_ident(rest),
             },
             len: 1 + name_len(rest),
         }
     } else if starts_ident(text) {
-        Piece {
+        Scanned {
             kind: Kind::Ident,
             len: 1 + name_len(rest),
         }
     } else {
-        Piece {
+        Scanned {
             kind: mark_kind(*first),
             len: 1,
         }
@@ -63,16 +66,16 @@ fn is_name_start(c: char) -> bool
     c.is_ascii_alphabetic() || c == '_' || c >= '\u{80}'
 }
 
-// A character that may stand in a name.
+// A character that may be in a name.
 fn is_name_char(c: char) -> bool
     ensures { result ≡ is_name_char c }
 {
     is_name_start(c) || c.is_ascii_digit() || c == '-'
 }
 
-// Whether a hash starts here, at a character with the rest behind it.
+// Whether a hash starts here, at a character with the rest after it.
 fn starts_hash(first: char, rest: &[char]) -> bool
-    ensures { result ≡ ((first == 35) && begins is_name_char rest.now) }
+    ensures { result ≡ ((first == number_sign) && begins is_name_char rest.now) }
 {
     first == '#' && begins_name(rest)
 }
@@ -98,7 +101,7 @@ fn starts_ident(text: &[char]) -> bool
     }
 }
 
-// How many characters of white space the text begins with.
+// How many whitespace characters the text begins with.
 fn blank_len(text: &[char]) -> usize
     ensures value { result ≡ prefix_len is_blank text.now }
     ensures inside { result ≤ length text.now }

@@ -3,26 +3,26 @@
 ghost use Rattle.std.specs.Prelude.{◌≡◌, ◌+◌, ◌^◌, ◌<◌, IfOk, length};
 ghost use Rattle.std.specs.Option.{option_map};
 ghost use Rattle.syntax_model.specs.Brackets.{closer};
-ghost use Rattle.css_tokens.specs.Kinds.{bracket_of, kind_of};
+ghost use Rattle.syntax_model.specs.Kinds as kinds;
 ghost use Rattle.syntax_model.specs.Reading.{name_in, spelling_in, token_of};
-ghost use Rattle.css_tokens.specs.Seen.{span_of, spelling_by};
+ghost use Rattle.css_tokens.specs.View as view;
+ghost use Rattle.css_tokens.specs.View.{bracket_of, kind_of, span_of, spelling_by};
 
 use crate::token_text::name_in;
-use crate::{Bracket, Kind};
+use crate::{Bracket, Kind, Separator};
 use std::alloc::Global;
 use std::marker::Model;
 use stylo_base::{Fixed, NoMemory, Text};
 
-/// Where the text of a token stands, in characters of the preprocessed text, without the one at
-/// `end`.
+/// Where the text of a token is, in characters of the preprocessed text, without the one at `end`.
 #[derive(Clone, Copy, Debug, PartialEq, Eq)]
 pub struct Span {
     pub start: usize,
     pub end: usize,
 }
 
-/// A token. It owns what it says, and needs no source. Contracts see the record of its kind, its
-/// spelling, its name, its value and its span.
+/// A token, independent of its source text. Contracts see the record of its kind, its spelling, its
+/// name, its value and its span.
 #[derive(Debug, Drop)]
 pub struct Token {
     kind: Kind,
@@ -34,8 +34,8 @@ pub struct Token {
 impl Model for Token {
     ghost use Rattle.syntax_model.specs.Token as model;
     ghost use Rattle.std.specs.Option.{option_map};
-    ghost use Rattle.css_tokens.specs.Kinds.{kind_of};
-    ghost use Rattle.css_tokens.specs.Seen.{span_of, token_seen};
+    ghost use Rattle.css_tokens.specs.View.{kind_of};
+    ghost use Rattle.css_tokens.specs.View.{span_of, token_seen};
 
     ghost Value = { model.Token };
 
@@ -43,30 +43,30 @@ impl Model for Token {
 }
 
 impl Token {
-    /// The token of a kind whose text begins at a place.
-    pub(crate) fn of_piece(
+    /// The token of a kind whose text begins at an offset.
+    pub(crate) fn of_text(
         alloc: Global,
         start: usize,
         kind: Kind,
-        piece: &[char],
+        text: &[char],
     ) -> Result<Token, NoMemory>
-        requires fits { start + length piece.now < 2 ^ 64 }
-        requires spelled { spelling_by (kind_of kind) (name_in (kind_of kind) piece.now)
-            ≡ spelling_in (kind_of kind) piece.now }
-        ensures { IfOk result (λ t. t ≡ token_of start (kind_of kind) piece.now) }
+        requires fits { start + length text.now < 2 ^ 64 }
+        requires spelled { spelling_by (kind_of kind) (name_in (kind_of kind) text.now)
+            ≡ spelling_in (kind_of kind) text.now }
+        ensures { IfOk result (λ t. t ≡ token_of start (kind_of kind) text.now) }
     {
         Ok(Token {
             kind,
-            name: name_in(alloc, kind, piece)?,
+            name: name_in(alloc, kind, text)?,
             value: None,
             span: Some(Span {
                 start,
-                end: start + piece.len(),
+                end: start + text.len(),
             }),
         })
     }
 
-    /// The closer of a bracket that the end of input adds. It stands nowhere, and takes no memory.
+    /// The closer of a bracket that the end of input adds. It has no span, and takes no memory.
     pub fn closer(alloc: Global, bracket: Bracket) -> Token
         ensures { result ≡ closer (bracket_of bracket) }
     {
@@ -85,11 +85,87 @@ impl Token {
         self.kind
     }
 
-    /// Where the text of the token stands, if it is of a text.
+    /// Where the text of the token is, if it is of a text.
     pub fn span(&self) -> Option<Span>
         ensures { option_map span_of result ≡ self.now.span }
     {
         self.span
+    }
+
+    /// Whether it is whitespace.
+    pub fn is_white(&self) -> bool
+        ensures { result ≡ kinds.is_white self.now.kind }
+    {
+        matches!(self.kind(), Kind::Whitespace)
+    }
+
+    /// Whether it is an identifier.
+    pub fn is_ident(&self) -> bool
+        ensures { result ≡ kinds.is_ident self.now.kind }
+    {
+        matches!(self.kind(), Kind::Ident)
+    }
+
+    /// Whether it is a hash.
+    pub fn is_hash(&self) -> bool
+        ensures { result ≡ kinds.is_hash self.now.kind }
+    {
+        matches!(self.kind(), Kind::Hash { .. })
+    }
+
+    /// Whether it is a comma.
+    pub fn is_comma(&self) -> bool
+        ensures { result ≡ kinds.is_comma self.now.kind }
+    {
+        matches!(self.kind(), Kind::Comma)
+    }
+
+    /// Whether it is a colon.
+    pub fn is_colon(&self) -> bool
+        ensures { result ≡ kinds.is_colon self.now.kind }
+    {
+        matches!(self.kind(), Kind::Colon)
+    }
+
+    /// Whether it is a semicolon.
+    pub fn is_semicolon(&self) -> bool
+        ensures { result ≡ kinds.is_semicolon self.now.kind }
+    {
+        matches!(self.kind(), Kind::Semicolon)
+    }
+
+    /// Whether it is `{`.
+    pub fn is_open_curly(&self) -> bool
+        ensures { result ≡ kinds.is_open_curly self.now.kind }
+    {
+        matches!(self.kind(), Kind::OpenCurly)
+    }
+
+    /// Whether it is skipped between declarations.
+    pub fn is_between(&self) -> bool
+        ensures { result ≡ kinds.is_between self.now.kind }
+    {
+        self.is_white() || self.is_semicolon()
+    }
+
+    /// Whether it is this character alone.
+    pub fn is_delim(&self, c: char) -> bool
+        ensures { result ≡ kinds.is_delim c self.now.kind }
+    {
+        match self.kind() {
+            Kind::Delim(d) => d == c,
+            _ => false,
+        }
+    }
+
+    /// Whether lists are cut at it.
+    pub fn separates(&self, separator: Separator) -> bool
+        ensures { result ≡ view.separates separator self.now.kind }
+    {
+        match separator {
+            Separator::Comma => self.is_comma(),
+            Separator::Semicolon => self.is_semicolon(),
+        }
     }
 
     /// Another token that says the same.

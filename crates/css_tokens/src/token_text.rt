@@ -2,7 +2,7 @@
 
 ghost use Rattle.std.specs.Prelude.{◌≡◌, IfOk};
 ghost use Rattle.syntax_model.specs.Reading.{name_in};
-ghost use Rattle.css_tokens.specs.Kinds.{kind_of};
+ghost use Rattle.css_tokens.specs.View.{kind_of};
 
 use crate::Kind;
 use crate::characters::text_of;

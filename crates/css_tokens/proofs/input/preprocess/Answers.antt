@@ -5,13 +5,13 @@ use Rattle.std.proofs.lemmas.Iterator.{YieldsList-from_chars}
 use Rattle.std.proofs.lemmas.Iterator.Consumers.{YieldsList-turn, YieldsList-end}
 use Rattle.std.proofs.lemmas.List.{length_push}
 use Rattle.std.proofs.lemmas.Str.{chars-nil}
-use Rattle.syntax_model.specs.Preprocess.{preprocessed, preprocessed_behind}
+use Rattle.syntax_model.specs.Preprocess.{preprocessed, preprocessed_after}
 use Rattle.css_tokens.proofs.InputLemmas.{given_all, given_more, ready_all}
 use Rattle.css_tokens.proofs.input.preprocess.Goals as goal
 
 pub loop-c-init : goal.loop-c-init
 loop-c-init c =
-    ap (λ cs. cs ++ preprocessed_behind false (chars c.args.text.now)) (ap chars c.in_ok-out.ensures.bytes ∙ chars-nil)
+    ap (λ cs. cs ++ preprocessed_after false (chars c.args.text.now)) (ap chars c.in_ok-out.ensures.bytes ∙ chars-nil)
 
 pub loop-c-preserved : goal.loop-c-preserved
 loop-c-preserved c =

@@ -1,11 +1,12 @@
 //! The brackets that are open.
 
-ghost use Rattle.std.specs.Prelude.{◌≡◌, ◌++◌, ◌↔◌, [], IsTrue, OnOk, Some};
-ghost use Rattle.css_tokens.specs.Kinds.{bracket_of};
-ghost use Rattle.syntax_model.specs.Brackets.{closers, open_behind, without_closed};
+ghost use Rattle.std.specs.Prelude.{◌≡◌, ◌++◌, [], OnOk, Some};
+ghost use Rattle.base_model.specs.Lists.{is_nil};
+ghost use Rattle.css_tokens.specs.View.{bracket_of};
+ghost use Rattle.syntax_model.specs.Brackets.{closers, open_past, without_closed};
 ghost use Rattle.syntax_model.specs.Rules.{all_but_last};
 
-use css_tokens::{Bracket, Token};
+use crate::{Bracket, Token};
 use std::alloc::Global;
 use std::collections::VecDeque;
 use std::marker::Model;
@@ -13,41 +14,41 @@ use stylo_base::NoMemory;
 
 /// The brackets that are open. Contracts see their list, the innermost first.
 #[derive(Debug, Drop)]
-pub struct Pending {
+pub struct OpenBrackets {
     // the innermost first
     brackets: VecDeque<Bracket>,
 }
 
-impl Model for Pending {
+impl Model for OpenBrackets {
     ghost use Rattle.std.specs.Prelude.{List, map as mapped};
-    ghost use Rattle.css_tokens.specs.Kinds.{bracket_of};
+    ghost use Rattle.css_tokens.specs.View.{bracket_of};
     ghost use Rattle.syntax_model.specs.Brackets as model;
 
     ghost Value = { List model.Bracket };
 
-    ghost view = { λ p. mapped bracket_of p.brackets.items };
+    ghost view = { λ o. mapped bracket_of o.brackets.items };
 }
 
-impl Pending {
+impl OpenBrackets {
     /// No bracket is open.
-    pub fn new(alloc: Global) -> Pending
+    pub fn new(alloc: Global) -> OpenBrackets
         ensures { result ≡ [] }
     {
-        Pending {
+        OpenBrackets {
             brackets: VecDeque::new(alloc),
         }
     }
 
     /// Whether no bracket is open.
     pub fn is_empty(&self) -> bool
-        ensures { IsTrue result ↔ (self.now ≡ []) }
+        ensures { result ≡ is_nil self.now }
     {
         self.brackets.is_empty()
     }
 
-    /// Goes past a token.
+    /// Goes on after a token.
     pub fn pass(&mut self, token: &Token) -> Result<(), NoMemory>
-        ensures { OnOk result (self.new ≡ open_behind self.old token.now) }
+        ensures { OnOk result (self.new ≡ open_past self.old token.now) }
     {
         let kind = token.kind();
         if let Some(bracket) = kind.closes() {
@@ -77,8 +78,8 @@ impl Pending {
         self.brackets.pop_back();
     }
 
-    /// Puts a closer for each open bracket behind the tokens.
-    pub fn put_closers(mut self, alloc: Global, tokens: &mut Vec<Token>) -> Result<(), NoMemory>
+    /// Appends the closers of what is open to the tokens.
+    pub fn append_closers(mut self, alloc: Global, tokens: &mut Vec<Token>) -> Result<(), NoMemory>
         ensures { OnOk result (tokens.new.items ≡ tokens.old.items ++ closers self) }
     {
         while let Some(bracket) = self.brackets.pop_front() {

@@ -1,6 +1,6 @@
 use Rattle.std.proofs.Common.{length}
 use Rattle.css_tokens.proofs.ReadingLemmas.{IsReadUpTo}
-use Rattle.css_tokens.proofs.reading.read.Given as goal
+use Rattle.css_tokens.proofs.tokenizer.tokens_of.Given as goal
 
 abbrev pub invariant-loop-rest : goal.invariant-loop-rest
 invariant-loop-rest l = IsReadUpTo l.text l.start l.rest l.list.items

@@ -1,7 +1,7 @@
 use Rattle.std.proofs.Common.{◌≡◌, ◌++◌, length, map}
-use Rattle.css_tokens.specs.Kinds.{bracket_of}
+use Rattle.css_tokens.specs.View.{bracket_of}
 use Rattle.syntax_model.specs.Brackets.{closers}
-use Rattle.css_rules.proofs.pending.Pending.put_closers.Given as goal
+use Rattle.css_tokens.proofs.open_brackets.OpenBrackets.append_closers.Given as goal
 
 abbrev pub invariant-loop-bracket : goal.invariant-loop-bracket
 invariant-loop-bracket l =

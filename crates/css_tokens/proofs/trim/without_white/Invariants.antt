@@ -1,6 +1,6 @@
 use Rattle.std.proofs.Common.{◌≡◌, length}
-use Rattle.syntax_model.specs.Rules.{without_white}
-use Rattle.css_rules.proofs.trim.without_white.Given as goal
+use Rattle.syntax_model.specs.Kinds.{without_white}
+use Rattle.css_tokens.proofs.trim.without_white.Given as goal
 
 abbrev pub invariant-loop-first : goal.invariant-loop-first
 invariant-loop-first l = without_white l.left ≡ without_white l.tokens

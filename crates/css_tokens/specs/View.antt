@@ -1,0 +1,82 @@
+-- The kinds, brackets, spans and tokens of the code, as those of the definitions.
+use Rattle.std.specs.Prelude.{ℤ, [], ◌∷◌, Bool, Option}
+use Rattle.base_model.specs.Ascii.{space, number_sign, comma_sign, colon_sign, semicolon_sign, left_parenthesis}
+use Rattle.base_model.specs.Ascii.{right_parenthesis, left_bracket, right_bracket, left_brace, right_brace}
+use Rattle.base_model.specs.Text.{Characters}
+use Rattle.syntax_model.specs.Token as model
+use Rattle.syntax_model.specs.Brackets as model_bracket
+use Rattle.css_tokens.specs.declared.kind.Kind.{Kind}
+use Rattle.css_tokens.specs.declared.kind.Kind.TheVariants.{Ident, Function, AtKeyword, Hash, String, BadString}
+use Rattle.css_tokens.specs.declared.kind.Kind.TheVariants.{Url, BadUrl, Delim, Number, Percentage, Dimension}
+use Rattle.css_tokens.specs.declared.kind.Kind.TheVariants.{Whitespace, Cdo, Cdc, Colon, Semicolon, Comma}
+use Rattle.css_tokens.specs.declared.kind.Kind.TheVariants.{OpenSquare, CloseSquare, OpenRound, CloseRound}
+use Rattle.css_tokens.specs.declared.kind.Kind.TheVariants.{OpenCurly, CloseCurly}
+use Rattle.syntax_model.specs.Kinds.{is_comma, is_semicolon}
+use Rattle.css_tokens.specs.declared.token.Span.{Span}
+use Rattle.css_tokens.specs.declared.separator.Separator.{Separator}
+use Rattle.css_tokens.specs.declared.separator.Separator.TheVariants as separator
+use Rattle.css_tokens.specs.declared.bracket.Bracket.{Bracket}
+use Rattle.css_tokens.specs.declared.bracket.Bracket.TheVariants.{Square, Round, Curly}
+
+-- the kind that a `Kind` is
+abbrev pub kind_of : Kind → model.Kind
+kind_of Ident = model.ident
+kind_of Function = model.function
+kind_of AtKeyword = model.at_keyword
+kind_of (Hash is_id) = model.hash is_id
+kind_of String = model.string
+kind_of BadString = model.bad_string
+kind_of Url = model.url
+kind_of BadUrl = model.bad_url
+kind_of (Delim c) = model.delim c
+kind_of (Number is_integer) = model.number is_integer
+kind_of Percentage = model.percentage
+kind_of (Dimension is_integer) = model.dimension is_integer
+kind_of Whitespace = model.whitespace
+kind_of Cdo = model.cdo
+kind_of Cdc = model.cdc
+kind_of Colon = model.colon
+kind_of Semicolon = model.semicolon
+kind_of Comma = model.comma
+kind_of OpenSquare = model.open_square
+kind_of CloseSquare = model.close_square
+kind_of OpenRound = model.open_round
+kind_of CloseRound = model.close_round
+kind_of OpenCurly = model.open_curly
+kind_of CloseCurly = model.close_curly
+
+-- the bracket that a `Bracket` is
+abbrev pub bracket_of : Bracket → model_bracket.Bracket
+bracket_of Square = model_bracket.square
+bracket_of Round = model_bracket.round
+bracket_of Curly = model_bracket.curly
+
+-- the kinds that a `Separator` is
+abbrev pub separates : Separator → model.Kind → Bool
+separates separator.Comma = is_comma
+separates separator.Semicolon = is_semicolon
+
+-- the span that a `Span` is
+abbrev pub span_of : Span → model.Span
+span_of span = record { start = span.start; end = span.end }
+
+-- The spelling that a kind and a name tell. No other kind is read yet.
+abbrev pub spelling_by : model.Kind → Characters → Characters
+spelling_by (model.hash is_id) name = number_sign ∷ name
+spelling_by model.whitespace name = space ∷ []
+spelling_by (model.delim c) name = c ∷ []
+spelling_by model.colon name = colon_sign ∷ []
+spelling_by model.semicolon name = semicolon_sign ∷ []
+spelling_by model.comma name = comma_sign ∷ []
+spelling_by model.open_square name = left_bracket ∷ []
+spelling_by model.close_square name = right_bracket ∷ []
+spelling_by model.open_round name = left_parenthesis ∷ []
+spelling_by model.close_round name = right_parenthesis ∷ []
+spelling_by model.open_curly name = left_brace ∷ []
+spelling_by model.close_curly name = right_brace ∷ []
+spelling_by kind name = name
+
+-- the token of these parts
+abbrev pub token_seen : model.Kind → Characters → Option ℤ → Option model.Span → model.Token
+token_seen kind name value span =
+    record { kind = kind; spelling = spelling_by kind name; name = name; value = value; span = span }
