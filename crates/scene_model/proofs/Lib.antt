@@ -9,3 +9,5 @@ pub mod Before
 pub mod TreeOrder
 pub mod Depths
 pub mod ParentBefore
+pub mod Any
+pub mod Siblings

@@ -1,4 +1,4 @@
--- The siblings before an element, and its ancestors.
+-- The siblings before an element have its ancestors, and its ancestors no others than it has.
 use Rattle.std.proofs.Common.{◌≡◌, ◌≢◌, ℕ, zero, suc, ◌-◌, ◌==◌, Bool, true, false, cond, ◌||◌, List, [], ◌∷◌, ◌++◌, length, take, drop, Option, Some, None, slice_get, refl, sym, ap, ◌∙◌, subst, arith, append_assoc, length-append, eq-eqb}
 use Rattle.std.specs.List.{AllByRecursion, list_any}
 use Rattle.std.proofs.lemmas.Bool.{cond-true, false≢true}
@@ -9,37 +9,20 @@ use Rattle.scene_model.specs.Element.{Element}
 use Rattle.scene_model.specs.Lookups.{is_element, parent_of, children, beside, siblings, left_of}
 use Rattle.scene_model.specs.Ancestors.{up, climb, ancestors, position_of}
 use Rattle.scene_model.specs.Valid.{IsValid}
+use Rattle.scene_model.proofs.Any.{in_start, in_middle, none-append}
 use Rattle.scene_model.proofs.Climbing.{ancestors_climb, ancestors-up, ancestors-child}
 use Rattle.scene_model.proofs.Found.{copies-children, each_child-parent, parent_of-element}
 use Rattle.scene_model.proofs.Lists.{each_weaker, split_at}
 use Rattle.scene_model.proofs.Numbers.{is_in, copies, same_number, each_is_in, each_failed, split_in, left_of_split}
-use Rattle.selector_match.specs.Outcomes.{before, IsUnder}
-use Rattle.selector_match.proofs.AnyLemmas.{or_right, none-append}
-use Rattle.selector_match.proofs.SiblingLemmas.{left_here, siblings-children}
+use Rattle.scene_model.proofs.Siblings.{left_here, siblings-children}
+use Rattle.selector_match.specs.Results.{before, IsUnder}
 
--- in any list
-
-is_in-append : (x : ℕ) (xs ys : List ℕ) → is_in x (xs ++ ys) ≡ (is_in x xs || is_in x ys)
-is_in-append x xs ys = list_any-append (λ y. y == x) xs ys
-
-in_front : (x : ℕ) (xs ys : List ℕ) → is_in x xs ≡ true → is_in x (xs ++ ys) ≡ true
-in_front x xs ys h = is_in-append x xs ys ∙ ap (λ b. b || is_in x ys) h
-
-pub in_middle : (x : ℕ) (xs ys : List ℕ) → is_in x (xs ++ x ∷ ys) ≡ true
-in_middle x xs ys =
-    is_in-append x xs (x ∷ ys) ∙ or_right (is_in x xs) (is_in x (x ∷ ys)) (ap (λ b. b || is_in x ys) (same_number x))
-
--- the last of a list, and what stands before it
-pub last_split : (xs : List ℕ) (y : ℕ) → slice_get xs (length xs - 1) ≡ Some y → xs ≡ take (length xs - 1) xs ++ y ∷ []
-last_split xs y h =
-    split_at xs (length xs - 1) y h ∙ ap (λ l. take (length xs - 1) xs ++ y ∷ l) (drop_all (suc (length xs - 1)) xs (omega arith))
-
--- where a number stands once, it does not stand before that
-once_before : (w : ℕ) (front behind : List ℕ) → copies w (front ++ w ∷ behind) ≡ w ∷ [] → AllByRecursion (λ y. y ≢ w) front
-once_before w front behind h =
-    let parts = filter-append (λ y. y == w) front (w ∷ behind) in
-    let here = cond-true (w == w) (w ∷ copies w behind) (copies w behind) (same_number w) in
-    let none : length (copies w front) ≡ 0 = omega (arith, ap length h, ap length parts, ap length here, length-append (copies w front) (copies w (w ∷ behind))) in
+-- where a number is once, it is not before that
+once_before : (w : ℕ) (front after : List ℕ) → copies w (front ++ w ∷ after) ≡ w ∷ [] → AllByRecursion (λ y. y ≢ w) front
+once_before w front after h =
+    let parts = filter-append (λ y. y == w) front (w ∷ after) in
+    let here = cond-true (w == w) (w ∷ copies w after) (copies w after) (same_number w) in
+    let none : length (copies w front) ≡ 0 = omega (arith, ap length h, ap length parts, ap length here, length-append (copies w front) (copies w (w ∷ after))) in
     each_weaker (λ y. (y == w) ≡ false) (λ y. y ≢ w) (λ y e same. false≢true (sym e ∙ eq-eqb y w same)) front (each_failed (λ y. y == w) front (nil_from_length (copies w front) none))
 
 up_each : (P : ℕ → Type 0) (f : ℕ → List ℕ) (o : Option ℕ) → ((p : ℕ) → o ≡ Some p → P p × AllByRecursion P (f p)) → AllByRecursion P (up f o)
@@ -61,7 +44,7 @@ module _ (doc : List Element) (v : IsValid doc) where
   before-parent x w h = found_some x w (is_element doc x) h
 
   -- the siblings are the children of the parent, those before x the front of them
-  before-front : (x p : ℕ) → parent_of doc x ≡ Some p → (behind : List ℕ) × (children doc p ≡ before doc x ++ behind)
+  before-front : (x p : ℕ) → parent_of doc x ≡ Some p → (after : List ℕ) × (children doc p ≡ before doc x ++ after)
   before-front x p e =
       let same : siblings doc x ≡ children doc p = siblings-children doc v x p (parent_of-element doc x p e) e in
       let cut = left_len x (siblings doc x) in
@@ -73,29 +56,29 @@ module _ (doc : List Element) (v : IsValid doc) where
   pub same_parent : (x w : ℕ) → is_in w (before doc x) ≡ true → parent_of doc w ≡ parent_of doc x
   same_parent x w h =
       let (p, e) = before-parent x w h in
-      let (behind, f) = before-front x p e in
-      each_is_in (λ y. parent_of doc y ≡ Some p) w (children doc p) (each_child-parent doc p v.distinct) (ap (is_in w) f ∙ in_front w (before doc x) behind h) ∙ sym e
+      let (after, f) = before-front x p e in
+      each_is_in (λ y. parent_of doc y ≡ Some p) w (children doc p) (each_child-parent doc p v.distinct) (ap (is_in w) f ∙ in_start w (before doc x) after h) ∙ sym e
 
   pub same_ancestors : (x w : ℕ) → is_in w (before doc x) ≡ true → ancestors doc w ≡ ancestors doc x
   same_ancestors x w h = ancestors-up doc v w ∙ (ap (up (ancestors doc)) (same_parent x w h) ∙ sym (ancestors-up doc v x))
 
-  -- what stands before a sibling before x is what stands before it among those before x
-  pub before-split : (x w : ℕ) (front behind : List ℕ) → before doc x ≡ front ++ w ∷ behind → before doc w ≡ front
-  before-split x w front behind e =
-      let here : is_in w (before doc x) ≡ true = ap (is_in w) e ∙ in_middle w front behind in
+  -- what is before a sibling before x is what is before it among those before x
+  pub before-split : (x w : ℕ) (front after : List ℕ) → before doc x ≡ front ++ w ∷ after → before doc w ≡ front
+  before-split x w front after e =
+      let here : is_in w (before doc x) ≡ true = ap (is_in w) e ∙ in_middle w front after in
       let (p, parent) = before-parent x w here in
       let (rest, f) = before-front x p parent in
       let own : parent_of doc w ≡ Some p = same_parent x w here ∙ parent in
-      let whole : children doc p ≡ front ++ w ∷ (behind ++ rest) = f ∙ (ap (λ l. l ++ rest) e ∙ append_assoc front (w ∷ behind) rest) in
-      let once = once_before w front (behind ++ rest) (sym (ap (copies w) whole) ∙ copies-children doc p w v.distinct own) in
-      ap (left_of w) (siblings-children doc v w p (parent_of-element doc w p own) own ∙ whole) ∙ left_of_split w front (behind ++ rest) once
+      let whole : children doc p ≡ front ++ w ∷ (after ++ rest) = f ∙ (ap (λ l. l ++ rest) e ∙ append_assoc front (w ∷ after) rest) in
+      let once = once_before w front (after ++ rest) (sym (ap (copies w) whole) ∙ copies-children doc p w v.distinct own) in
+      ap (left_of w) (siblings-children doc v w p (parent_of-element doc w p own) own ∙ whole) ∙ left_of_split w front (after ++ rest) once
 
   -- where a test holds at none before x, it holds at none before those
   pub none_before : (p : ℕ → Bool) (x w : ℕ) → list_any p (before doc x) ≡ false → is_in w (before doc x) ≡ true → list_any p (before doc w) ≡ false
   none_before p x w h i =
-      let (front, behind, e) = split_in w (before doc x) i in
-      let none = none-append p front (w ∷ behind) (sym (ap (list_any p) e) ∙ h) in
-      ap (list_any p) (before-split x w front behind e) ∙ none.0
+      let (front, after, e) = split_in w (before doc x) i in
+      let none = none-append p front (w ∷ after) (sym (ap (list_any p) e) ∙ h) in
+      ap (list_any p) (before-split x w front after e) ∙ none.0
 
   -- the ancestors of an element have no others than it has
 

@@ -1,11 +1,10 @@
-pub mod AnyLemmas
-pub mod AsideLemmas
 pub mod BeforeLemmas
 pub mod FoldedLemmas
 pub mod LowerLemmas
-pub mod OutcomeLemmas
+pub mod NthLemmas
 pub mod PartLemmas
-pub mod PlaceLemmas
+pub mod ResultLemmas
 pub mod SiblingLemmas
 pub mod TextLemmas
 pub mod TriedLemmas
+pub mod WordLemmas

@@ -1,16 +1,17 @@
--- Fronts, ends and parts of a text, as tests and as facts.
+-- Beginnings, ends and parts of a text, as tests and as facts.
 use Rattle.std.proofs.Common.{◌≡◌, ◌≢◌, ℕ, ◌-◌, ◌<◌, ◌≤◌, ◌==◌, nat_le, Bool, true, false, ◌&&◌, ◌||◌, List, [], ◌∷◌, ◌++◌, length, take, drop, get_or, refl, sym, ap, ◌∙◌, subst, arith, le-leb, eq-eqb, append_assoc, append-nil, length-append}
 use Rattle.std.specs.Bool.{Decides}
-use Rattle.std.proofs.lemmas.Bool.{and_from, and_parts, false_from_ne_true, false≢true}
+use Rattle.std.proofs.lemmas.Bool.{and_from, and_parts, or_right, or_from, false_from_ne_true, false≢true}
 use Rattle.std.proofs.lemmas.List.{take-append-drop, take_at, drop_at}
 use Rattle.std.proofs.lemmas.Slice.Eq.{bytes_eq-Decides}
-use Rattle.scene_model.specs.Words.{same_text}
+use Rattle.base_model.specs.Ascii.{hyphen}
+use Rattle.base_model.specs.Text.{same_text}
 use Rattle.selector_model.specs.Comparisons.{begins_with, ends_with, has_part}
 
 pub same_itself : (xs : List ℕ) → same_text xs xs ≡ true
 same_itself xs = (bytes_eq-Decides xs xs).1 refl
 
--- the test of a front, an end or a part, as what it says
+-- the test of a beginning, an end or a part, as what it says
 
 abbrev pub BeginsWith : List ℕ → List ℕ → Type 0
 BeginsWith text part = (rest : List ℕ) × (text ≡ part ++ rest)
@@ -48,10 +49,6 @@ ends_with-Decides text part = (
   λ (front, e). ap (λ t. ends_with t part) e ∙ ends_with-append front part,
 )
 
-or_right : (a b : Bool) → b ≡ true → (a || b) ≡ true
-or_right true b h = refl
-or_right false b h = h
-
 pub has_part-begins : (text part : List ℕ) → begins_with text part ≡ true → has_part text part ≡ true
 has_part-begins [] [] e = refl
 has_part-begins [] (p ∷ part) e = cc
@@ -77,26 +74,26 @@ has_part-Decides text part = (HasPart-from_test text part, λ (front, (rest, e))
 -- a text that is another, or begins with it and `-`
 
 neither : (a b : Bool) → (a ≡ true → ⊥) → (b ≡ true → ⊥) → false ≡ (a || b)
-neither a b h k = sym (ap (λ x. x || b) (false_from_ne_true a h) ∙ false_from_ne_true b k)
+neither a b h k = sym (or_from a b (false_from_ne_true a h) (false_from_ne_true b k))
 
-pub dash_missed : (text part : List ℕ) → begins_with text part ≡ false → false ≡ (same_text text part || begins_with text (part ++ 45 ∷ []))
+pub dash_missed : (text part : List ℕ) → begins_with text part ≡ false → false ≡ (same_text text part || begins_with text (part ++ hyphen ∷ []))
 dash_missed text part e =
     let begins : BeginsWith text part → ⊥ = λ w. false≢true (sym e ∙ (begins_with-Decides text part).1 w) in
-    neither _ _ (λ h. begins ([], (bytes_eq-Decides text part).0 h ∙ sym (append-nil part))) (λ h. let (rest, f) = (begins_with-Decides text (part ++ 45 ∷ [])).0 h in begins (45 ∷ rest, f ∙ append_assoc part (45 ∷ []) rest))
+    neither _ _ (λ h. begins ([], (bytes_eq-Decides text part).0 h ∙ sym (append-nil part))) (λ h. let (rest, f) = (begins_with-Decides text (part ++ hyphen ∷ [])).0 h in begins (hyphen ∷ rest, f ∙ append_assoc part (hyphen ∷ []) rest))
 
 and_true : (b : Bool) → (b && true) ≡ b
 and_true true = refl
 and_true false = refl
 
-dash_at : (part rest : List ℕ) (c : ℕ) → (same_text (part ++ c ∷ rest) part || begins_with (part ++ c ∷ rest) (part ++ 45 ∷ [])) ≡ (get_or (part ++ c ∷ rest) (length part) 0 == 45)
-dash_at [] rest c = and_true (c == 45)
+dash_at : (part rest : List ℕ) (c : ℕ) → (same_text (part ++ c ∷ rest) part || begins_with (part ++ c ∷ rest) (part ++ hyphen ∷ [])) ≡ (get_or (part ++ c ∷ rest) (length part) 0 == hyphen)
+dash_at [] rest c = and_true (c == hyphen)
 dash_at (p ∷ part) rest c = let same : (p == p) ≡ true = eq-eqb p p refl in rw same (dash_at part rest c)
 
-dash_after : (text part rest : List ℕ) → length part < length text → text ≡ part ++ rest → (get_or text (length part) 0 == 45) ≡ (same_text text part || begins_with text (part ++ 45 ∷ []))
-dash_after text part [] h e = absurd (omega (arith, ap length e, length-append part []))
-dash_after text part (c ∷ rest) h e = subst (λ t. (get_or t (length part) 0 == 45) ≡ (same_text t part || begins_with t (part ++ 45 ∷ []))) (sym e) (sym (dash_at part rest c))
+dash_rest : (text part rest : List ℕ) → length part < length text → text ≡ part ++ rest → (get_or text (length part) 0 == hyphen) ≡ (same_text text part || begins_with text (part ++ hyphen ∷ []))
+dash_rest text part [] h e = absurd (omega (arith, ap length e, length-append part []))
+dash_rest text part (c ∷ rest) h e = subst (λ t. (get_or t (length part) 0 == hyphen) ≡ (same_text t part || begins_with t (part ++ hyphen ∷ []))) (sym e) (sym (dash_at part rest c))
 
-pub dash_behind : (text part : List ℕ) → begins_with text part ≡ true → length text ≢ length part → (get_or text (length part) 0 == 45) ≡ (same_text text part || begins_with text (part ++ 45 ∷ []))
-dash_behind text part e h =
+pub dash_after : (text part : List ℕ) → begins_with text part ≡ true → length text ≢ length part → (get_or text (length part) 0 == hyphen) ≡ (same_text text part || begins_with text (part ++ hyphen ∷ []))
+dash_after text part e h =
     let (rest, f) = (begins_with-Decides text part).0 e in
-    dash_after text part rest (omega (arith, ap length f, length-append part rest)) f
+    dash_rest text part rest (omega (arith, ap length f, length-append part rest)) f

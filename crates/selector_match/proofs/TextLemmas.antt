@@ -8,10 +8,11 @@ use Rattle.std.proofs.lemmas.Str.{chars-nil, chars-append, chars-IsAscii, encode
 use Rattle.std.proofs.lemmas.Str.Ascii.{IsAscii-nil, IsAscii-cons}
 use Rattle.std.specs.Option.{option_map_or}
 use Rattle.stylo_base.proofs.TextLemmas.{chars_same, chars-ascii}
-use Rattle.scene_model.specs.Element.{Element, Characters}
+use Rattle.base_model.specs.Ascii.{hyphen}
+use Rattle.base_model.specs.Text.{Characters, same_text, is_empty_text}
+use Rattle.scene_model.specs.Element.{Element}
 use Rattle.scene_model.specs.Lookups.{attribute_of}
-use Rattle.scene_model.specs.Words.{same_text, is_empty_text}
-use Rattle.selector_model.specs.Selector.{Comparison, equals, includes, dash_match, prefix, suffix, substring}
+use Rattle.selector_model.specs.Selector.{AttributeOperator, equals, includes, dash_match, prefix, suffix, substring}
 use Rattle.selector_model.specs.Comparisons.{begins_with, ends_with, has_part, compared, folded}
 use Rattle.selector_model.specs.Holds.{is_id}
 use Rattle.selector_match.proofs.LowerLemmas.{IsUtf8-folded, chars-folded}
@@ -82,26 +83,26 @@ module _ (a b : List ℕ) (u : IsUtf8 a) (v : IsUtf8 b) where
         λ (front, (rest, e)). by_chars.1 (part_chars front rest e),
       )
 
-dash_ascii : IsAscii (45 ∷ [])
-dash_ascii = IsAscii-cons 45 [] (omega arith) IsAscii-nil
+dash_ascii : IsAscii (hyphen ∷ [])
+dash_ascii = IsAscii-cons hyphen [] (omega arith) IsAscii-nil
 
-chars-dash : (b : List ℕ) → IsUtf8 b → chars (b ++ 45 ∷ []) ≡ chars b ++ 45 ∷ []
-chars-dash b v = chars-append b (45 ∷ []) v ∙ ap (λ l. chars b ++ l) (chars-IsAscii (45 ∷ []) dash_ascii)
+chars-dash : (b : List ℕ) → IsUtf8 b → chars (b ++ hyphen ∷ []) ≡ chars b ++ hyphen ∷ []
+chars-dash b v = chars-append b (hyphen ∷ []) v ∙ ap (λ l. chars b ++ l) (chars-IsAscii (hyphen ∷ []) dash_ascii)
 
 is_empty_text-chars : (b : List ℕ) → IsUtf8 b → is_empty_text b ≡ is_empty_text (chars b)
 is_empty_text-chars b v = same_text-chars b [] v IsUtf8-nil ∙ ap (same_text (chars b)) chars-nil
 
--- no comparison of words
-abbrev pub IsByPlace : Comparison → Type 0
-IsByPlace includes = ⊥
-IsByPlace comparison = Unit {0}
+-- an operator that does not ask for words
+abbrev pub AsksForNoWord : AttributeOperator → Type 0
+AsksForNoWord includes = ⊥
+AsksForNoWord operator = Unit {0}
 
-compared-chars : (comparison : Comparison) (a b : List ℕ) → IsByPlace comparison → IsUtf8 a → IsUtf8 b → compared comparison a b ≡ compared comparison (chars a) (chars b)
+compared-chars : (operator : AttributeOperator) (a b : List ℕ) → AsksForNoWord operator → IsUtf8 a → IsUtf8 b → compared operator a b ≡ compared operator (chars a) (chars b)
 compared-chars equals a b h u v = same_text-chars a b u v
 compared-chars includes a b h u v = absurd h
 compared-chars dash_match a b h u v =
-    ap (λ x. x || begins_with a (b ++ 45 ∷ [])) (same_text-chars a b u v)
-    ∙ ap (λ x. same_text (chars a) (chars b) || x) (begins_with-chars a (b ++ 45 ∷ []) u (IsUtf8-append b (45 ∷ []) v (IsUtf8-from_ascii (45 ∷ []) dash_ascii)) ∙ ap (begins_with (chars a)) (chars-dash b v))
+    ap (λ x. x || begins_with a (b ++ hyphen ∷ [])) (same_text-chars a b u v)
+    ∙ ap (λ x. same_text (chars a) (chars b) || x) (begins_with-chars a (b ++ hyphen ∷ []) u (IsUtf8-append b (hyphen ∷ []) v (IsUtf8-from_ascii (hyphen ∷ []) dash_ascii)) ∙ ap (begins_with (chars a)) (chars-dash b v))
 compared-chars prefix a b h u v =
     ap (λ x. not x && begins_with a b) (is_empty_text-chars b v) ∙ ap (λ x. not (is_empty_text (chars b)) && x) (begins_with-chars a b u v)
 compared-chars suffix a b h u v =
@@ -109,15 +110,15 @@ compared-chars suffix a b h u v =
 compared-chars substring a b h u v =
     ap (λ x. not x && has_part a b) (is_empty_text-chars b v) ∙ ap (λ x. not (is_empty_text (chars b)) && x) (has_part-chars a b u v)
 
--- bytes that are compared stand for their characters, ASCII case aside or not
-pub by_bytes : (comparison : Comparison) (k : Bool) (value part text bytes : List ℕ) (r : Bool) → IsByPlace comparison → IsUtf8 value → IsUtf8 part → text ≡ value → bytes ≡ part → r ≡ compared comparison (folded k text) (folded k bytes) → r ≡ compared comparison (folded k (chars value)) (folded k (chars part))
-by_bytes comparison k value part text bytes r h u v same_value same_part e =
+-- bytes compare as their characters do, with ASCII letters in lower case or not
+pub by_bytes : (operator : AttributeOperator) (k : Bool) (value part text bytes : List ℕ) (r : Bool) → AsksForNoWord operator → IsUtf8 value → IsUtf8 part → text ≡ value → bytes ≡ part → r ≡ compared operator (folded k text) (folded k bytes) → r ≡ compared operator (folded k (chars value)) (folded k (chars part))
+by_bytes operator k value part text bytes r h u v same_value same_part e =
     e
-    ∙ (ap (λ t. compared comparison (folded k t) (folded k bytes)) same_value
-    ∙ (ap (λ t. compared comparison (folded k value) (folded k t)) same_part
-    ∙ (compared-chars comparison (folded k value) (folded k part) h (IsUtf8-folded k value u) (IsUtf8-folded k part v)
-    ∙ (ap (λ t. compared comparison t (chars (folded k part))) (chars-folded k value u)
-    ∙ ap (compared comparison (folded k (chars value))) (chars-folded k part v)))))
+    ∙ (ap (λ t. compared operator (folded k t) (folded k bytes)) same_value
+    ∙ (ap (λ t. compared operator (folded k value) (folded k t)) same_part
+    ∙ (compared-chars operator (folded k value) (folded k part) h (IsUtf8-folded k value u) (IsUtf8-folded k part v)
+    ∙ (ap (λ t. compared operator t (chars (folded k part))) (chars-folded k value u)
+    ∙ ap (compared operator (folded k (chars value))) (chars-folded k part v)))))
 
 -- where the part is not empty, and where it is
 

@@ -4,27 +4,33 @@
 
 ghost use Rattle.std.specs.Prelude.{◌≡◌, ◌∷◌, ◌++◌, ◌||◌, []};
 ghost use Rattle.std.specs.Str.{chars};
-ghost use Rattle.scene_model.specs.Words.{has_word as model_has_word, same_text};
+ghost use Rattle.base_model.specs.Ascii.{hyphen};
+ghost use Rattle.base_model.specs.Text.{ascii_lower, same_text};
+ghost use Rattle.scene_model.specs.Words.{has_word as model_has_word};
 ghost use Rattle.selector_model.specs.Comparisons as model;
 ghost use Rattle.selector_model.specs.Comparisons.{folded};
-ghost use Rattle.selector_types.specs.Simples.{comparison_of};
-ghost use Rattle.stylo_base.specs.AsciiCase.{ascii_lower};
+ghost use Rattle.selector_types.specs.SimpleView.{operator_of};
 
-use selector_types::Comparison;
+use selector_types::AttributeOperator;
 use stylo_base::eq_ascii_case;
 
-/// Whether the value of an attribute compares with `part`, ASCII case aside unless it counts.
-pub(crate) fn compared(value: &str, comparison: Comparison, part: &str, case_counts: bool) -> bool
-    ensures { result ≡ model.compared (comparison_of comparison) (folded case_counts (chars value.now)) (folded case_counts (chars part.now)) }
+/// Whether the value of an attribute compares with `part`, ignoring ASCII case unless it counts.
+pub(crate) fn compared(
+    value: &str,
+    operator: AttributeOperator,
+    part: &str,
+    case_counts: bool,
+) -> bool
+    ensures { result ≡ model.compared (operator_of operator) (folded case_counts (chars value.now)) (folded case_counts (chars part.now)) }
 {
     let (text, bytes) = (value.as_bytes(), part.as_bytes());
-    match comparison {
-        Comparison::Equals => is_same(text, bytes, case_counts),
-        Comparison::Includes => has_word(value, part, case_counts),
-        Comparison::DashMatch => dash_matches(text, bytes, case_counts),
-        Comparison::Prefix => !bytes.is_empty() && begins_with(text, bytes, case_counts),
-        Comparison::Suffix => !bytes.is_empty() && ends_with(text, bytes, case_counts),
-        Comparison::Substring => !bytes.is_empty() && has_part(text, bytes, case_counts),
+    match operator {
+        AttributeOperator::Equals => is_same(text, bytes, case_counts),
+        AttributeOperator::Includes => has_word(value, part, case_counts),
+        AttributeOperator::DashMatch => dash_matches(text, bytes, case_counts),
+        AttributeOperator::Prefix => !bytes.is_empty() && begins_with(text, bytes, case_counts),
+        AttributeOperator::Suffix => !bytes.is_empty() && ends_with(text, bytes, case_counts),
+        AttributeOperator::Substring => !bytes.is_empty() && has_part(text, bytes, case_counts),
     }
 }
 
@@ -59,7 +65,7 @@ fn has_part(text: &[u8], part: &[u8], case_counts: bool) -> bool
             return true;
         }
         match rest.split_first() {
-            Some((_, behind)) => rest = behind,
+            Some((_, after)) => rest = after,
             None => return false,
         }
     }
@@ -68,7 +74,7 @@ fn has_part(text: &[u8], part: &[u8], case_counts: bool) -> bool
 /// Whether the text is the part, or begins with it and `-`.
 fn dash_matches(text: &[u8], part: &[u8], case_counts: bool) -> bool
     ensures { let whole = folded case_counts text.now in let front = folded case_counts part.now in
-        result ≡ (same_text whole front || model.begins_with whole (front ++ 45 ∷ [])) }
+        result ≡ (same_text whole front || model.begins_with whole (front ++ hyphen ∷ [])) }
 {
     begins_with(text, part, case_counts) && (text.len() == part.len() || text[part.len()] == b'-')
 }
@@ -79,12 +85,12 @@ fn has_word(text: &str, word: &str, case_counts: bool) -> bool
     if case_counts {
         dom_tree::has_word(word, text)
     } else {
-        has_word_aside(text, word)
+        has_word_ignoring_case(text, word)
     }
 }
 
-/// Whether `word` is one of the words of `text`, ASCII case aside.
-fn has_word_aside(text: &str, word: &str) -> bool
+/// Whether `word` is one of the words of `text`, ignoring ASCII case.
+fn has_word_ignoring_case(text: &str, word: &str) -> bool
     ensures { result ≡ model_has_word (ascii_lower (chars word.now)) (ascii_lower (chars text.now)) }
 {
     for piece in text.split_ascii_whitespace() {

@@ -2,11 +2,9 @@
 #![tactic(auto)]
 
 mod compared;
+mod index;
+mod match_result;
 mod matching;
-mod outcome;
-mod place;
 mod simple;
-#[cfg(test)]
-mod tests;
 
 pub use matching::matches;

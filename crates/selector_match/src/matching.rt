@@ -1,40 +1,39 @@
-//! Where a selector holds: its compounds from right to left, and to the left of each the elements
-//! that its combinator names.
+//! Where a selector holds: its compounds from right to left, and for each combinator the elements that it names.
 
 ghost use Rattle.std.specs.Prelude.{◌≡◌};
 ghost use Rattle.scene_model.specs.Lookups.{IsElement};
 ghost use Rattle.scene_model.specs.Valid.{IsValid};
 ghost use Rattle.selector_model.specs.Holds.{holds, holds_some as model_holds_some, meets as model_meets, test_holds as model_test_holds};
-ghost use Rattle.selector_match.specs.Outcomes.{Tells, holds_left};
+ghost use Rattle.selector_match.specs.Results.{Tells, holds_left};
 ghost use Rattle.selector_model.specs.Selector.{child, descendant, later_sibling, next_sibling};
-ghost use Rattle.selector_types.specs.Outer.{selector_of};
-ghost use Rattle.selector_types.specs.Selectors.{complex_of, complexes_of, compound_of, test_of};
+ghost use Rattle.selector_types.specs.ComplexView.{complex_of, complexes_of, compound_of, test_of};
+ghost use Rattle.selector_types.specs.View.{selector_of};
 
-use crate::outcome::Outcome;
-use crate::place::left_siblings;
+use crate::index::left_siblings;
+use crate::match_result::MatchResult;
 use crate::simple::passes;
 use dom_tree::Doc;
 use selector_types::{Combinator, Complex, Compound, Selector, Test};
 
 /// Whether the selector holds at the element `x` (selectors-4, section 3.1). It takes no memory.
 pub fn matches(doc: &Doc, selector: &Selector, x: u32) -> bool
-    requires { IsElement doc.now x }
-    ensures { result ≡ holds doc.now (selector_of selector.now) x }
+    requires { IsElement doc.now.elements x }
+    ensures { result ≡ holds doc.now.elements (selector_of selector.now) x }
 {
-    tried(doc, selector.complex(), x) == Outcome::Holds
+    tried(doc, selector.complex(), x) == MatchResult::Matched
 }
 
 /// Tries a selector at `x`.
 #[cycle(matches)]
-pub(crate) fn tried(doc: &Doc, complex: &Complex, x: u32) -> Outcome
-    requires { IsElement doc.now x }
-    ensures { Tells doc.now (holds doc.now (complex_of complex.now)) x result }
+pub(crate) fn tried(doc: &Doc, complex: &Complex, x: u32) -> MatchResult
+    requires { IsElement doc.now.elements x }
+    ensures { Tells doc.now.elements (holds doc.now.elements (complex_of complex.now)) x result }
 {
     if !meets(doc, &complex.subject, x) {
-        return Outcome::Fails;
+        return MatchResult::RestartFromSibling;
     }
     let Some(left) = &complex.left else {
-        return Outcome::Holds;
+        return MatchResult::Matched;
     };
     match left.combinator {
         Combinator::Child => at_parent(doc, &left.rest, x),
@@ -44,75 +43,75 @@ pub(crate) fn tried(doc: &Doc, complex: &Complex, x: u32) -> Outcome
     }
 }
 
-/// Tries at the parent of `x` what stands left of a `>`.
+/// Tries at the parent of `x` what is to the left of a `>`.
 #[cycle(matches)]
-fn at_parent(doc: &Doc, rest: &Complex, x: u32) -> Outcome
-    requires { IsElement doc.now x }
-    ensures told { Tells doc.now (holds_left doc.now child (complex_of rest.now)) x result }
-    ensures valid { IsValid doc.now }
+fn at_parent(doc: &Doc, rest: &Complex, x: u32) -> MatchResult
+    requires { IsElement doc.now.elements x }
+    ensures told { Tells doc.now.elements (holds_left doc.now.elements child (complex_of rest.now)) x result }
+    ensures valid { IsValid doc.now.elements }
 {
     let Some(parent) = doc.parent(x) else {
-        return Outcome::FailsAbove;
+        return MatchResult::NotMatchedGlobally;
     };
     match tried(doc, rest, parent) {
         // The siblings of `x` have that parent too.
-        Outcome::Fails => Outcome::FailsBefore,
+        MatchResult::RestartFromSibling => MatchResult::RestartFromDescendant,
         told => told,
     }
 }
 
-/// Tries at the ancestors of `x`, the nearest first, what stands left of white space.
+/// Tries at the ancestors of `x`, the nearest first, what is to the left of a descendant combinator.
 #[cycle(matches)]
-fn at_ancestors(doc: &Doc, rest: &Complex, x: u32) -> Outcome
-    requires { IsElement doc.now x }
-    ensures told { Tells doc.now (holds_left doc.now descendant (complex_of rest.now)) x result }
-    ensures valid { IsValid doc.now }
+fn at_ancestors(doc: &Doc, rest: &Complex, x: u32) -> MatchResult
+    requires { IsElement doc.now.elements x }
+    ensures told { Tells doc.now.elements (holds_left doc.now.elements descendant (complex_of rest.now)) x result }
+    ensures valid { IsValid doc.now.elements }
 {
     let mut at = x;
     while let Some(parent) = doc.parent(at) {
         match tried(doc, rest, parent) {
-            Outcome::Fails | Outcome::FailsBefore => at = parent,
+            MatchResult::RestartFromSibling | MatchResult::RestartFromDescendant => at = parent,
             told => return told,
         }
     }
-    Outcome::FailsAbove
+    MatchResult::NotMatchedGlobally
 }
 
-/// Tries at the nearest sibling before `x` what stands left of a `+`.
+/// Tries at the nearest sibling before `x` what is to the left of a `+`.
 #[cycle(matches)]
-fn at_nearest(doc: &Doc, rest: &Complex, x: u32) -> Outcome
-    requires { IsElement doc.now x }
-    ensures told { Tells doc.now (holds_left doc.now next_sibling (complex_of rest.now)) x result }
-    ensures valid { IsValid doc.now }
+fn at_nearest(doc: &Doc, rest: &Complex, x: u32) -> MatchResult
+    requires { IsElement doc.now.elements x }
+    ensures told { Tells doc.now.elements (holds_left doc.now.elements next_sibling (complex_of rest.now)) x result }
+    ensures valid { IsValid doc.now.elements }
 {
     match left_siblings(doc, x).last() {
         Some(nearest) => tried(doc, rest, *nearest),
-        None => Outcome::FailsBefore,
+        None => MatchResult::RestartFromDescendant,
     }
 }
 
-/// Tries at the siblings before `x`, the nearest first, what stands left of a `~`.
+/// Tries at the siblings before `x`, the nearest first, what is to the left of a `~`.
 #[cycle(matches)]
-fn at_siblings(doc: &Doc, rest: &Complex, x: u32) -> Outcome
-    requires { IsElement doc.now x }
-    ensures told { Tells doc.now (holds_left doc.now later_sibling (complex_of rest.now)) x result }
-    ensures valid { IsValid doc.now }
+fn at_siblings(doc: &Doc, rest: &Complex, x: u32) -> MatchResult
+    requires { IsElement doc.now.elements x }
+    ensures told { Tells doc.now.elements (holds_left doc.now.elements later_sibling (complex_of rest.now)) x result }
+    ensures valid { IsValid doc.now.elements }
 {
     let mut before = left_siblings(doc, x);
     while let Some((nearest, farther)) = before.split_last() {
         match tried(doc, rest, *nearest) {
-            Outcome::Fails => before = farther,
+            MatchResult::RestartFromSibling => before = farther,
             told => return told,
         }
     }
-    Outcome::FailsBefore
+    MatchResult::RestartFromDescendant
 }
 
 /// Whether `x` passes each test of a compound.
 #[cycle(matches)]
 fn meets(doc: &Doc, compound: &Compound, x: u32) -> bool
-    requires { IsElement doc.now x }
-    ensures { result ≡ model_meets doc.now (compound_of compound.now) x }
+    requires { IsElement doc.now.elements x }
+    ensures { result ≡ model_meets doc.now.elements (compound_of compound.now) x }
 {
     for test in &compound.tests {
         if !test_holds(doc, test, x) {
@@ -124,24 +123,24 @@ fn meets(doc: &Doc, compound: &Compound, x: u32) -> bool
 
 #[cycle(matches)]
 fn test_holds(doc: &Doc, test: &Test, x: u32) -> bool
-    requires { IsElement doc.now x }
-    ensures { result ≡ model_test_holds doc.now (test_of test.now) x }
+    requires { IsElement doc.now.elements x }
+    ensures { result ≡ model_test_holds doc.now.elements (test_of test.now) x }
 {
     match test {
         Test::Simple(simple) => passes(doc, simple, x),
-        Test::MatchesAny(list) | Test::MatchesWhere(list) => holds_some(doc, list, x),
-        Test::MatchesNone(list) => !holds_some(doc, list, x),
+        Test::Is(list) | Test::Where(list) => holds_some(doc, list, x),
+        Test::Not(list) => !holds_some(doc, list, x),
     }
 }
 
 /// Whether one of the selectors holds at `x`.
 #[cycle(matches)]
 fn holds_some(doc: &Doc, list: &[Complex], x: u32) -> bool
-    requires { IsElement doc.now x }
-    ensures { result ≡ model_holds_some doc.now (complexes_of list.now) x }
+    requires { IsElement doc.now.elements x }
+    ensures { result ≡ model_holds_some doc.now.elements (complexes_of list.now) x }
 {
     for complex in list {
-        if tried(doc, complex, x) == Outcome::Holds {
+        if tried(doc, complex, x) == MatchResult::Matched {
             return true;
         }
     }

@@ -1,7 +1,8 @@
 -- A selector counts no more than its tests.
 use Rattle.std.proofs.Common.{◌≡◌, ℕ, ◌+◌, ◌≤◌, ◌<◌, Bool, true, false, cond, sym, ap, ◌∙◌, arith}
-use Rattle.selector_model.specs.Selector.{Simple, of_type, has_id, of_class, has_attribute, compares, is_root, is_empty, at_places, is_only, in_state, Combinator, Selector, subject, behind, Compound, any, with_test, Test, simple, matches_any, matches_where, matches_none, Selectors, no_more, more}
-use Rattle.selector_model.specs.Specificity.{Specificity, nothing, plus, is_less, greater, specificity_of_simple, specificity_of, specificity_of_compound, specificity_of_test, greatest}
+use Rattle.base_model.specs.Specificity.{Specificity, nothing, plus, is_less, greater}
+use Rattle.selector_model.specs.Selector.{Simple, type_selector, id_selector, class_selector, attribute_selector, attribute_compares, root, empty, nth, only, in_state, Combinator, Selector, subject, combined, Compound, any, with_test, Test, simple, is_some, where_some, not_some, Selectors, no_more, more}
+use Rattle.selector_model.specs.SpecificityOf.{specificity_of_simple, specificity_of, specificity_of_compound, specificity_of_test, greatest}
 use Rattle.selector_types.specs.Counts.{total, test_count, tests_in, tests_of, tests_among}
 
 same_counts : (a b : Specificity) → a.ids ≡ b.ids → a.classes ≡ b.classes → a.types ≡ b.types → a ≡ b
@@ -19,21 +20,21 @@ total_greater : (a b : Specificity) → total (greater a b) ≤ total a + total 
 total_greater a b = chosen a b (is_less a b)
 
 total_simple : (test : Simple) → total (specificity_of_simple test) ≤ 1
-total_simple (of_type tag) = omega arith
-total_simple (has_id name) = omega arith
-total_simple (of_class class) = omega arith
-total_simple (has_attribute name) = omega arith
-total_simple (compares name comparison value case_counts) = omega arith
-total_simple is_root = omega arith
-total_simple is_empty = omega arith
-total_simple (at_places places) = omega arith
-total_simple (is_only by_type) = omega arith
+total_simple (type_selector tag) = omega arith
+total_simple (id_selector name) = omega arith
+total_simple (class_selector class) = omega arith
+total_simple (attribute_selector name) = omega arith
+total_simple (attribute_compares name operator value case_counts) = omega arith
+total_simple root = omega arith
+total_simple empty = omega arith
+total_simple (nth n) = omega arith
+total_simple (only of_type) = omega arith
 total_simple (in_state state) = omega arith
 
 mutual
   pub total_selector : (selector : Selector) → total (specificity_of selector) ≤ test_count selector
   total_selector (subject compound) = total_compound compound
-  total_selector (behind compound combinator rest) = omega (arith, total_compound compound, total_selector rest)
+  total_selector (combined compound combinator rest) = omega (arith, total_compound compound, total_selector rest)
 
   pub total_compound : (compound : Compound) → total (specificity_of_compound compound) ≤ tests_in compound
   total_compound any = omega arith
@@ -41,9 +42,9 @@ mutual
 
   pub total_test : (test : Test) → total (specificity_of_test test) ≤ tests_of test
   total_test (simple test) = total_simple test
-  total_test (matches_any selectors) = omega (arith, total_greatest nothing selectors)
-  total_test (matches_where selectors) = omega arith
-  total_test (matches_none selectors) = omega (arith, total_greatest nothing selectors)
+  total_test (is_some selectors) = omega (arith, total_greatest nothing selectors)
+  total_test (where_some selectors) = omega arith
+  total_test (not_some selectors) = omega (arith, total_greatest nothing selectors)
 
   pub total_greatest : (best : Specificity) (selectors : Selectors) → total (greatest best selectors) ≤ total best + tests_among selectors
   total_greatest best no_more = omega arith
@@ -52,8 +53,8 @@ mutual
 
 -- the steps of the code
 
-pub fits_behind : (whole : Selector) (compound : Compound) (combinator : Combinator) (rest : Selector) (a b : Specificity) (m : ℕ) → whole ≡ behind compound combinator rest → a ≡ specificity_of_compound compound → b ≡ specificity_of rest → test_count whole < m → total a + total b < m
-fits_behind whole compound combinator rest a b m e f g h =
+pub fits_combined : (whole : Selector) (compound : Compound) (combinator : Combinator) (rest : Selector) (a b : Specificity) (m : ℕ) → whole ≡ combined compound combinator rest → a ≡ specificity_of_compound compound → b ≡ specificity_of rest → test_count whole < m → total a + total b < m
+fits_combined whole compound combinator rest a b m e f g h =
     omega (arith, ap test_count e, ap total f, ap total g, total_compound compound, total_selector rest)
 
 pub fits_test : (left rest : Compound) (test : Test) (sum a : Specificity) (m : ℕ) → left ≡ with_test test rest → a ≡ specificity_of_test test → total sum + tests_in left < m → total sum + total a < m

@@ -1,7 +1,8 @@
 -- How many tests a selector has, which bounds how specific it is.
 use Rattle.std.specs.Prelude.{ℕ, ◌+◌}
-use Rattle.selector_model.specs.Selector.{Selector, subject, behind, Compound, any, with_test, Test, simple, matches_any, matches_where, matches_none, Selectors, no_more, more}
-use Rattle.selector_model.specs.Specificity.{Specificity}
+use Rattle.base_model.specs.Specificity.{Specificity}
+use Rattle.selector_model.specs.Selector.{Selector, subject, combined, Compound, any, with_test}
+use Rattle.selector_model.specs.Selector.{Test, simple, is_some, where_some, not_some, Selectors, no_more, more}
 
 -- all counts together
 abbrev pub total : Specificity → ℕ
@@ -11,7 +12,7 @@ total s = s.ids + s.classes + s.types
 abbrev mutual
   pub test_count : Selector → ℕ
   test_count (subject compound) = tests_in compound
-  test_count (behind compound combinator rest) = tests_in compound + test_count rest
+  test_count (combined compound combinator rest) = tests_in compound + test_count rest
 
   pub tests_in : Compound → ℕ
   tests_in any = 0
@@ -19,9 +20,9 @@ abbrev mutual
 
   pub tests_of : Test → ℕ
   tests_of (simple test) = 1
-  tests_of (matches_any selectors) = tests_among selectors
-  tests_of (matches_where selectors) = tests_among selectors
-  tests_of (matches_none selectors) = tests_among selectors
+  tests_of (is_some selectors) = tests_among selectors
+  tests_of (where_some selectors) = tests_among selectors
+  tests_of (not_some selectors) = tests_among selectors
 
   pub tests_among : Selectors → ℕ
   tests_among no_more = 0

@@ -1,5 +1,4 @@
 pub mod Counts
-pub mod Keys
-pub mod Outer
-pub mod Selectors
-pub mod Simples
+pub mod SimpleView
+pub mod ComplexView
+pub mod View

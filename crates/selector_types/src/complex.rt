@@ -2,13 +2,13 @@
 
 ghost use Rattle.std.specs.Prelude.{◌≡◌, IfOk, map};
 ghost use Rattle.selector_model.specs.Selector as model;
-ghost use Rattle.selector_types.specs.Selectors.{combinator_of, complex_of, test_of, tested};
+ghost use Rattle.selector_types.specs.ComplexView.{combinator_of, complex_of, test_of, tested};
 
 use crate::Simple;
 use std::alloc::Global;
 use stylo_base::NoMemory;
 
-/// How an element stands to the one on its left.
+/// How an element is related to the one on its left.
 #[derive(Clone, Copy, Debug, PartialEq, Eq)]
 pub enum Combinator {
     Descendant,
@@ -17,7 +17,7 @@ pub enum Combinator {
     LaterSibling,
 }
 
-/// A compound, and what stands to the left of it.
+/// A compound, and what is to the left of it.
 #[cycle(selector)]
 #[derive(Drop)]
 pub struct Complex {
@@ -25,7 +25,7 @@ pub struct Complex {
     pub left: Option<Box<Left>>,
 }
 
-/// A combinator, and what stands to the left of it.
+/// A combinator, and what is to the left of it.
 #[cycle(selector)]
 #[derive(Drop)]
 pub struct Left {
@@ -46,11 +46,11 @@ pub struct Compound {
 pub enum Test {
     Simple(Simple),
     /// `:is(..)`
-    MatchesAny(Vec<Complex>),
+    Is(Vec<Complex>),
     /// `:where(..)`
-    MatchesWhere(Vec<Complex>),
+    Where(Vec<Complex>),
     /// `:not(..)`
-    MatchesNone(Vec<Complex>),
+    Not(Vec<Complex>),
 }
 
 impl Complex {
@@ -65,14 +65,14 @@ impl Complex {
     }
 
     /// A compound with `rest` to the left of it.
-    pub fn behind(
+    pub fn combined(
         alloc: Global,
         tests: Vec<Test>,
         combinator: Combinator,
         rest: Complex,
     ) -> Result<Complex, NoMemory>
         ensures { IfOk result (λ c. complex_of c
-            ≡ model.behind (tested (map test_of tests.items)) (combinator_of combinator) (complex_of rest)) }
+            ≡ model.combined (tested (map test_of tests.items)) (combinator_of combinator) (complex_of rest)) }
     {
         let left = Box::new(alloc, Left { combinator, rest })?;
         Ok(Complex {

@@ -2,7 +2,7 @@
 
 ghost use Rattle.std.specs.Prelude.{◌<◌, ◌^◌, SomeIff};
 ghost use Rattle.selector_types.specs.Counts.{test_count, tests_among, tests_in, tests_of};
-ghost use Rattle.selector_types.specs.Selectors.{complex_of, complexes_of, compound_of, test_of};
+ghost use Rattle.selector_types.specs.ComplexView.{complex_of, complexes_of, compound_of, test_of};
 
 use crate::{Complex, Compound, Test};
 
@@ -35,9 +35,7 @@ fn of_test(test: &Test) -> Option<u64>
 {
     match test {
         Test::Simple(_) => Some(1),
-        Test::MatchesAny(list) | Test::MatchesWhere(list) | Test::MatchesNone(list) => {
-            of_list(list)
-        }
+        Test::Is(list) | Test::Where(list) | Test::Not(list) => of_list(list),
     }
 }
 

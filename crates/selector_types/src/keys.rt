@@ -2,10 +2,10 @@
 
 ghost use Rattle.std.specs.Prelude.{◌≡◌, IfOk, option_map};
 ghost use Rattle.std.specs.Option.{option_copied};
-ghost use Rattle.selector_model.specs.Specificity.{class_in, class_key, first_in, id_in, id_key, key_of as model_key_of, key_of_compound, type_in, type_key};
-ghost use Rattle.selector_types.specs.Keys.{key_seen};
-ghost use Rattle.selector_types.specs.Selectors.{compound_of};
-ghost use Rattle.selector_types.specs.Outer.{selector_of};
+ghost use Rattle.selector_model.specs.Key.{class_in, class_key, first_in, id_in, id_key, key_of as model_key_of, key_of_compound, type_in, type_key};
+ghost use Rattle.selector_types.specs.ComplexView.{compound_of};
+ghost use Rattle.selector_types.specs.SimpleView.{key_seen};
+ghost use Rattle.selector_types.specs.View.{selector_of};
 
 use crate::{Compound, Selector, Simple, Test};
 use std::alloc::Global;
@@ -32,7 +32,7 @@ fn first_id(compound: &Compound) -> Option<&Text>
     ensures { option_map id_key (option_copied result) ≡ first_in id_in (compound_of compound.now) }
 {
     for test in &compound.tests {
-        if let Test::Simple(Simple::HasId(name)) = test {
+        if let Test::Simple(Simple::Id(name)) = test {
             return Some(name);
         }
     }
@@ -43,7 +43,7 @@ fn first_class(compound: &Compound) -> Option<&Text>
     ensures { option_map class_key (option_copied result) ≡ first_in class_in (compound_of compound.now) }
 {
     for test in &compound.tests {
-        if let Test::Simple(Simple::OfClass(class)) = test {
+        if let Test::Simple(Simple::Class(class)) = test {
             return Some(class);
         }
     }
@@ -54,7 +54,7 @@ fn first_type(compound: &Compound) -> Option<&Text>
     ensures { option_map type_key (option_copied result) ≡ first_in type_in (compound_of compound.now) }
 {
     for test in &compound.tests {
-        if let Test::Simple(Simple::OfType(tag)) = test {
+        if let Test::Simple(Simple::Type(tag)) = test {
             return Some(tag);
         }
     }

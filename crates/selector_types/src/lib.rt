@@ -6,12 +6,10 @@ mod count;
 mod keys;
 mod selector;
 mod simple;
-#[cfg(test)]
-mod tests;
 pub mod weight;
 
 pub use complex::{Combinator, Complex, Compound, Left, Test};
 pub use keys::{Key, key_of};
 pub use selector::Selector;
-pub use simple::{AnB, Comparison, Places, Simple};
+pub use simple::{AnB, AttributeOperator, Nth, Simple};
 pub use stylo_base::Specificity;

@@ -1,9 +1,10 @@
 //! A selector with what is asked of it most: its key and how specific it is.
 
 ghost use Rattle.std.specs.Prelude.{◌≡◌};
-ghost use Rattle.selector_model.specs.Specificity.{key_of, specificity_of};
-ghost use Rattle.selector_types.specs.Keys.{key_seen};
-ghost use Rattle.selector_types.specs.Selectors.{complex_of};
+ghost use Rattle.selector_model.specs.Key.{key_of};
+ghost use Rattle.selector_model.specs.SpecificityOf.{specificity_of};
+ghost use Rattle.selector_types.specs.ComplexView.{complex_of};
+ghost use Rattle.selector_types.specs.SimpleView.{key_seen};
 
 use crate::{Complex, Key, Specificity, count, weight};
 use std::alloc::Global;
@@ -21,7 +22,7 @@ pub struct Selector {
 
 impl Selector {
     ghost use Rattle.std.specs.Prelude.{IfOk};
-    ghost use Rattle.selector_types.specs.Outer.{selector_of};
+    ghost use Rattle.selector_types.specs.View.{selector_of};
 
     /// The selector of these compounds. One of 2^64 tests or more is refused: no memory holds it.
     pub fn new(alloc: Global, complex: Complex) -> Result<Selector, NoMemory>

@@ -1,10 +1,10 @@
-//! Tests of one element by itself, its attributes, its states or its place.
+//! Tests of one element by itself, its attributes, its states or its index among its siblings.
 
 use stylo_base::{State, Text};
 
 /// How an attribute's value is compared: `=`, `~=`, `|=`, `^=`, `$=`, `*=`.
 #[derive(Clone, Copy, Debug, PartialEq, Eq)]
-pub enum Comparison {
+pub enum AttributeOperator {
     Equals,
     Includes,
     DashMatch,
@@ -13,49 +13,49 @@ pub enum Comparison {
     Substring,
 }
 
-/// The places `step * n + first`, for n from 0.
+/// The indexes `a * n + b`, for n from 0.
 #[derive(Clone, Copy, Debug, PartialEq, Eq)]
 pub struct AnB {
-    pub step: i32,
-    pub first: i32,
+    pub a: i32,
+    pub b: i32,
 }
 
-/// The places from the front or from the back, among all siblings or among those of the same type.
+/// The indexes from the first or from the last, among all siblings or among those of the same type.
 #[derive(Clone, Copy, Debug, PartialEq, Eq)]
-pub struct Places {
-    pub places: AnB,
-    pub from_back: bool,
+pub struct Nth {
+    pub formula: AnB,
+    pub from_last: bool,
     pub of_type: bool,
 }
 
-/// A test of one element by itself, its attributes, its states or its place.
+/// A test of one element by itself, its attributes, its states or its index among its siblings.
 #[derive(Debug, Drop)]
 pub enum Simple {
     /// Its type has this name.
-    OfType(Text),
+    Type(Text),
     /// Its id is this.
-    HasId(Text),
+    Id(Text),
     /// This is one of its classes.
-    OfClass(Text),
+    Class(Text),
     /// It has an attribute of this name.
-    HasAttribute(Text),
-    /// Its attribute `name` compares with `value`, ASCII case aside unless `case_counts`.
-    Compares {
+    Attribute(Text),
+    /// Its attribute `name` compares with `value`, ignoring ASCII case unless `case_counts`.
+    AttributeCompares {
         name: Text,
-        comparison: Comparison,
+        operator: AttributeOperator,
         value: Text,
         case_counts: bool,
     },
     /// It is the root.
-    IsRoot,
+    Root,
     /// It has no child.
-    IsEmpty,
-    /// Its place among its siblings is one of these.
-    AtPlaces(Places),
-    /// It is the only one of its siblings, or with `by_type` the only one of its type.
-    IsOnly {
-        by_type: bool,
+    Empty,
+    /// Its index among its siblings is one of these.
+    Nth(Nth),
+    /// It is the only one of its siblings, or with `of_type` the only one of its type.
+    Only {
+        of_type: bool,
     },
     /// It is in this state.
-    InState(State),
+    State(State),
 }

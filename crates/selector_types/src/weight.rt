@@ -1,11 +1,12 @@
 //! How specific a selector is, by its tests.
 
 ghost use Rattle.std.specs.Prelude.{◌≡◌, ◌+◌, ◌<◌, ◌^◌};
-ghost use Rattle.selector_model.specs.Specificity.{greatest, nothing, plus, specificity_of, specificity_of_compound, specificity_of_simple, specificity_of_test};
+ghost use Rattle.base_model.specs.Specificity.{nothing, plus};
+ghost use Rattle.selector_model.specs.SpecificityOf.{greatest, specificity_of, specificity_of_compound, specificity_of_simple, specificity_of_test};
 ghost use Rattle.selector_types.specs.Counts.{test_count, tests_among, tests_in, tests_of, total};
-ghost use Rattle.selector_types.specs.Outer.{selector_of};
-ghost use Rattle.selector_types.specs.Selectors.{complex_of, complexes_of, compound_of, test_of};
-ghost use Rattle.selector_types.specs.Simples.{simple_of};
+ghost use Rattle.selector_types.specs.ComplexView.{complex_of, complexes_of, compound_of, test_of};
+ghost use Rattle.selector_types.specs.SimpleView.{simple_of};
+ghost use Rattle.selector_types.specs.View.{selector_of};
 
 use crate::{Complex, Compound, Selector, Simple, Specificity, Test};
 
@@ -32,8 +33,8 @@ fn of_simple(test: &Simple) -> Specificity
     ensures { result ≡ specificity_of_simple (simple_of test.now) }
 {
     match test {
-        Simple::OfType(_) => Specificity::new(0, 0, 1),
-        Simple::HasId(_) => Specificity::new(1, 0, 0),
+        Simple::Type(_) => Specificity::new(0, 0, 1),
+        Simple::Id(_) => Specificity::new(1, 0, 0),
         _ => Specificity::new(0, 1, 0),
     }
 }
@@ -71,8 +72,8 @@ fn of_test(test: &Test) -> Specificity
 {
     match test {
         Test::Simple(simple) => of_simple(simple),
-        Test::MatchesAny(list) | Test::MatchesNone(list) => greatest_of(list),
-        Test::MatchesWhere(_) => Specificity::new(0, 0, 0),
+        Test::Is(list) | Test::Not(list) => greatest_of(list),
+        Test::Where(_) => Specificity::new(0, 0, 0),
     }
 }
 

@@ -4,24 +4,25 @@ use Rattle.std.proofs.lemmas.List.{nil_from_length}
 use Rattle.scene_model.proofs.Climbing.{ancestors-root}
 use Rattle.selector_model.specs.Selector.{child, descendant, next_sibling, later_sibling}
 use Rattle.selector_model.specs.Holds.{holds, nearest}
-use Rattle.selector_types.specs.Selectors.{combinator_of, complex_of}
+use Rattle.selector_model.proofs.Leftwards.{nearest_element}
+use Rattle.selector_types.specs.ComplexView.{combinator_of, complex_of}
 use Rattle.selector_types.specs.declared.complex.Test.TheFolds.{the_lemmas}
-use Rattle.selector_match.specs.declared.outcome.Outcome.TheVariants.{Fails}
-use Rattle.selector_match.proofs.OutcomeLemmas.{is_held, child_none, child_told, child_kept, above_none, above_told, above_passed, nearest_told, nearest_element, before_none, before_told, before_element}
-use Rattle.selector_match.proofs.TriedLemmas.{tried_behind}
+use Rattle.selector_match.specs.declared.match_result.MatchResult.TheVariants.{RestartFromSibling}
+use Rattle.selector_match.proofs.ResultLemmas.{is_match, child_none, child_told, child_kept, above_none, above_told, above_passed, nearest_told, before_none, before_told, before_element}
+use Rattle.selector_match.proofs.TriedLemmas.{tried_combined}
 use Rattle.selector_match.proofs.matching.+matches.Goals as goal
 
 pub at_parent-returns-in_default-clause-told : goal.at_parent-returns-in_default-clause-told
 at_parent-returns-in_default-clause-told t c =
-    child_none c.args.doc.now c.parent.ensures.valid (holds c.args.doc.now (complex_of c.args.rest.now)) c.args.x (sym c.parent.ensures.parent ∙ c.in_default.is)
+    child_none c.args.doc.now.elements c.parent.ensures.valid (holds c.args.doc.now.elements (complex_of c.args.rest.now)) c.args.x (sym c.parent.ensures.parent ∙ c.in_default.is)
 
-pub at_parent-returns-in-Fails-clause-told : goal.at_parent-returns-in-Fails-clause-told
-at_parent-returns-in-Fails-clause-told t c =
-    child_told c.args.doc.now c.parent.ensures.valid (holds c.args.doc.now (complex_of c.args.rest.now)) c.args.x c.in-Some.parent Fails (sym c.parent.ensures.parent ∙ c.in-Some.is) c.in-Fails.ensures
+pub at_parent-returns-in-RestartFromSibling-clause-told : goal.at_parent-returns-in-RestartFromSibling-clause-told
+at_parent-returns-in-RestartFromSibling-clause-told t c =
+    child_told c.args.doc.now.elements c.parent.ensures.valid (holds c.args.doc.now.elements (complex_of c.args.rest.now)) c.args.x c.in-Some.parent RestartFromSibling (sym c.parent.ensures.parent ∙ c.in-Some.is) c.in-RestartFromSibling.ensures
 
 pub at_parent-returns-in_default-tried : goal.at_parent-returns-in_default-tried
 at_parent-returns-in_default-tried t c = record {
-  told = child_kept c.args.doc.now c.parent.ensures.valid (holds c.args.doc.now (complex_of c.args.rest.now)) c.args.x c.in-Some.parent c.tried.result (sym c.parent.ensures.parent ∙ c.in-Some.is) c.in_default-tried.not-Fails c.tried.ensures;
+  told = child_kept c.args.doc.now.elements c.parent.ensures.valid (holds c.args.doc.now.elements (complex_of c.args.rest.now)) c.args.x c.in-Some.parent c.tried.result (sym c.parent.ensures.parent ∙ c.in-Some.is) c.in_default-tried.not-RestartFromSibling c.tried.ensures;
   valid = c.parent.ensures.valid;
 }
 
@@ -30,57 +31,57 @@ at_ancestors-loop-parent-preserved t c =
     let parent = sym c.parent.ensures.parent ∙ c.in-Some.is in
     record {
       element = (c.parent.ensures.valid.parents _ _ parent).0;
-      left = above_passed c.args.doc.now c.parent.ensures.valid (holds c.args.doc.now (complex_of c.args.rest.now)) c.args.x c.loop-parent.at c.in-Some.parent c.tried.result parent c.loop-parent.invariant.left (⊎_elim (λ e. ap is_held e) (λ e. ap is_held e) c.in-Fails.is) c.tried.ensures;
+      left = above_passed c.args.doc.now.elements c.parent.ensures.valid (holds c.args.doc.now.elements (complex_of c.args.rest.now)) c.args.x c.loop-parent.at c.in-Some.parent c.tried.result parent c.loop-parent.invariant.left (⊎_elim (λ e. ap is_match e) (λ e. ap is_match e) c.in-RestartFromSibling.is) c.tried.ensures;
     }
 
 pub at_ancestors-returns-in_default-tried-clause-told : goal.at_ancestors-returns-in_default-tried-clause-told
 at_ancestors-returns-in_default-tried-clause-told t c =
-    above_told c.args.doc.now c.parent.ensures.valid (holds c.args.doc.now (complex_of c.args.rest.now)) c.args.x c.loop-parent.at c.in-Some.parent c.tried.result (sym c.parent.ensures.parent ∙ c.in-Some.is) c.loop-parent.invariant.left c.in_default-tried.not-Fails c.in_default-tried.not-FailsBefore c.tried.ensures
+    above_told c.args.doc.now.elements c.parent.ensures.valid (holds c.args.doc.now.elements (complex_of c.args.rest.now)) c.args.x c.loop-parent.at c.in-Some.parent c.tried.result (sym c.parent.ensures.parent ∙ c.in-Some.is) c.loop-parent.invariant.left c.in_default-tried.not-RestartFromSibling c.in_default-tried.not-RestartFromDescendant c.tried.ensures
 
 pub at_ancestors-returns-clause-told : goal.at_ancestors-returns-clause-told
 at_ancestors-returns-clause-told t c =
-    let test = holds c.args.doc.now (complex_of c.args.rest.now) in
-    above_none c.args.doc.now c.parent.ensures.valid test c.args.x (sym c.loop-parent.invariant.left ∙ ap (list_any test) (ancestors-root c.args.doc.now c.parent.ensures.valid c.loop-parent.at (sym c.parent.ensures.parent ∙ c.in_default.is)))
+    let test = holds c.args.doc.now.elements (complex_of c.args.rest.now) in
+    above_none c.args.doc.now.elements c.parent.ensures.valid test c.args.x (sym c.loop-parent.invariant.left ∙ ap (list_any test) (ancestors-root c.args.doc.now.elements c.parent.ensures.valid c.loop-parent.at (sym c.parent.ensures.parent ∙ c.in_default.is)))
 
 pub at_nearest-tried-requires : goal.at_nearest-tried-requires
 at_nearest-tried-requires t c = (
   search (rules, the_lemmas),
-  nearest_element c.args.doc.now c.left_siblings.ensures.valid c.args.x c.in-Some.nearest.now (ap nearest (sym c.left_siblings.ensures.siblings) ∙ sym c.in-Some.ensures.value),
+  nearest_element c.args.doc.now.elements c.left_siblings.ensures.valid c.args.x c.in-Some.nearest.now (ap nearest (sym c.left_siblings.ensures.siblings) ∙ sym c.in-Some.ensures.value),
 )
 
 pub at_nearest-returns-in-Some-clause-told : goal.at_nearest-returns-in-Some-clause-told
 at_nearest-returns-in-Some-clause-told t c =
-    nearest_told c.args.doc.now c.left_siblings.ensures.valid (holds c.args.doc.now (complex_of c.args.rest.now)) c.args.x c.in-Some.nearest.now c.tried.result (ap nearest (sym c.left_siblings.ensures.siblings) ∙ sym c.in-Some.ensures.value) c.tried.ensures
+    nearest_told c.args.doc.now.elements c.left_siblings.ensures.valid (holds c.args.doc.now.elements (complex_of c.args.rest.now)) c.args.x c.in-Some.nearest.now c.tried.result (ap nearest (sym c.left_siblings.ensures.siblings) ∙ sym c.in-Some.ensures.value) c.tried.ensures
 
 pub at_siblings-tried-requires : goal.at_siblings-tried-requires
 at_siblings-tried-requires t c = (
   search (rules, the_lemmas),
-  before_element c.args.doc.now c.left_siblings-before.ensures.valid c.args.x c.in-Some.nearest.now c.loop-nearest.before.now c.in-Some.farther.now c.loop-nearest.invariant.front.0 c.loop-nearest.invariant.front.1 c.in-Some.ensures.cases.0,
+  before_element c.args.doc.now.elements c.left_siblings-before.ensures.valid c.args.x c.in-Some.nearest.now c.loop-nearest.before.now c.in-Some.farther.now c.loop-nearest.invariant.front.0 c.loop-nearest.invariant.front.1 c.in-Some.ensures.cases.0,
 )
 
 pub at_siblings-returns-in_default-tried : goal.at_siblings-returns-in_default-tried
 at_siblings-returns-in_default-tried t c = record {
-  told = before_told c.args.doc.now c.left_siblings-before.ensures.valid (holds c.args.doc.now (complex_of c.args.rest.now)) c.args.x c.in-Some.nearest.now c.loop-nearest.before.now c.in-Some.farther.now c.loop-nearest.invariant.front.0 c.tried.result c.loop-nearest.invariant.front.1 c.in-Some.ensures.cases.0 c.loop-nearest.invariant.left c.in_default-tried.not-Fails c.tried.ensures;
+  told = before_told c.args.doc.now.elements c.left_siblings-before.ensures.valid (holds c.args.doc.now.elements (complex_of c.args.rest.now)) c.args.x c.in-Some.nearest.now c.loop-nearest.before.now c.in-Some.farther.now c.loop-nearest.invariant.front.0 c.tried.result c.loop-nearest.invariant.front.1 c.in-Some.ensures.cases.0 c.loop-nearest.invariant.left c.in_default-tried.not-RestartFromSibling c.tried.ensures;
   valid = c.left_siblings-before.ensures.valid;
 }
 
 pub at_siblings-returns-clause-told : goal.at_siblings-returns-clause-told
 at_siblings-returns-clause-told t c =
-    let test = holds c.args.doc.now (complex_of c.args.rest.now) in
-    before_none c.args.doc.now c.left_siblings-before.ensures.valid test c.args.x (sym c.loop-nearest.invariant.left ∙ ap (list_any test) (nil_from_length c.loop-nearest.before.now c.in_default.ensures.cases))
+    let test = holds c.args.doc.now.elements (complex_of c.args.rest.now) in
+    before_none c.args.doc.now.elements c.left_siblings-before.ensures.valid test c.args.x (sym c.loop-nearest.invariant.left ∙ ap (list_any test) (nil_from_length c.loop-nearest.before.now c.in_default.ensures.cases))
 
 pub tried-returns-in-Child : goal.tried-returns-in-Child
 tried-returns-in-Child t c =
-    tried_behind c.args.doc.now c.args.complex.now c.in-Some.left c.deref.result.now c.deref-in-Child.result.now child c.args.x c.at_parent.result c.at_parent.ensures.valid c.in-Some.is c.deref.ensures c.deref-in-Child.ensures (ap combinator_of c.in-Child.is) (sym c.meets.ensures ∙ c.if-not-meets.false) c.at_parent.ensures.told
+    tried_combined c.args.doc.now.elements c.args.complex.now c.in-Some.left c.deref.result.now c.deref-in-Child.result.now child c.args.x c.at_parent.result c.at_parent.ensures.valid c.in-Some.is c.deref.ensures c.deref-in-Child.ensures (ap combinator_of c.in-Child.is) (sym c.meets.ensures ∙ c.if-not-meets.false) c.at_parent.ensures.told
 
 pub tried-returns-in-Descendant : goal.tried-returns-in-Descendant
 tried-returns-in-Descendant t c =
-    tried_behind c.args.doc.now c.args.complex.now c.in-Some.left c.deref.result.now c.deref-in-Descendant.result.now descendant c.args.x c.at_ancestors.result c.at_ancestors.ensures.valid c.in-Some.is c.deref.ensures c.deref-in-Descendant.ensures (ap combinator_of c.in-Descendant.is) (sym c.meets.ensures ∙ c.if-not-meets.false) c.at_ancestors.ensures.told
+    tried_combined c.args.doc.now.elements c.args.complex.now c.in-Some.left c.deref.result.now c.deref-in-Descendant.result.now descendant c.args.x c.at_ancestors.result c.at_ancestors.ensures.valid c.in-Some.is c.deref.ensures c.deref-in-Descendant.ensures (ap combinator_of c.in-Descendant.is) (sym c.meets.ensures ∙ c.if-not-meets.false) c.at_ancestors.ensures.told
 
 pub tried-returns-in-NextSibling : goal.tried-returns-in-NextSibling
 tried-returns-in-NextSibling t c =
-    tried_behind c.args.doc.now c.args.complex.now c.in-Some.left c.deref.result.now c.deref-in-NextSibling.result.now next_sibling c.args.x c.at_nearest.result c.at_nearest.ensures.valid c.in-Some.is c.deref.ensures c.deref-in-NextSibling.ensures (ap combinator_of c.in-NextSibling.is) (sym c.meets.ensures ∙ c.if-not-meets.false) c.at_nearest.ensures.told
+    tried_combined c.args.doc.now.elements c.args.complex.now c.in-Some.left c.deref.result.now c.deref-in-NextSibling.result.now next_sibling c.args.x c.at_nearest.result c.at_nearest.ensures.valid c.in-Some.is c.deref.ensures c.deref-in-NextSibling.ensures (ap combinator_of c.in-NextSibling.is) (sym c.meets.ensures ∙ c.if-not-meets.false) c.at_nearest.ensures.told
 
 pub tried-returns-in-LaterSibling : goal.tried-returns-in-LaterSibling
 tried-returns-in-LaterSibling t c =
-    tried_behind c.args.doc.now c.args.complex.now c.in-Some.left c.deref.result.now c.deref-in-LaterSibling.result.now later_sibling c.args.x c.at_siblings.result c.at_siblings.ensures.valid c.in-Some.is c.deref.ensures c.deref-in-LaterSibling.ensures (ap combinator_of c.in-LaterSibling.is) (sym c.meets.ensures ∙ c.if-not-meets.false) c.at_siblings.ensures.told
+    tried_combined c.args.doc.now.elements c.args.complex.now c.in-Some.left c.deref.result.now c.deref-in-LaterSibling.result.now later_sibling c.args.x c.at_siblings.result c.at_siblings.ensures.valid c.in-Some.is c.deref.ensures c.deref-in-LaterSibling.ensures (ap combinator_of c.in-LaterSibling.is) (sym c.meets.ensures ∙ c.if-not-meets.false) c.at_siblings.ensures.told

@@ -5,7 +5,7 @@ use Rattle.selector_match.proofs.simple.has_id.Goals as goal
 
 pub returns-in-Some : goal.returns-in-Some
 returns-in-Some c =
-    c.is_id.ensures ∙ id_asked c.args.doc.now c.args.x c.args.name.now (Some (chars c.in-Some.value.now)) c.in-Some.ensures
+    c.is_id.ensures ∙ id_asked c.args.doc.now.elements c.args.x c.args.name.now (Some (chars c.in-Some.value.now)) c.in-Some.ensures
 
 pub returns-in-None : goal.returns-in-None
-returns-in-None c = id_asked c.args.doc.now c.args.x c.args.name.now None c.in-None.ensures
+returns-in-None c = id_asked c.args.doc.now.elements c.args.x c.args.name.now None c.in-None.ensures

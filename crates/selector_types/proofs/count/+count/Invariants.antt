@@ -1,6 +1,6 @@
 use Rattle.std.proofs.Common.{◌≡◌, ◌+◌, ◌<◌, ◌^◌, map, drop}
 use Rattle.selector_types.specs.Counts.{tests_among, tests_in}
-use Rattle.selector_types.specs.Selectors.{complexes_of, compound_of, test_of, tested}
+use Rattle.selector_types.specs.ComplexView.{complexes_of, compound_of, test_of, tested}
 use Rattle.selector_types.proofs.count.+count.Given as goal
 
 -- the sum so far and that of what is left are the whole

@@ -1,6 +1,6 @@
 use Rattle.std.proofs.Common.{◌≡◌, map, drop}
-use Rattle.selector_model.specs.Specificity.{first_in, class_in}
-use Rattle.selector_types.specs.Selectors.{test_of, tested, compound_of}
+use Rattle.selector_model.specs.Key.{first_in, class_in}
+use Rattle.selector_types.specs.ComplexView.{test_of, tested, compound_of}
 use Rattle.selector_types.proofs.keys.first_class.Given as goal
 
 -- what is left decides

@@ -1,8 +1,8 @@
 use Rattle.std.proofs.Common.{◌+◌, map, drop}
 use Rattle.selector_types.specs.declared.complex.Test.TheViews.{out-Complex, out-Left}
-use Rattle.selector_types.specs.Selectors.{combinator_of, complex_of, compound_of, test_of, tested}
+use Rattle.selector_types.specs.ComplexView.{combinator_of, complex_of, compound_of, test_of, tested}
 use Rattle.selector_types.proofs.Layers.{complex_out-some, tests_off}
-use Rattle.selector_types.proofs.WeightLemmas.{fits_behind, fits_test, sum_more}
+use Rattle.selector_types.proofs.WeightLemmas.{fits_combined, fits_test, sum_more}
 use Rattle.selector_types.proofs.weight.+weight.Goals as goal
 
 pub of_complex-plus-requires : goal.of_complex-plus-requires
@@ -10,7 +10,7 @@ of_complex-plus-requires t c =
     let complex = c.args.complex.now in
     let left = out-Left c.in-Some.left.value in
     let rest = rw c.deref.ensures at c.of_complex.ensures in
-    fits_behind (complex_of complex) (compound_of (out-Complex complex).subject) (combinator_of left.combinator) (complex_of left.rest) _ _ _ (complex_out-some complex c.in-Some.left c.in-Some.is) c.of_compound-subject.ensures rest c.requires
+    fits_combined (complex_of complex) (compound_of (out-Complex complex).subject) (combinator_of left.combinator) (complex_of left.rest) _ _ _ (complex_out-some complex c.in-Some.left c.in-Some.is) c.of_compound-subject.ensures rest c.requires
 
 pub of_compound-plus-sum-requires : goal.of_compound-plus-sum-requires
 of_compound-plus-sum-requires t c =

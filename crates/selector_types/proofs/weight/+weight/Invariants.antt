@@ -1,7 +1,8 @@
 use Rattle.std.proofs.Common.{◌≡◌, ◌<◌, ◌^◌, map, drop}
-use Rattle.selector_model.specs.Specificity.{greatest, nothing}
+use Rattle.base_model.specs.Specificity.{nothing}
+use Rattle.selector_model.specs.SpecificityOf.{greatest}
 use Rattle.selector_types.specs.Counts.{tests_among}
-use Rattle.selector_types.specs.Selectors.{complexes_of, compound_of, test_of, tested}
+use Rattle.selector_types.specs.ComplexView.{complexes_of, compound_of, test_of, tested}
 use Rattle.selector_types.proofs.WeightLemmas.{IsSumSoFar}
 use Rattle.selector_types.proofs.weight.+weight.Given as goal
 

@@ -1,0 +1,1 @@
+-- The definitions computed on small documents.

@@ -1,0 +1,2 @@
+pub mod Leftwards
+mod Examples
