@@ -2,6 +2,7 @@
 
 ghost use Rattle.std.specs.Prelude.{◌≡◌, ◌<◌, ◌≤◌, ◌-◌, IfOk, Some, length, option_map, slice_get};
 ghost use Rattle.std.specs.Str.{chars};
+ghost use Rattle.base_model.specs.Limits.{element_limit};
 ghost use Rattle.scene_model.specs.Lookups.{IsElement, attribute_of, children, has_class, is_element, numbers, parent_of, place_of, state_of, tag_of};
 ghost use Rattle.scene_model.specs.Document.{document_of};
 ghost use Rattle.scene_model.specs.Valid.{IsValid};
@@ -45,7 +46,7 @@ impl Model for Doc {
 impl Doc {
     /// The document of a list of nodes. The only error is that memory ran out.
     pub fn start(alloc: Global, list: &NodeList) -> Result<Doc, NoMemory>
-        requires { length list.now ≤ 65536 }
+        requires { length list.now ≤ element_limit }
         ensures { IfOk result (λ doc. doc ≡ document_of list.now) }
     {
         let mut names = Names::new(alloc);

@@ -2,6 +2,7 @@
 
 ghost use Rattle.std.specs.Prelude.{◌≡◌, ◌++◌, ◌∷◌, ◌^◌, ◌<◌, ◌≤◌, ◌+◌, ℕ, [], IfOk, IfSome, OnOk, length, option_map, reverse, slice_get, slice_set};
 ghost use Rattle.std.specs.List.{AllByRecursion};
+ghost use Rattle.base_model.specs.Limits.{element_limit};
 ghost use Rattle.scene_model.specs.Nodes.{IsNodeList, listed, tree_order};
 ghost use Rattle.dom_tree.specs.View.{input_element};
 ghost use Rattle.dom_tree.specs.Kept.{AreLinks, IsNamed, KeepsTexts, element_of, elements_of, named_attributes};
@@ -18,7 +19,7 @@ pub(crate) fn name_nodes(
     names: &mut Names,
     list: &NodeList,
 ) -> Result<Vec<Node>, NoMemory>
-    requires { length list.now ≤ 65536 }
+    requires { length list.now ≤ element_limit }
     ensures elements { IfOk result (λ nodes. elements_of names.new nodes.items ≡ listed list.now) }
     ensures named { IfOk result (λ nodes. AllByRecursion (IsNamed names.new) nodes.items) }
 {
@@ -32,7 +33,7 @@ pub(crate) fn name_nodes(
 
 /// The number of the node at an index, if there is one.
 fn number_of(index: Option<u32>) -> Option<u32>
-    requires { IfSome index (λ i. i < 65536) }
+    requires { IfSome index (λ i. i < element_limit) }
     ensures { result ≡ option_map (λ i. i + 1) index }
 {
     match index {
@@ -79,7 +80,7 @@ fn name_attrs(alloc: Global, names: &mut Names, attrs: &Attrs) -> Result<NamedAt
 
 /// The children and the sibling index of each node, by number.
 pub(crate) fn link_nodes(alloc: Global, list: &NodeList) -> Result<Vec<Link>, NoMemory>
-    requires { length list.now ≤ 65536 }
+    requires { length list.now ≤ element_limit }
     ensures { IfOk result (λ links. AreLinks (listed list.now) links.items) }
 {
     let mut links = Vec::new(alloc);
@@ -113,7 +114,7 @@ fn append_child(links: &mut Vec<Link>, parent: usize, child: u32) -> Result<u32,
 /// The numbers of the nodes of `list` in tree order: a walk from the root that visits what is below a
 /// node before its next sibling. `links` are those of the list.
 pub(crate) fn walk(alloc: Global, list: &NodeList, links: &[Link]) -> Result<Vec<u32>, NoMemory>
-    requires few { length list.now ≤ 65536 }
+    requires few { length list.now ≤ element_limit }
     requires links { AreLinks (listed list.now) links.now }
     ensures order { IfOk result (λ order. order.items ≡ tree_order list.now) }
     ensures shape { IsNodeList list.now }

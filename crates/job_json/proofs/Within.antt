@@ -5,21 +5,22 @@ use Rattle.std.proofs.lemmas.Option.{same_Some}
 use Rattle.serde_json.specs.declared.value.Value.{Value}
 use Rattle.serde_json.specs.Data.{Items}
 use Rattle.serde_json.specs.View.{view, items_view}
+use Rattle.base_model.specs.Limits.{element_limit}
 use Rattle.scene_model.specs.Nodes.{Node}
 use Rattle.job_json.specs.Shape.{node_at, nodes_from, nodes_of}
-use Rattle.job_json.specs.Limits.{items_within, depths_within, is_within}
+use Rattle.job_json.specs.Limits.{are_items_within, are_depths_within, are_nodes_within}
 use Rattle.job_json.specs.JobOf.{nodes_within}
 
-in_front : (o : Option Node) (p : Option (List Node)) (nodes : List Node) → option_and_then (λ node. option_map (λ rest. node ∷ rest) p) o ≡ Some nodes → (rest : List Node) × (p ≡ Some rest) × (length nodes ≡ length rest + 1)
-in_front None p nodes h = absurd (cc)
-in_front (Some node) None nodes h = absurd (cc)
-in_front (Some node) (Some rest) nodes h = (rest, refl, ap length (sym (same_Some (node ∷ rest) nodes h)) ∙ omega arith)
+more_nodes : (o : Option Node) (p : Option (List Node)) (nodes : List Node) → option_and_then (λ node. option_and_then (λ rest. Some (node ∷ rest)) p) o ≡ Some nodes → (rest : List Node) × (p ≡ Some rest) × (length nodes ≡ length rest + 1)
+more_nodes None p nodes h = absurd (cc)
+more_nodes (Some node) None nodes h = absurd (cc)
+more_nodes (Some node) (Some rest) nodes h = (rest, refl, ap length (sym (same_Some (node ∷ rest) nodes h)) ∙ omega arith)
 
 -- there are as many nodes as items
 length-nodes_from : (k : ℕ) (values : List Value) (nodes : List Node) → nodes_from k (items_view values) ≡ Some nodes → length nodes ≡ length values
 length-nodes_from k [] nodes h = ap length (sym (same_Some [] nodes h))
 length-nodes_from k (value ∷ values) nodes h =
-    let (rest, is, count) = in_front (node_at k (view value)) (nodes_from (k + 1) (items_view values)) nodes h in
+    let (rest, is, count) = more_nodes (node_at k (view value)) (nodes_from (k + 1) (items_view values)) nodes h in
     let more = length-nodes_from (k + 1) values rest is in
     omega arith
 
@@ -27,7 +28,7 @@ pub length-nodes_of : (values : List Value) (nodes : List Node) → nodes_of (it
 length-nodes_of [] nodes h = absurd (cc)
 length-nodes_of (value ∷ values) nodes h = length-nodes_from 0 (value ∷ values) nodes h
 
-pub fits_from : (n m : ℕ) → n ≡ m → nat_le m 65536 ≡ true → n ≤ 65536
+pub fits_from : (n m : ℕ) → n ≡ m → nat_le m element_limit ≡ true → n ≤ element_limit
 fits_from n m same few = grind (arith, nat_tests)
 
 none_kept : (p : List Node → Bool) (o : Option (List Node)) → ((nodes : List Node) → o ≡ Some nodes → p nodes ≡ false) → option_and_then (λ nodes. cond (p nodes) (Some nodes) None) o ≡ None
@@ -41,18 +42,18 @@ past true true false h = refl
 past true true true h = elim h [ inl e ↦ e | inr k ↦ elim k [ inl e ↦ e | inr e ↦ e ] ]
 
 -- too many
-pub nodes_within-many : (values : List Value) → nat_le (length values) 65536 ≡ false → nodes_within (items_view values) ≡ None
+pub nodes_within-many : (values : List Value) → nat_le (length values) element_limit ≡ false → nodes_within (items_view values) ≡ None
 nodes_within-many values many =
     let items : Items = items_view values in
-    none_kept (is_within items) (nodes_of items) (λ nodes is. past (nat_le (length nodes) 65536) (items_within items) (depths_within nodes) (inl (ap (λ n. nat_le n 65536) (length-nodes_of values nodes is) ∙ many)))
+    none_kept (are_nodes_within items) (nodes_of items) (λ nodes is. past (nat_le (length nodes) element_limit) (are_items_within items) (are_depths_within nodes) (inl (ap (λ n. nat_le n element_limit) (length-nodes_of values nodes is) ∙ many)))
 
 -- an attribute is past its limit
-pub nodes_within-wide : (values : List Value) → items_within (items_view values) ≡ false → nodes_within (items_view values) ≡ None
+pub nodes_within-wide : (values : List Value) → are_items_within (items_view values) ≡ false → nodes_within (items_view values) ≡ None
 nodes_within-wide values wide =
     let items : Items = items_view values in
-    none_kept (is_within items) (nodes_of items) (λ nodes is. past (nat_le (length nodes) 65536) (items_within items) (depths_within nodes) (inr (inl wide)))
+    none_kept (are_nodes_within items) (nodes_of items) (λ nodes is. past (nat_le (length nodes) element_limit) (are_items_within items) (are_depths_within nodes) (inr (inl wide)))
 
-pub nodes_within-good : (values : List Value) (nodes : List Node) → nodes_of (items_view values) ≡ Some nodes → nat_le (length values) 65536 ≡ true → items_within (items_view values) ≡ true → depths_within nodes ≡ true → nodes_within (items_view values) ≡ Some nodes
+pub nodes_within-good : (values : List Value) (nodes : List Node) → nodes_of (items_view values) ≡ Some nodes → nat_le (length values) element_limit ≡ true → are_items_within (items_view values) ≡ true → are_depths_within nodes ≡ true → nodes_within (items_view values) ≡ Some nodes
 nodes_within-good values nodes is few narrow flat =
-    let count : nat_le (length nodes) 65536 ≡ true = ap (λ n. nat_le n 65536) (length-nodes_of values nodes is) ∙ few in
-    ap (option_and_then (λ ns. cond (is_within (items_view values) ns) (Some ns) None)) is ∙ rw (count, narrow, flat) refl
+    let count : nat_le (length nodes) element_limit ≡ true = ap (λ n. nat_le n element_limit) (length-nodes_of values nodes is) ∙ few in
+    ap (option_and_then (λ ns. cond (are_nodes_within (items_view values) ns) (Some ns) None)) is ∙ rw (count, narrow, flat) refl

@@ -1,9 +1,10 @@
 -- What the bytes of an input say.
-use Rattle.std.specs.Prelude.{ℕ, List, [], ◌≡◌, ◌⊎◌, if◌then◌else◌, Option, Some, None, option_and_then, ◌&&◌, codes, Result, Ok, Err}
+use Rattle.std.specs.Prelude.{ℕ, List, [], ◌≡◌, ◌⊎◌, if◌then◌else◌, Option, Some, None, ◌&&◌, codes, Result, Ok, Err}
 use Rattle.std.specs.Str.{is_utf8}
 use Rattle.serde_json.specs.Data.{Data, Items, no_items}
 use Rattle.serde_json.specs.Read.{read as read_json}
 use Rattle.serde_json.specs.Find.{get, as_array}
+use Rattle.base_model.specs.Options.{◌>>=◌}
 use Rattle.scene_model.specs.Element.{Characters}
 use Rattle.scene_model.specs.Nodes.{Node}
 use Rattle.layer_order.specs.declared.sheet_input.SheetInput.{SheetInput}
@@ -12,7 +13,7 @@ use Rattle.job_json.specs.declared.JobFault.{JobFault}
 use Rattle.job_json.specs.declared.JobFault.TheVariants.{NotJson, Shape, NoMemory}
 use Rattle.job_json.specs.Sheets.{sheets_from}
 use Rattle.job_json.specs.Shape.{job_from, nodes_of}
-use Rattle.job_json.specs.Limits.{is_within, are_within}
+use Rattle.job_json.specs.Limits.{are_nodes_within, are_sheets_within}
 
 pub data Verdict : Type 0 where
   -- the bytes are not UTF-8, or no JSON value
@@ -30,22 +31,25 @@ items_or_none None = no_items
 items_or_none (Some items) = items
 
 abbrev pub node_items : Data → Items
-node_items value = items_or_none (option_and_then as_array (get (codes "nodes") value))
+node_items value = items_or_none (get (codes "nodes") value >>= as_array)
 
 -- the nodes that pass no limit
 abbrev pub nodes_within : Items → Option (List Node)
-nodes_within items = option_and_then (λ nodes. if is_within items nodes then Some nodes else None) (nodes_of items)
+nodes_within items = do
+  nodes ← nodes_of items
+  if are_nodes_within items nodes then Some nodes else None
 
 -- the sheets that pass no limit
 abbrev pub sheets_within : Option Data → Option (List SheetInput)
-sheets_within value = option_and_then (λ sheets. if are_within sheets then Some sheets else None) (sheets_from value)
-
-abbrev pub if_within : Items → Job → Option Job
-if_within items job = if is_within items job.nodes && are_within job.sheets then Some job else None
+sheets_within value = do
+  sheets ← sheets_from value
+  if are_sheets_within sheets then Some sheets else None
 
 -- the job that a value says, if it has the shape of one and passes no limit
 abbrev pub job_within : Data → Option Job
-job_within value = option_and_then (if_within (node_items value)) (job_from value)
+job_within value = do
+  job ← job_from value
+  if are_nodes_within (node_items value) job.nodes && are_sheets_within job.sheets then Some job else None
 
 -- A job past a limit counts as one of another shape, and the pointer is the empty one, in this profile.
 abbrev pub verdict_on : Option Job → Verdict
@@ -64,6 +68,6 @@ answer_to not_json = Err NotJson
 answer_to (bad_shape path) = Err (Shape path)
 answer_to (good job) = Ok job
 
--- the answer to a verdict, or want of memory in its place
+-- the answer to a verdict, or out of memory in its place
 abbrev pub IsDue : Verdict → Result Job JobFault → Type 0
 IsDue verdict result = (result ≡ answer_to verdict) ⊎ (result ≡ Err NoMemory)

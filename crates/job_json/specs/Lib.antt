@@ -3,4 +3,4 @@ pub mod Shape
 pub mod Limits
 pub mod JobOf
 pub mod Reads
-pub mod Children
+pub mod View

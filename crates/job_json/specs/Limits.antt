@@ -3,6 +3,7 @@ use Rattle.std.specs.Prelude.{ℕ, ◌+◌, nat_le, ◌&&◌, Bool, true, List, 
 use Rattle.std.specs.List.{list_all}
 use Rattle.serde_json.specs.Data.{Data, Items, no_items, item, Members, no_members, member}
 use Rattle.serde_json.specs.Find.{get, as_object, as_str}
+use Rattle.base_model.specs.Limits.{element_limit, depth_limit, attribute_limit, value_limit, text_limit}
 use Rattle.scene_model.specs.Nodes.{Node}
 use Rattle.dom_tree.specs.Depths.{depths_of}
 use Rattle.layer_order.specs.declared.sheet_input.SheetInput.{SheetInput}
@@ -15,7 +16,7 @@ count_of (member key value rest) = 1 + count_of rest
 -- a value's bytes
 abbrev pub is_short : Option (List ℕ) → Bool
 is_short None = true
-is_short (Some text) = nat_le (length text) 1048576
+is_short (Some text) = nat_le (length text) value_limit
 
 abbrev pub are_short : Members → Bool
 are_short no_members = true
@@ -23,29 +24,33 @@ are_short (member key value rest) = is_short (as_str value) && are_short rest
 
 abbrev pub has_room : Option Members → Bool
 has_room None = true
-has_room (Some members) = nat_le (count_of members) 64 && are_short members
+has_room (Some members) = nat_le (count_of members) attribute_limit && are_short members
 
-abbrev pub attrs_within : Option Data → Bool
-attrs_within None = true
-attrs_within (Some value) = has_room (as_object value)
+abbrev pub are_attrs_within : Option Data → Bool
+are_attrs_within None = true
+are_attrs_within (Some value) = has_room (as_object value)
 
--- no node has more than 64 attributes, and no attribute value more than 1,048,576 bytes
-abbrev pub items_within : Items → Bool
-items_within no_items = true
-items_within (item value rest) = attrs_within (get (codes "attrs") value) && items_within rest
+-- no node has too many attributes, and no attribute too long a value
+abbrev pub are_items_within : Items → Bool
+are_items_within no_items = true
+are_items_within (item value rest) = are_attrs_within (get (codes "attrs") value) && are_items_within rest
 
--- no element stands deeper than 256 levels, where the root has depth 1
-abbrev pub depths_within : List Node → Bool
-depths_within nodes = list_all (λ depth. nat_le depth 256) (depths_of nodes)
+-- no element is too deep
+abbrev pub are_depths_within : List Node → Bool
+are_depths_within nodes = list_all (λ depth. nat_le depth depth_limit) (depths_of nodes)
 
--- at most 65,536 elements, each within its limits
-abbrev pub is_within : Items → List Node → Bool
-is_within items nodes = nat_le (length nodes) 65536 && (items_within items && depths_within nodes)
+-- not too many elements, each within its limits
+abbrev pub are_nodes_within : Items → List Node → Bool
+are_nodes_within items nodes =
+    nat_le (length nodes) element_limit && (are_items_within items && are_depths_within nodes)
 
--- a text of at most 4,194,304 bytes in UTF-8
-abbrev pub text_within : SheetInput → Bool
-text_within sheet = nat_le (length (encode_utf8_all sheet.text)) 4194304
+-- the bytes of its text in UTF-8
+abbrev pub is_text_within : SheetInput → Bool
+is_text_within sheet = nat_le (length (encode_utf8_all sheet.text)) text_limit
 
--- at most one sheet in this profile, with a text within its limit
-abbrev pub are_within : List SheetInput → Bool
-are_within sheets = nat_le (length sheets) 1 && list_all text_within sheets
+-- how many sheets there may be in this profile
+abbrev pub profile_sheets : ℕ
+profile_sheets = 1
+
+abbrev pub are_sheets_within : List SheetInput → Bool
+are_sheets_within sheets = nat_le (length sheets) profile_sheets && list_all is_text_within sheets

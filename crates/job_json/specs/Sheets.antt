@@ -1,8 +1,9 @@
 -- The style sheets of a job, as its JSON says them. Members other than those named are passed over.
-use Rattle.std.specs.Prelude.{ℕ, Bool, true, false, if◌then◌else◌, List, [], ◌∷◌, Option, Some, None, option_map, option_and_then, codes}
+use Rattle.std.specs.Prelude.{ℕ, Bool, true, false, if◌then◌else◌, List, [], ◌∷◌, Option, Some, None, codes}
 use Rattle.std.specs.Str.{chars, bytes_eq}
 use Rattle.serde_json.specs.Data.{Data, Items, no_items, item}
 use Rattle.serde_json.specs.Find.{get, as_bool, as_str, as_array}
+use Rattle.base_model.specs.Options.{◌>>=◌}
 use Rattle.layer_order.specs.declared.origin.Origin.{Origin}
 use Rattle.layer_order.specs.declared.origin.Origin.TheVariants.{Author}
 use Rattle.layer_order.specs.declared.sheet_input.SheetInput.{SheetInput}
@@ -13,8 +14,10 @@ abbrev pub origin_named : List ℕ → Option Origin
 origin_named word = if bytes_eq word (codes "author") then Some Author else None
 
 abbrev pub origin_from : Option Data → Option Origin
-origin_from None = None
-origin_from (Some value) = option_and_then origin_named (as_str value)
+origin_from origin = do
+  value ← origin
+  word ← as_str value
+  origin_named word
 
 -- In this profile each sheet is enabled: one that is not comes with the other origins.
 abbrev pub enabled_as : Bool → Option Bool
@@ -24,20 +27,25 @@ enabled_as false = None
 -- a sheet that says nothing of it is enabled
 abbrev pub enabled_from : Option Data → Option Bool
 enabled_from None = Some true
-enabled_from (Some value) = option_and_then enabled_as (as_bool value)
+enabled_from (Some value) = as_bool value >>= enabled_as
 
 -- an origin, whether the sheet is enabled, and a text
 abbrev pub sheet_from : Data → Option SheetInput
-sheet_from value =
-    option_and_then (λ origin. option_and_then (λ enabled. option_map (λ text. record { origin = origin; enabled = enabled; text = chars text }) (option_and_then as_str (get (codes "text") value))) (enabled_from (get (codes "enabled") value))) (origin_from (get (codes "origin") value))
+sheet_from value = do
+  origin ← origin_from (get (codes "origin") value)
+  enabled ← enabled_from (get (codes "enabled") value)
+  text ← get (codes "text") value >>= as_str
+  Some (record { origin = origin; enabled = enabled; text = chars text })
 
 -- each entry of the list is a sheet
 abbrev pub sheets_in : Items → Option (List SheetInput)
 sheets_in no_items = Some []
-sheets_in (item value rest) =
-    option_and_then (λ sheet. option_map (λ sheets. sheet ∷ sheets) (sheets_in rest)) (sheet_from value)
+sheets_in (item value rest) = do
+  sheet ← sheet_from value
+  sheets ← sheets_in rest
+  Some (sheet ∷ sheets)
 
 -- the list may be absent
 abbrev pub sheets_from : Option Data → Option (List SheetInput)
 sheets_from None = Some []
-sheets_from (Some value) = option_and_then sheets_in (as_array value)
+sheets_from (Some value) = as_array value >>= sheets_in

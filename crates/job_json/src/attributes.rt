@@ -4,7 +4,7 @@ ghost use Rattle.std.specs.Prelude.{◌≡◌, option_map, option_and_then, map,
 ghost use Rattle.std.specs.String.{string_bytes};
 ghost use Rattle.serde_json.specs.Find.{get, as_str};
 ghost use Rattle.serde_json.specs.View.{view, members_view};
-ghost use Rattle.dom_tree.specs.Inputs.{pair_of};
+ghost use Rattle.dom_tree.specs.View.{pair_of};
 ghost use Rattle.job_json.specs.Shape.{attrs_from, pairs_of, pair_from};
 ghost use Rattle.job_json.specs.Reads.{Reads, ReadsAs};
 

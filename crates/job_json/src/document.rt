@@ -3,12 +3,13 @@
 ghost use Rattle.std.specs.Prelude.{◌≤◌, IfOk, length, codes};
 ghost use Rattle.serde_json.specs.Find.{get};
 ghost use Rattle.serde_json.specs.View.{view, items_view};
+ghost use Rattle.base_model.specs.Limits.{element_limit, sheet_limit};
 ghost use Rattle.job_json.specs.JobOf.{job_within, nodes_within, sheets_within};
 ghost use Rattle.job_json.specs.Reads.{Reads};
 
 use crate::Job;
 use crate::fault::Fault;
-use crate::limits::{is_depths_within, is_few, is_items_within, is_sheets_within};
+use crate::limits::{are_depths_within, are_few, are_items_within, are_sheets_within};
 use crate::node_list::nodes_of;
 use crate::outline::{has_no_batches, is_version};
 use crate::sheet_list::SheetList;
@@ -20,8 +21,8 @@ use std::alloc::Global;
 /// The job that a value says, if it passes no limit.
 pub fn job_of(alloc: Global, job: &Value) -> Result<Job, Fault>
     ensures job { Reads (job_within (view job.now)) result }
-    ensures fits { IfOk result (λ job. length job.nodes ≤ 65536) }
-    ensures few { IfOk result (λ job. length job.sheets ≤ 256) }
+    ensures fits { IfOk result (λ job. length job.nodes ≤ element_limit) }
+    ensures few { IfOk result (λ job. length job.sheets ≤ sheet_limit) }
 {
     if !(is_version(job) && has_no_batches(job)) {
         return Err(Fault::Unreadable);
@@ -38,13 +39,13 @@ pub fn job_of(alloc: Global, job: &Value) -> Result<Job, Fault>
 /// attributes are too many or too long, they are not copied.
 fn nodes_within(alloc: Global, items: &[Value]) -> Result<NodeList, Fault>
     ensures nodes { Reads (nodes_within (items_view items.now)) result }
-    ensures fits { IfOk result (λ nodes. length nodes ≤ 65536) }
+    ensures fits { IfOk result (λ nodes. length nodes ≤ element_limit) }
 {
-    if !is_few(items) || !is_items_within(items) {
+    if !are_few(items) || !are_items_within(items) {
         return Err(Fault::Unreadable);
     }
     let nodes = nodes_of(alloc, items)?;
-    if !is_depths_within(alloc, &nodes)? {
+    if !are_depths_within(alloc, &nodes)? {
         return Err(Fault::Unreadable);
     }
     Ok(nodes)
@@ -53,10 +54,10 @@ fn nodes_within(alloc: Global, items: &[Value]) -> Result<NodeList, Fault>
 /// The sheets of a job, if they pass no limit.
 fn sheets_within(alloc: Global, job: &Value) -> Result<SheetList, Fault>
     ensures sheets { Reads (sheets_within (get (codes "sheets") (view job.now))) result }
-    ensures few { IfOk result (λ sheets. length sheets ≤ 256) }
+    ensures few { IfOk result (λ sheets. length sheets ≤ sheet_limit) }
 {
     let sheets = sheets_of(alloc, job)?;
-    if !is_sheets_within(&sheets) {
+    if !are_sheets_within(&sheets) {
         return Err(Fault::Unreadable);
     }
     Ok(sheets)

@@ -9,7 +9,7 @@ mod name;
 mod node;
 mod node_list;
 mod outline;
-mod place;
+mod parent;
 mod sheet;
 mod sheet_list;
 mod sheets;
@@ -18,6 +18,7 @@ mod states;
 ghost use Rattle.std.specs.Prelude.{◌≡◌, ◌≢◌, ◌≤◌, List, ℕ, Ok, Err, IfOk, length};
 ghost use Rattle.serde_json.specs.View.{view};
 ghost use Rattle.stylo_base.specs.declared.refusal.Kind.{Kind};
+ghost use Rattle.base_model.specs.Limits.{input_limit, element_limit, sheet_limit};
 ghost use Rattle.job_json.specs.JobOf.{verdict_of, not_json, bad_shape, good, reading, IsDue};
 ghost use Rattle.job_json.specs.Reads.{ReadsAs};
 
@@ -52,18 +53,18 @@ pub enum JobFault {
     NoMemory,
 }
 
-/// The job that the bytes say, of which there are at most 67,108,864.
+/// The job that the bytes say.
 #[tactic(auto, unfolding(crate::specs::JobOf::verdict_of))]
 pub fn read(alloc: Global, bytes: &[u8]) -> Result<Job, JobFault>
-    requires { length bytes.now ≤ 67108864 }
+    requires { length bytes.now ≤ input_limit }
     ensures ok { IfOk result (λ job. verdict_of bytes.now ≡ good job) }
     ensures json { result ≡ Err JobFault.NotJson → verdict_of bytes.now ≡ not_json }
     ensures shape { (path : List ℕ) → result ≡ Err (JobFault.Shape path)
         → verdict_of bytes.now ≡ bad_shape path }
     ensures unlimited { (kind : Kind) (number : ℕ) → result ≢ Err (JobFault.Limit kind number) }
     ensures due { IsDue (verdict_of bytes.now) result }
-    ensures fits { IfOk result (λ job. length job.nodes ≤ 65536) }
-    ensures few { IfOk result (λ job. length job.sheets ≤ 256) }
+    ensures fits { IfOk result (λ job. length job.nodes ≤ element_limit) }
+    ensures few { IfOk result (λ job. length job.sheets ≤ sheet_limit) }
 {
     let value = match parse(alloc, bytes) {
         Ok(value) => value,
@@ -91,6 +92,3 @@ fn parse(alloc: Global, bytes: &[u8]) -> Result<Value, Fault>
         Err(Fault::Unreadable)
     }
 }
-
-#[cfg(test)]
-mod tests;

@@ -11,9 +11,7 @@ use crate::fault::Fault;
 use serde_json::Value;
 use std::alloc::Global;
 use stylo_base::Text;
-
-/// The most bytes of a name.
-const NAME_BYTES: usize = 256;
+use stylo_base::limits::NAME_LIMIT;
 
 /// The tag of a node.
 pub fn tag_of(alloc: Global, node: &Value) -> Result<Text, Fault>
@@ -33,16 +31,16 @@ pub fn is_name(text: &str) -> bool
     ensures { result ≡ is_name text.now }
 {
     let bytes = text.as_bytes();
-    !bytes.is_empty() && bytes.len() <= NAME_BYTES && is_all_visible(bytes)
+    !bytes.is_empty() && bytes.len() <= NAME_LIMIT && are_all_visible(bytes)
 }
 
-fn is_all_visible(bytes: &[u8]) -> bool
+fn are_all_visible(bytes: &[u8]) -> bool
     ensures { result ≡ list_all is_visible bytes.now }
 {
     bytes.iter().all(|byte| is_visible(*byte))
 }
 
-/// Whether the byte is neither a control character nor a blank.
+/// Whether the byte is neither a control character nor a space.
 fn is_visible(byte: u8) -> bool
     ensures { result ≡ is_visible byte }
 {

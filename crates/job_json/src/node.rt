@@ -3,13 +3,13 @@
 ghost use Rattle.std.specs.Prelude.{◌<◌, IfOk};
 ghost use Rattle.serde_json.specs.View.{view};
 ghost use Rattle.job_json.specs.Shape.{node_at, node_from};
-ghost use Rattle.job_json.specs.Children.{input_node, child_node};
+ghost use Rattle.job_json.specs.View.{input_node, child_node};
 ghost use Rattle.job_json.specs.Reads.{ReadsAs};
 
 use crate::attributes::attrs_of;
 use crate::fault::Fault;
 use crate::name::tag_of;
-use crate::place::{has_no_parent, parent_of};
+use crate::parent::{has_no_parent, parent_of};
 use crate::states::states_of;
 use dom_tree::NodeInput;
 use serde_json::Value;
@@ -25,7 +25,7 @@ pub fn root_of(alloc: Global, node: &Value) -> Result<NodeInput, Fault>
     input_of(alloc, node)
 }
 
-/// A node behind the first one.
+/// A node after the first one.
 #[derive(Drop)]
 pub struct Child {
     pub parent: u32,

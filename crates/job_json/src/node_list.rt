@@ -2,6 +2,7 @@
 
 ghost use Rattle.std.specs.Prelude.{◌≤◌, ◌<◌, ◌+◌, ◌++◌, length, option_map};
 ghost use Rattle.serde_json.specs.View.{items_view};
+ghost use Rattle.base_model.specs.Limits.{element_limit};
 ghost use Rattle.job_json.specs.Shape.{nodes_of, nodes_from};
 ghost use Rattle.job_json.specs.Reads.{Reads};
 
@@ -13,7 +14,7 @@ use std::alloc::Global;
 
 /// The nodes that the items say, of which there is one at least.
 pub fn nodes_of(alloc: Global, items: &[Value]) -> Result<NodeList, Fault>
-    requires { length items.now ≤ 65536 }
+    requires { length items.now ≤ element_limit }
     ensures { Reads (nodes_of (items_view items.now)) result }
 {
     let Some((first, rest)) = items.split_first() else {
@@ -23,10 +24,10 @@ pub fn nodes_of(alloc: Global, items: &[Value]) -> Result<NodeList, Fault>
     with_children(alloc, NodeList::of_root(alloc, root)?, rest)
 }
 
-/// The nodes that the items say, behind a list.
+/// A list with the nodes that the items say after its own.
 fn with_children(alloc: Global, mut list: NodeList, items: &[Value]) -> Result<NodeList, Fault>
     requires some { 0 < length list }
-    requires fits { length list + length items.now ≤ 65536 }
+    requires fits { length list + length items.now ≤ element_limit }
     ensures { Reads (option_map (λ nodes. list ++ nodes) (nodes_from (length list) (items_view items.now))) result }
 {
     for value in items {

@@ -1,4 +1,4 @@
-//! The members of a job beside its nodes and sheets.
+//! The members of a job other than its nodes and sheets.
 
 ghost use Rattle.std.specs.Prelude.{◌≡◌, codes};
 ghost use Rattle.serde_json.specs.Find.{get};

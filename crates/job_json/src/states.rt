@@ -3,7 +3,7 @@
 ghost use Rattle.std.specs.Prelude.{◌≡◌, option_map, codes};
 ghost use Rattle.serde_json.specs.Find.{get};
 ghost use Rattle.serde_json.specs.View.{view, items_view};
-ghost use Rattle.dom_tree.specs.Inputs.{states_of};
+ghost use Rattle.dom_tree.specs.View.{states_of};
 ghost use Rattle.job_json.specs.Shape.{no_states, with_state, states_with, states_from};
 
 use dom_tree::States;

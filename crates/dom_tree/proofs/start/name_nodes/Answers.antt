@@ -3,7 +3,7 @@ use Rattle.dom_tree.proofs.start.name_nodes.Goals as goal
 
 pub number_of-parent-requires : goal.number_of-parent-requires
 number_of-parent-requires c =
-    row_parent c.rows-row-items.result.now _ c.loop-row.row-index 65536 c.row-item.result c.rows-row-items.ensures.rows c.rows-row-items.ensures.shape c.requires c.loop-row-test.true c.row-item.is
+    row_parent c.rows-row-items.result.now _ c.loop-row.row-index _ c.row-item.result c.rows-row-items.ensures.rows c.rows-row-items.ensures.shape c.requires c.loop-row-test.true c.row-item.is
 
 pub loop-row-preserved : goal.loop-row-preserved
 loop-row-preserved c = record {

@@ -1,7 +1,7 @@
 use Rattle.std.proofs.Common.{◌≡◌, ◌++◌, map}
 use Rattle.std.specs.Prelude.{option_map}
 use Rattle.serde_json.specs.View.{members_view}
-use Rattle.dom_tree.specs.Inputs.{pair_of}
+use Rattle.dom_tree.specs.View.{pair_of}
 use Rattle.job_json.specs.Shape.{pairs_of}
 use Rattle.job_json.proofs.attributes.pairs_of.Given as goal
 

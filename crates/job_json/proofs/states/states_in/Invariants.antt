@@ -1,6 +1,6 @@
 use Rattle.std.proofs.Common.{◌≡◌, drop}
 use Rattle.serde_json.specs.View.{items_view}
-use Rattle.dom_tree.specs.Inputs.{states_of}
+use Rattle.dom_tree.specs.View.{states_of}
 use Rattle.job_json.specs.Shape.{no_states, states_with}
 use Rattle.job_json.proofs.states.states_in.Given as goal
 

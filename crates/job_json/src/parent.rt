@@ -1,4 +1,4 @@
-//! Where a node stands: the index of its parent.
+//! The index of a node's parent.
 
 ghost use Rattle.std.specs.Prelude.{◌≡◌, ◌<◌, Some, IfSome, option_map, is_none, codes};
 ghost use Rattle.serde_json.specs.Find.{get};
