@@ -1,4 +1,2 @@
-pub mod Cut
-pub mod Parts
-pub mod Piece
-pub mod Sheet
+pub mod Parser
+pub mod View

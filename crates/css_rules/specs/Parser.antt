@@ -1,41 +1,25 @@
--- What was read of a sheet, after some of its tokens.
-use Rattle.std.specs.Prelude.{◌≡◌, false, List, [], ◌∷◌, ◌++◌}
-use Rattle.syntax_model.specs.Token.{Token, open_curly}
-use Rattle.syntax_model.specs.Brackets.{Bracket, curly, open_after, AvoidsOutside, StaysOpen}
-use Rattle.syntax_model.specs.Rules.{Rule, SheetRules, begins_with, is_open_curly, is_white}
-use Rattle.css_rules.specs.Parts.{rules_of}
-use Rattle.css_rules.specs.declared.cutter.Cutter.{Cutter}
-use Rattle.css_rules.specs.declared.cutter.Place.{Place}
-use Rattle.css_rules.specs.declared.cutter.Place.TheVariants as place
+-- What a parser of rules knows after some tokens of a sheet.
+use Rattle.std.specs.Prelude.{◌≡◌, List, [], ◌++◌, Option, Some, None, option_map}
+use Rattle.syntax_model.specs.Token.{Token}
+use Rattle.syntax_model.specs.Brackets.{Bracket}
+use Rattle.syntax_model.specs.Rules.{Rule}
+use Rattle.syntax_model.specs.RulesIn.{in_prelude, in_block, rules_in}
+use Rattle.css_rules.specs.View.{rules_of}
+use Rattle.css_rules.specs.declared.rule_parser.RuleParser.{RuleParser}
 
--- the rules, and one more behind them
-abbrev pub with_rule : List Rule → List Token → List Token → List Rule
-with_rule rules prelude block = rules ++ record { prelude = prelude; block = block } ∷ []
+-- The rules so far, and those of whatever is left, are the rules of the whole. No bracket is open before a prelude.
+pub record AreInPrelude (seen : List Token) (rules : List Rule) (prelude : List Token) (pending : List Bracket) : Type 0 where
+  pub begins : prelude ≡ [] → pending ≡ []
+  pub joins : (left : List Token) → rules ++ in_prelude prelude pending left ≡ rules_in (seen ++ left)
 
--- a prelude so far, outside blocks, with the brackets that are open behind it
-pub record IsPrelude (prelude : List Token) (pending : List Bracket) : Type 0 where
-  pub begins : begins_with is_white prelude ≡ false
-  pub avoids : AvoidsOutside is_open_curly [] prelude
-  pub brackets : pending ≡ open_after [] prelude
+pub record AreInBlock (seen : List Token) (rules : List Rule) (prelude block : List Token) (pending : List Bracket) : Type 0 where
+  pub joins : (left : List Token) → rules ++ in_block prelude block pending left ≡ rules_in (seen ++ left)
 
--- the rules so far, and a prelude: what is cut with it and with the rest completes the whole
-pub record IsInPrelude (seen : List Token) (rules : List Rule) (prelude : List Token) (pending : List Bracket) : Type 0 where
-  pub part : IsPrelude prelude pending
-  pub completes : (rest : List Token) (more : List Rule) → SheetRules (prelude ++ rest) more → SheetRules (seen ++ rest) (rules ++ more)
+abbrev pub AreRead : List Token → List Rule → List Token → Option (List Token) → List Bracket → Type 0
+AreRead seen rules prelude None pending = AreInPrelude seen rules prelude pending
+AreRead seen rules prelude (Some block) pending = AreInBlock seen rules prelude block pending
 
--- the rules so far, a whole prelude, the opener of a block, and the block so far
-pub record IsInBlock (seen : List Token) (rules : List Rule) (prelude block : List Token) (pending : List Bracket) : Type 0 where
-  pub part : IsPrelude prelude []
-  pub stays : StaysOpen (curly ∷ []) block
-  pub brackets : pending ≡ open_after (curly ∷ []) block
-  pub opener : Token
-  pub opens : opener.kind ≡ open_curly
-  pub completes : (rest : List Token) (more : List Rule) → SheetRules (prelude ++ opener ∷ (block ++ rest)) more → SheetRules (seen ++ rest) (rules ++ more)
-
-abbrev pub IsAt : Place → List Token → List Rule → List Token → List Token → List Bracket → Type 0
-IsAt place.Prelude seen rules prelude block pending = IsInPrelude seen rules prelude pending × (block ≡ [])
-IsAt place.Block seen rules prelude block pending = IsInBlock seen rules prelude block pending
-
--- the cutter is behind these tokens
-abbrev pub IsCut : List Token → Cutter → Type 0
-IsCut seen cutter = IsAt cutter.place seen (rules_of cutter.rules.items) cutter.prelude.items cutter.block.items cutter.pending
+-- the parser has read these tokens
+abbrev pub HasRead : RuleParser → List Token → Type 0
+HasRead parser seen =
+    AreRead seen (rules_of parser.rules.items) parser.prelude.items (option_map (λ list. list.items) parser.block) parser.pending

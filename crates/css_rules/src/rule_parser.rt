@@ -1,75 +1,65 @@
-//! The cut of a sheet, token by token.
+//! The rules of a sheet, token by token.
 
-ghost use Rattle.std.specs.Prelude.{◌≡◌, ◌++◌, ◌∷◌, ◌↔◌, [], List, OnOk, IfOk, IsTrue, true};
-ghost use Rattle.syntax_model.specs.Rules.{SheetRules, all_but_last, is_open_curly, is_white};
-ghost use Rattle.syntax_model.specs.Brackets.{closers};
+ghost use Rattle.std.specs.Prelude.{◌≡◌, ◌++◌, ◌∷◌, [], List, OnOk, IfOk, IsSome, None, ◌&&◌};
+ghost use Rattle.std.specs.Option.{option_map, option_to_list};
+ghost use Rattle.base_model.specs.Lists.{is_nil};
+ghost use Rattle.syntax_model.specs.Kinds.{is_open_curly, is_white};
+ghost use Rattle.syntax_model.specs.RulesIn.{qualified, rules_in};
 ghost use Rattle.syntax_model.specs.Token as model;
-ghost use Rattle.css_rules.specs.Cut.{IsCut, with_rule};
-ghost use Rattle.css_rules.specs.Parts.{rules_of};
+ghost use Rattle.css_rules.specs.Parser.{HasRead};
+ghost use Rattle.css_rules.specs.View.{rules_of};
 
 use crate::Rule;
-use crate::kinds::{is_open_curly, is_white};
-use crate::pending::Pending;
-use css_tokens::{Token, TokenList};
+use css_tokens::{OpenBrackets, Token, TokenList};
 use std::alloc::Global;
 use std::mem;
 use stylo_base::NoMemory;
 
-/// Where the next token stands.
-#[derive(Clone, Copy, Debug, PartialEq, Eq)]
-pub enum Place {
-    /// Between rules, or in a prelude.
-    Prelude,
-    /// In a rule's block.
-    Block,
-}
-
-/// The rules so far, and what was read of the next one.
+/// The rules so far, and what was read of the next one: its prelude, its block, once that is open,
+/// and the brackets that are open.
 #[derive(Drop)]
-pub struct Cutter {
+pub struct RuleParser {
     pub rules: Vec<Rule>,
     pub prelude: Vec<Token>,
-    pub block: Vec<Token>,
-    pub pending: Pending,
-    pub place: Place,
+    pub block: Option<Vec<Token>>,
+    pub pending: OpenBrackets,
 }
 
-impl Cutter {
+impl RuleParser {
     /// Before the first token.
-    pub fn new(alloc: Global) -> Cutter
-        ensures { IsCut [] result }
+    pub fn new(alloc: Global) -> RuleParser
+        ensures { HasRead result [] }
     {
-        Cutter {
+        RuleParser {
             rules: Vec::new(alloc),
             prelude: Vec::new(alloc),
-            block: Vec::new(alloc),
-            pending: Pending::new(alloc),
-            place: Place::Prelude,
+            block: None,
+            pending: OpenBrackets::new(alloc),
         }
     }
 
-    /// Goes past the next token.
+    /// Consumes the next token.
     pub fn take(&mut self, alloc: Global, token: Token) -> Result<(), NoMemory>
         ensures { (seen : List model.Token)
-            → IsCut seen self.old → OnOk result (IsCut (seen ++ token ∷ []) self.new) }
+            → HasRead self.old seen → OnOk result (HasRead self.new (seen ++ token ∷ [])) }
     {
-        match self.place {
-            Place::Prelude => self.take_in_prelude(token),
-            Place::Block => self.take_in_block(alloc, token),
+        match self.block {
+            None => self.take_in_prelude(alloc, token),
+            Some(_) => self.take_in_block(alloc, token),
         }
     }
 
-    fn take_in_prelude(&mut self, token: Token) -> Result<(), NoMemory>
-        requires { self.old.place ≡ Place.Prelude }
+    fn take_in_prelude(&mut self, alloc: Global, token: Token) -> Result<(), NoMemory>
+        requires { self.old.block ≡ None }
         ensures { (seen : List model.Token)
-            → IsCut seen self.old → OnOk result (IsCut (seen ++ token ∷ []) self.new) }
+            → HasRead self.old seen → OnOk result (HasRead self.new (seen ++ token ∷ [])) }
     {
         if self.skips(&token) {
             return Ok(());
         }
         if self.opens_block(&token) {
             self.pending.pass(&token)?;
-            self.place = Place::Block;
+            self.block = Some(Vec::new(alloc));
             return Ok(());
         }
         self.pending.pass(&token)?;
@@ -77,75 +67,84 @@ impl Cutter {
         Ok(())
     }
 
-    // White space between rules is skipped.
+    // Whitespace between rules is skipped.
     fn skips(&self, token: &Token) -> bool
-        ensures { IsTrue result
-            ↔ ((self.now.prelude.items ≡ []) × (is_white token.now.kind ≡ true)) }
+        ensures { result ≡ (is_nil self.now.prelude.items && is_white token.now.kind) }
     {
-        self.prelude.is_empty() && is_white(token)
+        self.prelude.is_empty() && token.is_white()
     }
 
     // Outside brackets a curly bracket opens the block.
     fn opens_block(&self, token: &Token) -> bool
-        ensures { IsTrue result
-            ↔ ((self.now.pending ≡ []) × (is_open_curly token.now.kind ≡ true)) }
+        ensures { result ≡ (is_nil self.now.pending && is_open_curly token.now.kind) }
     {
-        self.pending.is_empty() && is_open_curly(token)
+        self.pending.is_empty() && token.is_open_curly()
     }
 
     fn take_in_block(&mut self, alloc: Global, token: Token) -> Result<(), NoMemory>
-        requires { self.old.place ≡ Place.Block }
+        requires { IsSome self.old.block }
         ensures { (seen : List model.Token)
-            → IsCut seen self.old → OnOk result (IsCut (seen ++ token ∷ []) self.new) }
+            → HasRead self.old seen → OnOk result (HasRead self.new (seen ++ token ∷ [])) }
     {
         self.pending.pass(&token)?;
         if self.pending.is_empty() {
             self.end_rule(alloc)?;
-            self.place = Place::Prelude;
             return Ok(());
         }
-        self.block.push(token)?;
+        if let Some(block) = &mut self.block {
+            block.push(token)?;
+        }
         Ok(())
     }
 
-    // Puts the rule of the prelude and the block behind the others.
+    // Appends the rule of the prelude and the block.
     fn end_rule(&mut self, alloc: Global) -> Result<(), NoMemory>
-        ensures rules { OnOk result (rules_of self.new.rules.items
-            ≡ with_rule (rules_of self.old.rules.items) self.old.prelude.items self.old.block.items) }
-        ensures prelude { OnOk result (self.new.prelude.items ≡ []) }
-        ensures block { OnOk result (self.new.block.items ≡ []) }
+        ensures rules { OnOk result (rules_of self.new.rules.items ≡ rules_of self.old.rules.items
+            ++ option_to_list (option_map (λ block. qualified self.old.prelude.items block.items) self.old.block)) }
+        ensures prelude { OnOk result (IsSome self.old.block → self.new.prelude.items ≡ []) }
+        ensures block { OnOk result (self.new.block ≡ None) }
         ensures pending { OnOk result (self.new.pending ≡ self.old.pending) }
-        ensures place { OnOk result (self.new.place ≡ self.old.place) }
     {
-        let prelude = mem::replace(&mut self.prelude, Vec::new(alloc));
-        let block = mem::replace(&mut self.block, Vec::new(alloc));
-        self.rules.push(Rule {
-            prelude: TokenList::of_vec(prelude),
-            block: TokenList::of_vec(block),
-        })?;
+        if let Some(block) = self.block.take() {
+            let prelude = mem::replace(&mut self.prelude, Vec::new(alloc));
+            append_rule(&mut self.rules, prelude, block)?;
+        }
         Ok(())
     }
 
-    /// The rules, where the sheet ends here.
+    /// The rules, where the sheet ends here: its end closes what is open.
     pub fn finish(self, alloc: Global) -> Result<Vec<Rule>, NoMemory>
         ensures { (seen : List model.Token)
-            → IsCut seen self → IfOk result (λ rules. SheetRules seen (rules_of rules.items)) }
+            → HasRead self seen → IfOk result (λ rules. rules_of rules.items ≡ rules_in seen) }
     {
-        match self.place {
-            Place::Prelude => Ok(self.rules),
-            Place::Block => self.close_block(alloc),
-        }
-    }
-
-    // The rules with the one whose block the sheet's end closes.
-    fn close_block(mut self, alloc: Global) -> Result<Vec<Rule>, NoMemory>
-        ensures { IfOk result (λ rules. rules_of rules.items
-            ≡ with_rule (rules_of self.rules.items) self.prelude.items (self.block.items ++ closers (all_but_last self.pending))) }
-    {
-        let mut pending = mem::replace(&mut self.pending, Pending::new(alloc));
+        let RuleParser {
+            mut rules,
+            prelude,
+            block,
+            mut pending,
+        } = self;
+        let Some(mut block) = block else {
+            return Ok(rules);
+        };
         pending.leave_outermost();
-        pending.put_closers(alloc, &mut self.block)?;
-        self.end_rule(alloc)?;
-        Ok(self.rules)
+        pending.append_closers(alloc, &mut block)?;
+        append_rule(&mut rules, prelude, block)?;
+        Ok(rules)
     }
+}
+
+// Appends the rule of a prelude and a block.
+fn append_rule(
+    rules: &mut Vec<Rule>,
+    prelude: Vec<Token>,
+    block: Vec<Token>,
+) -> Result<(), NoMemory>
+    ensures { OnOk result (rules_of rules.new.items
+        ≡ rules_of rules.old.items ++ qualified prelude.items block.items ∷ []) }
+{
+    rules.push(Rule {
+        prelude: TokenList::of_vec(prelude),
+        block: TokenList::of_vec(block),
+    })?;
+    Ok(())
 }

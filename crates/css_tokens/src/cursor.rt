@@ -1,6 +1,6 @@
 //! A reader of tokens.
 
-ghost use Rattle.std.specs.Prelude.{◌≡◌, ◌≤◌, ◌&&◌, ◌∷◌, [], IfOk, OnOk, MatchOption, true, false, length, take, List};
+ghost use Rattle.std.specs.Prelude.{◌≡◌, ◌≤◌, ◌&&◌, ◌∷◌, [], IfOk, OnOk, MatchOption, true, false, length, drop, take, List};
 ghost use Rattle.base_model.specs.Lists.{is_nil};
 ghost use Rattle.syntax_model.specs.Brackets.{open_after};
 ghost use Rattle.syntax_model.specs.Kinds.{is_colon, is_delim, is_ident, without_white};
@@ -69,8 +69,8 @@ impl<'a> Cursor<'a> {
 
     /// Consumes the next token.
     pub fn next(&mut self) -> Option<&'a Token>
-        ensures { MatchOption result ((self.old ≡ []) × (self.new ≡ []))
-            (λ token. self.old ≡ token.now ∷ self.new) }
+        ensures first { MatchOption result (self.old ≡ []) (λ token. self.old ≡ token.now ∷ self.new) }
+        ensures rest { self.new ≡ drop 1 self.old }
     {
         let (first, rest) = self.rest.split_first()?;
         self.rest = rest;

@@ -1,2 +1,3 @@
 pub mod TokensLemmas
 pub mod OutsideLemmas
+pub mod DeclarationsLemmas
