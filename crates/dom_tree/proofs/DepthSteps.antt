@@ -1,5 +1,5 @@
--- How deep a node stands, from the depth of its parent.
-use Rattle.std.proofs.Common.{◌≡◌, ℕ, zero, suc, ◌+◌, ◌<◌, ◌≤◌, List, [], ◌∷◌, length, map, get_or, Option, Some, None, slice_get, subst, ◌∙◌, ap, sym, refl, arith}
+-- The depth of a node, from the depth of its parent.
+use Rattle.std.proofs.Common.{◌≡◌, ℕ, zero, suc, ◌+◌, ◌<◌, ◌≤◌, List, length, map, get_or, Option, Some, None, slice_get, subst, ◌∙◌, ap, sym, refl, arith}
 use Rattle.std.specs.Prelude.{IfSome, option_and_then}
 use Rattle.std.specs.List.{range_with_len}
 use Rattle.std.proofs.lemmas.List.FromFn.{length-map-range_with_len, get_or-map-range_with_len}
@@ -7,12 +7,7 @@ use Rattle.scene_model.specs.Ancestors.{depth_of}
 use Rattle.scene_model.specs.Nodes.{Node, IsParentAt, IsNodeList, scene_of}
 use Rattle.scene_model.proofs.Listed.{parent_at}
 use Rattle.scene_model.proofs.Depths.{depth_of-node, depth_of-first}
-
--- the item at a place, and what is known of it
-item_at : {X : Type 0} (xs : List X) (k : ℕ) (P : X → Type 0) → k < length xs → IfSome (slice_get xs k) P → (x : X) × (slice_get xs k ≡ Some x) × P x
-item_at [] k P within h = absurd (omega arith)
-item_at (x ∷ xs) zero P within h = (x, refl, h)
-item_at (x ∷ xs) (suc k) P within h = item_at xs k P (omega arith) h
+use Rattle.dom_tree.proofs.Places.{item_at}
 
 -- what is known of a node and its parent
 pub record IsBelow (nodes : List Node) (k p : ℕ) : Type 0 where
@@ -34,7 +29,7 @@ is_below nodes k p w within h =
     let (node, is, same) = item_at nodes k (λ n. Some p ≡ n.parent) within h in
     record { earlier = parent_case nodes k (Some p) w within h; deeper = depth_of-node nodes w k node p is (sym same) }
 
--- No node stands deeper than there are nodes up to it.
+-- No node is deeper than there are nodes up to it.
 bound_by : (nodes : List Node) (k : ℕ) (o : Option ℕ) → IsNodeList nodes → k < length nodes → IfSome (slice_get nodes k) (λ node. o ≡ node.parent) → ((p : ℕ) → p < k → depth_of (scene_of nodes) (p + 1) ≤ p + 1) → depth_of (scene_of nodes) (k + 1) ≤ k + 1
 bound_by nodes k None w within h before =
     let one : 1 ≡ depth_of (scene_of nodes) (k + 1) = depth_of-alone nodes k w within h in omega arith

@@ -1,25 +1,35 @@
 -- What was made of a list of nodes is whole, and is its document.
-use Rattle.std.proofs.Common.{◌≡◌, ℕ, ◌<◌, ◌≤◌, ◌&&◌, Bool, true, nat_lt, nat_le, List, length, Some, slice_get, sym, ap, ◌∙◌, subst, subst₂, refl, arith, ltb-true, lt-ltb, le-leb, leb-true}
+use Rattle.std.proofs.Common.{◌≡◌, ℕ, ◌<◌, ◌≤◌, ◌&&◌, nat_lt, nat_le, List, length, Some, sym, ap, ◌∙◌, subst, arith, ltb-true, lt-ltb, le-leb, leb-true}
 use Rattle.std.specs.Bool.{Decides}
 use Rattle.std.specs.List.{AllByRecursion, filter_map}
 use Rattle.std.proofs.lemmas.Bool.{and_from, and_parts}
 use Rattle.std.proofs.lemmas.Bool.Decides.{same_from_decides}
-use Rattle.scene_model.specs.Element.{Element, Characters}
-use Rattle.scene_model.specs.Lookups.{is_element, element_at, numbers, children, place_of}
+use Rattle.scene_model.specs.Element.{Characters}
+use Rattle.scene_model.specs.Lookups.{is_element, element_at, numbers}
 use Rattle.scene_model.specs.Nodes as model
 use Rattle.scene_model.specs.Nodes.{IsNodeList, listed, tree_order, scene_of}
+use Rattle.scene_model.specs.Document.{document_of}
 use Rattle.scene_model.specs.Valid.{IsValid}
 use Rattle.scene_model.proofs.Listed.{length-listed}
 use Rattle.scene_model.proofs.TreeOrder.{IsValid-scene_of, numbers-scene_of, length-tree_order, length-scene_of, decides-scene_of, children-scene_of, place_of-scene_of}
 use Rattle.dom_tree.proofs.NamingLemmas.{length-elements_from}
 use Rattle.dom_tree.specs.declared.node.Link.{Link}
 use Rattle.dom_tree.specs.declared.node.Node.{Node}
-use Rattle.dom_tree.specs.Kept.{elements_of, document, AreLinks, link_of, IsNamed, IsWhole}
+use Rattle.dom_tree.specs.Kept.{elements_of, in_order, document, AreLinks, IsNamed, IsWhole}
 
-pub document_of_list : (list : List model.Node) (names : List Characters) (nodes : List Node) (order : List ℕ) → elements_of names nodes ≡ listed list → order ≡ tree_order list → document names nodes order ≡ scene_of list
-unfolding document scene_of
-document_of_list list names nodes order e f =
+in_order_of_list : (list : List model.Node) (names : List Characters) (nodes : List Node) (order : List ℕ) → elements_of names nodes ≡ listed list → order ≡ tree_order list → in_order names nodes order ≡ scene_of list
+unfolding in_order scene_of
+in_order_of_list list names nodes order e f =
     ap (λ es. filter_map (element_at es) order) e ∙ ap (λ o. filter_map (element_at (listed list)) o) f
+
+so_many_nodes : (list : List model.Node) (names : List Characters) (nodes : List Node) → elements_of names nodes ≡ listed list → length nodes ≡ length list
+so_many_nodes list names nodes e = sym (length-elements_from names 0 nodes) ∙ (ap length e ∙ length-listed list)
+
+pub document_of_list : (list : List model.Node) (names : List Characters) (nodes : List Node) (order : List ℕ) → elements_of names nodes ≡ listed list → order ≡ tree_order list → document names nodes order ≡ document_of list
+document_of_list list names nodes order e f = λ i. record {
+  elements = in_order_of_list list names nodes order e f i;
+  last = so_many_nodes list names nodes e i;
+}
 
 within-Decides : (x n : ℕ) → Decides (nat_lt 0 x && nat_le x n) ((0 < x) × (x ≤ n))
 within-Decides x n = (
@@ -38,8 +48,8 @@ module _ (list : List model.Node) (v : IsNodeList list) where
 
   pub whole_of_list : (names : List Characters) (nodes : List Node) (links : List Link) (order : List ℕ) → elements_of names nodes ≡ listed list → AllByRecursion (IsNamed names) nodes → AreLinks (listed list) links → order ≡ tree_order list → IsWhole names nodes links order
   whole_of_list names nodes links order e named are f =
-      let same : document names nodes order ≡ scene_of list = document_of_list list names nodes order e f in
-      let so_many : length nodes ≡ length list = sym (length-elements_from names 0 nodes) ∙ (ap length e ∙ length-listed list) in
+      let same : in_order names nodes order ≡ scene_of list = in_order_of_list list names nodes order e f in
+      let so_many : length nodes ≡ length list = so_many_nodes list names nodes e in
       record {
         valid = subst IsValid (sym same) (IsValid-scene_of list v);
         listed = ap numbers same ∙ (numbers-scene_of list v ∙ sym f);

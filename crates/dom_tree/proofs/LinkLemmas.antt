@@ -1,21 +1,22 @@
 -- The links of the nodes so far, and what one more node makes of them.
-use Rattle.std.proofs.Common.{◌≡◌, ◌≢◌, ℕ, zero, suc, ◌+◌, ◌-◌, ◌<◌, ◌≤◌, ◌^◌, List, [], ◌∷◌, ◌++◌, length, take, map, filter, not, slice_set, Option, Some, None, IfSome, slice_get, sym, ap, ◌∙◌, subst, refl, inl, inr, arith}
+use Rattle.std.proofs.Common.{◌≡◌, ◌≢◌, ℕ, ◌+◌, ◌-◌, ◌<◌, ◌≤◌, List, [], ◌∷◌, ◌++◌, length, take, filter, not, slice_set, Option, Some, None, IfSome, slice_get, sym, ap, ◌∙◌, subst, refl, inl, inr, arith}
 use Rattle.std.specs.List.{AllByRecursion}
 use Rattle.std.proofs.lemmas.Bool.{cases_eq}
 use Rattle.std.proofs.lemmas.List.{length-set, length_push, length-take-le, length-map}
 use Rattle.std.proofs.Math.Seq.{take-length}
 use Rattle.std.proofs.lemmas.List.Filters.{length-filter_both}
 use Rattle.std.proofs.lemmas.Option.{slice_get_within}
+use Rattle.base_model.proofs.Lists.{get_push_below, get_push_last}
 use Rattle.scene_model.specs.Element.{Element}
 use Rattle.scene_model.specs.Lookups.{children, place_of, is_child_of}
 use Rattle.scene_model.specs.Nodes.{Node, IsNodeList, IsParentAt, listed}
-use Rattle.scene_model.proofs.Listed.{length-listed, parent_at, each_child, each_child-within, children_push_below, children_push_other, children_push_root, place_of-listed, place_of-listed_root, IsNodeList-take}
+use Rattle.scene_model.proofs.Listed.{length-listed, parent_at, each_child, children_push_below, children_push_other, children_push_root, place_of-listed, place_of-listed_root, IsNodeList-take}
 use Rattle.dom_tree.specs.declared.numbers.Numbers.{Numbers}
 use Rattle.dom_tree.specs.declared.node.Link.{Link}
 use Rattle.dom_tree.specs.Kept.{AreLinks, link_of}
-use Rattle.dom_tree.proofs.Places.{slice_get_some, get_set_same, get_set_other, get_push_below, get_push_last, taken}
+use Rattle.dom_tree.proofs.Places.{item_at, get_set_same, get_set_other, taken}
 
--- the children so far, and the place for good
+-- the children so far, and the sibling index for good
 abbrev pub link_so_far : List Node → ℕ → ℕ → Link
 link_so_far list k i = record { children = children (listed (take k list)) (i + 1); place = place_of (listed list) (i + 1) }
 
@@ -40,8 +41,7 @@ links_after links hung longer p k i here last count l e f =
 -- the node whose parent was read
 node_read : (list : List Node) (k : ℕ) (parent : Option ℕ) → k < length list → IfSome (slice_get list k) (λ node. parent ≡ node.parent) → (node : Node) × (slice_get list k ≡ Some node) × (node.parent ≡ parent)
 node_read list k parent l told =
-    let (node, at) = slice_get_some list k l in
-    let same : IfSome (Some node) (λ node. parent ≡ node.parent) = subst (λ o. IfSome o (λ (node : Node). parent ≡ node.parent)) at told in
+    let (node, at, same) = item_at list k (λ n. parent ≡ n.parent) l told in
     (node, at, sym same)
 
 pub parent_below : (list : List Node) (k p : ℕ) → IsNodeList list → k < length list → IfSome (slice_get list k) (λ node. Some p ≡ node.parent) → p < k
@@ -56,7 +56,7 @@ pub few_so_far : (list : List Node) (k p n : ℕ) (links : List Link) → AreLin
 few_so_far list k p n links so_far l within few =
     subst (λ o. IfSome o (λ (link : Link). length link.children < n)) (sym (so_far.each p l)) (omega (arith, few_children (listed (take k list)) (p + 1), length-listed (take k list), length-take-le k list within))
 
--- a number that stands behind all so far has no children yet
+-- a number after all so far has no children yet
 none_yet : (k : ℕ) (xs : List ℕ) → AllByRecursion (λ y. (k + 1 < y) × (y ≤ k)) xs → xs ≡ []
 none_yet k [] h = refl
 none_yet k (y ∷ ys) h = let b : (k + 1 < y) × (y ≤ k) = h.0 in absurd (omega arith)
@@ -65,8 +65,8 @@ module _ (list : List Node) (v : IsNodeList list) (k : ℕ) (node : Node) (at : 
   so_many : length (take k list) ≡ k
   so_many = length-take-le k list (omega (arith, slice_get_within list k node at))
 
-  none_behind : 0 < k → children (listed (take k list)) (k + 1) ≡ []
-  none_behind l =
+  none_after : 0 < k → children (listed (take k list)) (k + 1) ≡ []
+  none_after l =
       none_yet k (children (listed (take k list)) (k + 1)) (subst (λ n. AllByRecursion (λ y. (k + 1 < y) × (y ≤ n)) (children (listed (take k list)) (k + 1))) so_many (each_child (take k list) (IsNodeList-take list k v l (omega (arith, slice_get_within list k node at))) (k + 1)))
 
   module _ (p : ℕ) (above : node.parent ≡ Some p) where
@@ -99,9 +99,9 @@ module _ (list : List Node) (v : IsNodeList list) (k : ℕ) (node : Node) (at : 
       at_last : (i : ℕ) → i ≡ k → slice_get longer i ≡ Some (link_so_far list (k + 1) i)
       at_last i e =
           let above_zero : p < k = below in
-          let none : children_new ≡ children (listed (take (k + 1) list)) (k + 1) = new_is ∙ sym (children_there k (λ f. omega arith) ∙ none_behind (omega arith)) in
-          let behind : place ≡ place_of (listed list) (k + 1) = found_place ∙ sym (place_of-listed list k node p at above) in
-          (after i).3 e ∙ (ap (λ c. Some (record { children = c; place = place })) none ∙ (ap (λ n. Some (record { children = children (listed (take (k + 1) list)) (k + 1); place = n })) behind ∙ ap (λ j. Some (link_so_far list (k + 1) j)) (sym e)))
+          let none : children_new ≡ children (listed (take (k + 1) list)) (k + 1) = new_is ∙ sym (children_there k (λ f. omega arith) ∙ none_after (omega arith)) in
+          let last_place : place ≡ place_of (listed list) (k + 1) = found_place ∙ sym (place_of-listed list k node p at above) in
+          (after i).3 e ∙ (ap (λ c. Some (record { children = c; place = place })) none ∙ (ap (λ n. Some (record { children = children (listed (take (k + 1) list)) (k + 1); place = n })) last_place ∙ ap (λ j. Some (link_so_far list (k + 1) j)) (sym e)))
 
       at_other : (i : ℕ) → i < k → i ≢ p → slice_get longer i ≡ Some (link_so_far list (k + 1) i)
       at_other i l other =

@@ -1,22 +1,21 @@
--- What stands when one more name, attribute or node was added.
-use Rattle.std.proofs.Common.{◌≡◌, ℕ, zero, suc, ◌+◌, ◌<◌, ◌≤◌, List, [], ◌∷◌, ◌++◌, map, length, take, get_or, Option, Some, None, IfSome, option_map, unwrap_or, slice_get, sym, ap, ◌∙◌, subst, refl, arith}
+-- What holds when one more name, attribute or node was added.
+use Rattle.std.proofs.Common.{◌≡◌, ℕ, suc, ◌+◌, ◌<◌, ◌≤◌, List, [], ◌∷◌, ◌++◌, map, length, take, get_or, Option, Some, None, IfSome, option_map, unwrap_or, slice_get, sym, ap, ◌∙◌, subst, refl, arith}
 use Rattle.std.specs.List.{AllByRecursion}
 use Rattle.std.specs.FinMap as finmap
 use Rattle.std.proofs.lemmas.List.{map-append, take_more, length-take-le, length-map, get_or-map}
 use Rattle.std.proofs.lemmas.Option.{slice_get-get_or, slice_get-map, slice_get_read, slice_get_within}
-use Rattle.scene_model.specs.Element.{Element, Characters}
+use Rattle.scene_model.specs.Element.{Characters}
 use Rattle.scene_model.specs.Nodes.{listed, IsParentAt, IsNodeList}
 use Rattle.scene_model.specs.Nodes as model
 use Rattle.scene_model.proofs.Lists.{each_weaker, each-append}
 use Rattle.scene_model.proofs.Listed.{numbered, listed_push, length-listed, parent_at}
 use Rattle.dom_tree.specs.declared.nodes.Attr.{Attr}
-use Rattle.dom_tree.specs.declared.nodes.NodeInput.{NodeInput}
 use Rattle.dom_tree.specs.declared.nodes.Row.{Row}
 use Rattle.dom_tree.specs.declared.node.NamedAttr.{NamedAttr}
 use Rattle.dom_tree.specs.declared.node.Node.{Node}
-use Rattle.dom_tree.specs.Inputs.{pair_of, states_of, input_element}
-use Rattle.dom_tree.specs.Rows.{row_node}
-use Rattle.dom_tree.specs.Kept.{text_of, named_pair, named_attributes, element_of, elements_from, elements_of, IsNamed, KeepsTexts}
+use Rattle.dom_tree.specs.View.{pair_of, states_of, input_element}
+use Rattle.dom_tree.specs.View.{row_node}
+use Rattle.dom_tree.specs.Kept.{text_of, named_pair, element_of, elements_from, elements_of, IsNamed, KeepsTexts}
 
 abbrev AreAttrsNamed : List Characters → List NamedAttr → Type 0
 AreAttrsNamed names attrs = AllByRecursion (λ attr. attr.name < length names) attrs
@@ -101,7 +100,7 @@ pub nodes_named_push : (old new : List Characters) (nodes longer : List Node) (n
 nodes_named_push old new nodes longer node named kept one e =
     subst (AllByRecursion (IsNamed new)) (sym e) (each-append (IsNamed new) nodes (node ∷ []) (each_weaker (IsNamed old) (IsNamed new) (λ n h. node_named_more old new n kept h) nodes named) (one, tt))
 
--- the parent of a node stands before it
+-- the parent of a node is before it
 
 row_got : (rows : List Row) (k : ℕ) (row : Row) → k < length rows → row ≡ get_or rows k row → slice_get (map row_node rows) k ≡ Some (row_node row)
 row_got rows k row l is = slice_get-map row_node rows k ∙ ap (option_map row_node) (slice_get_read rows (length rows) k row refl l is)

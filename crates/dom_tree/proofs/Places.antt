@@ -1,12 +1,14 @@
--- Elements of a list by their place: after a write, after one more, and what holds of each.
-use Rattle.std.proofs.Common.{◌≡◌, ◌≢◌, ℕ, zero, suc, ◌+◌, ◌<◌, List, [], ◌∷◌, ◌++◌, length, take, slice_set, Some, slice_get, sym, ap, ◌∙◌, subst, refl, arith, add-one}
+-- Items of a list by their index: after a write, and what holds of each.
+use Rattle.std.proofs.Common.{◌≡◌, ◌≢◌, ℕ, zero, suc, ◌+◌, ◌<◌, List, [], ◌∷◌, ◌++◌, length, take, slice_set, Some, IfSome, slice_get, ap, subst, refl, arith, add-one}
 use Rattle.std.specs.List.{AllByRecursion}
+use Rattle.base_model.proofs.Lists.{slice_get_some}
 use Rattle.std.proofs.lemmas.Option.{same_Some}
 
-pub slice_get_some : {X : Type 0} (xs : List X) (i : ℕ) → i < length xs → (x : X) × (slice_get xs i ≡ Some x)
-slice_get_some [] i h = absurd (omega arith)
-slice_get_some (x ∷ xs) zero h = (x, refl)
-slice_get_some (x ∷ xs) (suc i) h = slice_get_some xs i (omega arith)
+-- the item at an index, and what is known of it
+pub item_at : {X : Type 0} (xs : List X) (i : ℕ) (P : X → Type 0) → i < length xs → IfSome (slice_get xs i) P → (x : X) × (slice_get xs i ≡ Some x) × P x
+item_at xs i P within h =
+    let (x, at) = slice_get_some xs i within in
+    (x, at, subst (λ o. IfSome o P) at h)
 
 pub each_at : {X : Type 0} (P : X → Type 0) (xs : List X) (i : ℕ) (x : X) → AllByRecursion P xs → slice_get xs i ≡ Some x → P x
 each_at P [] i x h e = absurd (cc)
@@ -24,17 +26,6 @@ get_set_other (y ∷ ys) zero zero x h = absurd (h refl)
 get_set_other (y ∷ ys) zero (suc j) x h = refl
 get_set_other (y ∷ ys) (suc i) zero x h = refl
 get_set_other (y ∷ ys) (suc i) (suc j) x h = get_set_other ys i j x (λ e. h (ap suc e))
-
-pub get_push_below : {X : Type 0} (xs : List X) (i : ℕ) (x : X) → i < length xs → slice_get (xs ++ x ∷ []) i ≡ slice_get xs i
-get_push_below [] i x h = absurd (omega arith)
-get_push_below (y ∷ ys) zero x h = refl
-get_push_below (y ∷ ys) (suc i) x h = get_push_below ys i x (omega arith)
-
-pub get_push_last : {X : Type 0} (xs : List X) (i : ℕ) (x : X) → i ≡ length xs → slice_get (xs ++ x ∷ []) i ≡ Some x
-get_push_last [] zero x h = refl
-get_push_last [] (suc i) x h = absurd (omega arith)
-get_push_last (y ∷ ys) zero x h = absurd (omega arith)
-get_push_last (y ∷ ys) (suc i) x h = get_push_last ys i x (omega arith)
 
 taken_suc : {X : Type 0} (xs : List X) (k : ℕ) (x : X) → slice_get xs k ≡ Some x → take (suc k) xs ≡ take k xs ++ x ∷ []
 taken_suc [] k x h = absurd (cc)

@@ -1,25 +1,25 @@
 -- What a word that comes off the front of a text is among its words.
-use Rattle.std.proofs.Common.{◌≡◌, ℕ, zero, suc, ◌+◌, ◌<◌, ◌≤◌, Bool, true, false, cond, not, ◌||◌, List, [], ◌∷◌, ◌++◌, length, take, drop, get_or, filter, encode_utf8, encode_utf8_all, sym, ap, ◌∙◌, subst, refl, arith, append_assoc, append-nil, length-append}
+use Rattle.std.proofs.Common.{◌≡◌, ℕ, zero, suc, ◌<◌, ◌≤◌, Bool, true, false, cond, not, ◌||◌, List, [], ◌∷◌, ◌++◌, length, get_or, filter, encode_utf8_all, sym, ap, ◌∙◌, subst, refl, arith, append-nil, length-append}
 use Rattle.std.specs.List.{AllByRecursion, AllPass, list_any}
 use Rattle.std.specs.Char.{is_ascii_whitespace}
 use Rattle.std.specs.Str.{chars, IsUtf8, IsAscii, IsCharBoundary, NonePass, NoCharPasses, bytes_eq}
 use Rattle.std.specs.Str.Iter.{IsAsciiSeparator}
 use Rattle.std.proofs.Math.Seq.{take-append_seam, drop-append_seam, get_or-append_seam}
 use Rattle.std.proofs.lemmas.Bool.{cond-true, cond-false}
-use Rattle.std.proofs.lemmas.Bool.Decides.{nat_tests, same_from_decides}
+use Rattle.std.proofs.lemmas.Bool.Decides.{nat_tests}
 use Rattle.std.proofs.lemmas.List.Elements.{recursion_from_All}
-use Rattle.std.proofs.lemmas.Slice.Eq.{bytes_eq-Decides}
 use Rattle.std.proofs.lemmas.Str.{chars-nil, chars-IsAscii, chars-append, chars_from_encodes, encodes-chars, encode_ascii, IsUtf8-from_ascii, IsUtf8-past_char, IsUtf8-take, IsUtf8-drop, IsCharBoundary-before_ascii}
-use Rattle.stylo_base.proofs.TextLemmas.{chars_same}
-use Rattle.scene_model.specs.Element.{Characters}
-use Rattle.scene_model.specs.Words.{same_text, in_front, pieces, is_empty_text, words, has_word}
+use Rattle.stylo_base.proofs.TextLemmas.{same_test}
+use Rattle.base_model.specs.Lists.{onto_first}
+use Rattle.base_model.specs.Text.{Characters, same_text, is_empty_text}
+use Rattle.scene_model.specs.Words.{pieces, words, has_word}
 
 abbrev AreSpaces : List ℕ → Type 0
 AreSpaces cs = AllByRecursion (λ c. is_ascii_whitespace c ≡ true) cs
 
--- white space is below 128
+-- whitespace is below 128
 
-space_below : (c : ℕ) → is_ascii_whitespace c ≡ true → c < 128
+pub space_below : (c : ℕ) → is_ascii_whitespace c ≡ true → c < 128
 space_below c h = grind (arith, nat_tests)
 
 spaces-ascii : (cs : List ℕ) → AreSpaces cs → IsAscii cs
@@ -27,27 +27,27 @@ spaces-ascii [] h i = omega arith
 spaces-ascii (c ∷ cs) h zero = space_below c h.0
 spaces-ascii (c ∷ cs) h (suc i) = spaces-ascii cs h.1 i
 
--- what follows white space is text
+-- what follows whitespace is text
 after_spaces : (gap bs : List ℕ) → AreSpaces gap → IsUtf8 (gap ++ bs) → IsUtf8 bs
 after_spaces [] bs h u = u
 after_spaces (c ∷ gap) bs h u =
     after_spaces gap bs h.1 (IsUtf8-past_char (c ∷ gap ++ bs) (gap ++ bs) c u (sym (ap (λ e. e ++ (gap ++ bs)) (encode_ascii c (space_below c h.0)))))
 
--- white space is a place where a text may be cut
+-- whitespace is a place where a text may be cut
 space_boundary : (x bs : List ℕ) (c : ℕ) → is_ascii_whitespace c ≡ true → IsCharBoundary (x ++ c ∷ bs) (length x)
 space_boundary x bs c h =
     let at : get_or (x ++ c ∷ bs) (length x) 0 ≡ c = get_or-append_seam x c bs 0 in
     let low : get_or (x ++ c ∷ bs) (length x) 0 < 128 = rw at (space_below c h) in
     IsCharBoundary-before_ascii (x ++ c ∷ bs) (length x) (omega (arith, length-append x (c ∷ bs))) low
 
--- what stands before white space is text
+-- what is before whitespace is text
 before_space : (x bs : List ℕ) (c : ℕ) → is_ascii_whitespace c ≡ true → IsUtf8 (x ++ c ∷ bs) → IsUtf8 x
 before_space x bs c h u =
     subst IsUtf8 (take-append_seam x (c ∷ bs)) (IsUtf8-take (x ++ c ∷ bs) (length x) u (space_boundary x bs c h))
 
--- and what stands behind it
-behind_space : (x bs : List ℕ) (c : ℕ) → is_ascii_whitespace c ≡ true → IsUtf8 (x ++ c ∷ bs) → IsUtf8 bs
-behind_space x bs c h u =
+-- and what is after it
+after_space : (x bs : List ℕ) (c : ℕ) → is_ascii_whitespace c ≡ true → IsUtf8 (x ++ c ∷ bs) → IsUtf8 bs
+after_space x bs c h u =
     after_spaces (c ∷ []) bs (h, tt) (subst IsUtf8 (drop-append_seam x (c ∷ bs)) (IsUtf8-drop (x ++ c ∷ bs) (length x) u (space_boundary x bs c h)))
 
 -- the words of a text in parts
@@ -55,18 +55,18 @@ behind_space x bs c h u =
 words_spaces : (gap cs : Characters) → AreSpaces gap → words (gap ++ cs) ≡ words cs
 words_spaces [] cs h = refl
 words_spaces (c ∷ gap) cs h =
-    ap (λ b. filter (λ piece. not (is_empty_text piece)) (cond b ([] ∷ pieces (gap ++ cs)) (in_front c (pieces (gap ++ cs))))) h.0 ∙ words_spaces gap cs h.1
+    ap (λ b. filter (λ piece. not (is_empty_text piece)) (cond b ([] ∷ pieces (gap ++ cs)) (onto_first c (pieces (gap ++ cs))))) h.0 ∙ words_spaces gap cs h.1
 
 pieces_alone : (x : Characters) → NonePass is_ascii_whitespace x → pieces x ≡ x ∷ []
 pieces_alone [] h = refl
-pieces_alone (c ∷ x) h = cond-false (is_ascii_whitespace c) ([] ∷ pieces x) (in_front c (pieces x)) h.0 ∙ ap (in_front c) (pieces_alone x h.1)
+pieces_alone (c ∷ x) h = cond-false (is_ascii_whitespace c) ([] ∷ pieces x) (onto_first c (pieces x)) h.0 ∙ ap (onto_first c) (pieces_alone x h.1)
 
 pieces_before : (x cs : Characters) (c : ℕ) → NonePass is_ascii_whitespace x → is_ascii_whitespace c ≡ true → pieces (x ++ c ∷ cs) ≡ x ∷ pieces cs
-pieces_before [] cs c h s = cond-true (is_ascii_whitespace c) ([] ∷ pieces cs) (in_front c (pieces cs)) s
+pieces_before [] cs c h s = cond-true (is_ascii_whitespace c) ([] ∷ pieces cs) (onto_first c (pieces cs)) s
 pieces_before (d ∷ x) cs c h s =
-    cond-false (is_ascii_whitespace d) ([] ∷ pieces (x ++ c ∷ cs)) (in_front d (pieces (x ++ c ∷ cs))) h.0 ∙ ap (in_front d) (pieces_before x cs c h.1 s)
+    cond-false (is_ascii_whitespace d) ([] ∷ pieces (x ++ c ∷ cs)) (onto_first d (pieces (x ++ c ∷ cs))) h.0 ∙ ap (onto_first d) (pieces_before x cs c h.1 s)
 
--- the pieces with one that is not empty in front
+-- the pieces after one that is not empty
 kept_front : (x : Characters) (rest : List Characters) → 0 < length x → filter (λ piece. not (is_empty_text piece)) (x ∷ rest) ≡ x ∷ filter (λ piece. not (is_empty_text piece)) rest
 kept_front [] rest h = absurd (omega arith)
 kept_front (c ∷ x) rest h = refl
@@ -113,7 +113,7 @@ word_text x (c ∷ d ∷ sep) rest s one none u = absurd (omega arith)
 rest_text : (x sep rest : List ℕ) → AreSpaces sep → length sep ≤ 1 → (length sep ≡ 0 → length rest ≡ 0) → IsUtf8 (x ++ (sep ++ rest)) → IsUtf8 rest
 rest_text x [] [] s one none u = IsUtf8-from_ascii [] (λ i. omega arith)
 rest_text x [] (c ∷ rest) s one none u = let e : suc (length rest) ≡ 0 = none refl in absurd (omega arith)
-rest_text x (c ∷ []) rest s one none u = behind_space x rest c s.0 u
+rest_text x (c ∷ []) rest s one none u = after_space x rest c s.0 u
 rest_text x (c ∷ d ∷ sep) rest s one none u = absurd (omega arith)
 
 no_chars : (rest : List ℕ) → length rest ≡ 0 → length (chars rest) ≡ 0
@@ -124,28 +124,22 @@ pub word_off : (bs x rest gap sep : List ℕ) → IsUtf8 bs → 0 < length x →
 word_off bs x rest gap sep u l n e g s =
     let gaps : AreSpaces gap = recursion_from_All (λ c. is_ascii_whitespace c ≡ true) gap g in
     let seps : AreSpaces sep = recursion_from_All (λ c. is_ascii_whitespace c ≡ true) sep s.0 in
-    let behind : IsUtf8 (x ++ (sep ++ rest)) = after_spaces gap (x ++ (sep ++ rest)) gaps (subst IsUtf8 e u) in
-    let x_text : IsUtf8 x = word_text x sep rest seps s.1 s.2 behind in
+    let left : IsUtf8 (x ++ (sep ++ rest)) = after_spaces gap (x ++ (sep ++ rest)) gaps (subst IsUtf8 e u) in
+    let x_text : IsUtf8 x = word_text x sep rest seps s.1 s.2 left in
     let sep_same : chars sep ≡ sep = chars-IsAscii sep (spaces-ascii sep seps) in
     let all : chars bs ≡ gap ++ (chars x ++ (sep ++ chars rest)) =
     ap chars e ∙ (chars_parts gap x sep rest (spaces-text gap gaps) x_text (spaces-text sep seps) ∙ (ap (λ g. g ++ (chars x ++ (chars sep ++ chars rest))) (chars-IsAscii gap (spaces-ascii gap gaps)) ∙ ap (λ s. gap ++ (chars x ++ (s ++ chars rest))) sep_same)) in
     record {
       word_text = x_text;
-      rest_text = rest_text x sep rest seps s.1 s.2 behind;
+      rest_text = rest_text x sep rest seps s.1 s.2 left;
       first = ap words all ∙ (words_spaces gap (chars x ++ (sep ++ chars rest)) gaps ∙ words_first (chars x) sep (chars rest) (some_chars x x_text l) (none_of_chars x x_text n) seps s.1 (λ z. no_chars rest (s.2 z)));
     }
 
--- a text of white space alone has no words
+-- a text of whitespace alone has no words
 no_words : (bs : List ℕ) → AllPass is_ascii_whitespace bs → words (chars bs) ≡ []
 no_words bs h =
     let spaces : AreSpaces bs = recursion_from_All (λ c. is_ascii_whitespace c ≡ true) bs h in
     ap words (chars-IsAscii bs (spaces-ascii bs spaces)) ∙ (sym (ap words (append-nil bs)) ∙ words_spaces bs [] spaces)
-
--- two texts are compared alike by bytes and by characters
-same_test : (a b : List ℕ) → IsUtf8 a → IsUtf8 b → bytes_eq a b ≡ bytes_eq (chars a) (chars b)
-same_test a b u v =
-    let by_chars = bytes_eq-Decides (chars a) (chars b) in
-    same_from_decides _ _ (bytes_eq-Decides a b) (λ e. chars_same a b u v (by_chars.0 e), λ e. by_chars.1 (ap chars e))
 
 -- the word that came off is asked for, or the rest decides
 has_word-off : (w bs x rest : List ℕ) → IsUtf8 w → IsWordOff bs x rest → has_word (chars w) (chars bs) ≡ (bytes_eq w x || has_word (chars w) (chars rest))

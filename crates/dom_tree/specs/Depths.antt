@@ -1,4 +1,4 @@
--- How deep the nodes of a list stand.
+-- The depths of the nodes of a list.
 use Rattle.std.specs.Prelude.{ℕ, List, map}
 use Rattle.scene_model.specs.Lookups.{numbers}
 use Rattle.scene_model.specs.Ancestors.{depth_of}

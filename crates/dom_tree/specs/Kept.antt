@@ -1,14 +1,16 @@
 -- What the kept nodes of a document stand for, and what holds of what is kept.
-use Rattle.std.specs.Prelude.{◌≡◌, ℕ, ◌+◌, ◌-◌, ◌<◌, ◌≤◌, ◌&&◌, nat_lt, nat_le, List, [], ◌∷◌, map, length, Option, Some, unwrap_or, slice_get}
+use Rattle.std.specs.Prelude.{◌≡◌, ℕ, ◌+◌, ◌-◌, ◌<◌, ◌≤◌, ◌&&◌, nat_lt, nat_le, List, [], ◌∷◌, map, length}
+use Rattle.std.specs.Prelude.{Some, unwrap_or, slice_get}
 use Rattle.std.specs.List.{AllByRecursion, filter_map}
 use Rattle.std.specs.FinMap as finmap
 use Rattle.scene_model.specs.Element.{Element, Characters, Attributes}
-use Rattle.scene_model.specs.Lookups.{numbers, element_at, is_element, IsElement, children, place_of}
+use Rattle.scene_model.specs.Lookups.{numbers, element_at, is_element, children, place_of}
+use Rattle.scene_model.specs.Document.{Document}
 use Rattle.scene_model.specs.Valid.{IsValid}
 use Rattle.dom_tree.specs.declared.node.NamedAttr.{NamedAttr}
 use Rattle.dom_tree.specs.declared.node.Node.{Node}
 use Rattle.dom_tree.specs.declared.node.Link.{Link}
-use Rattle.dom_tree.specs.Inputs.{states_of}
+use Rattle.dom_tree.specs.View.{states_of}
 
 -- the text of a name
 abbrev pub text_of : List Characters → ℕ → Characters
@@ -22,8 +24,13 @@ abbrev pub named_attributes : List Characters → List NamedAttr → Attributes
 named_attributes names list = finmap.from_entries (map (named_pair names) list)
 
 abbrev pub element_of : List Characters → ℕ → Node → Element
-element_of names number node =
-    record { number = number; parent = node.parent; tag = text_of names node.tag; attrs = named_attributes names node.attrs; states = states_of node.states }
+element_of names number node = record {
+  number = number;
+  parent = node.parent;
+  tag = text_of names node.tag;
+  attrs = named_attributes names node.attrs;
+  states = states_of node.states;
+}
 
 -- the nodes as elements in the order of their numbers, which begin at 1
 abbrev pub elements_from : List Characters → ℕ → List Node → List Element
@@ -34,8 +41,12 @@ abbrev pub elements_of : List Characters → List Node → List Element
 elements_of names nodes = elements_from names 0 nodes
 
 -- the elements in tree order
-unfoldable pub document : List Characters → List Node → List ℕ → List Element
-document names nodes order = filter_map (element_at (elements_of names nodes)) order
+unfoldable pub in_order : List Characters → List Node → List ℕ → List Element
+in_order names nodes order = filter_map (element_at (elements_of names nodes)) order
+
+-- the document of what is kept: no number was given but to its elements
+abbrev pub document : List Characters → List Node → List ℕ → Document
+document names nodes order = record { elements = in_order names nodes order; last = length nodes }
 
 -- each name has a text
 pub record IsNamed (names : List Characters) (node : Node) : Type 0 where
@@ -57,9 +68,9 @@ pub record AreLinks (list : List Element) (links : List Link) : Type 0 where
 
 -- what holds of what is kept: each node is an element and found at its number, and the links are the look-ups
 pub record IsWhole (names : List Characters) (nodes : List Node) (links : List Link) (order : List ℕ) : Type 0 where
-  pub valid : IsValid (document names nodes order)
-  pub listed : numbers (document names nodes order) ≡ order
-  pub known : (x : ℕ) → is_element (document names nodes order) x ≡ (nat_lt 0 x && nat_le x (length nodes))
-  pub links_of : AreLinks (document names nodes order) links
+  pub valid : IsValid (in_order names nodes order)
+  pub listed : numbers (in_order names nodes order) ≡ order
+  pub known : (x : ℕ) → is_element (in_order names nodes order) x ≡ (nat_lt 0 x && nat_le x (length nodes))
+  pub links_of : AreLinks (in_order names nodes order) links
   pub count : length order ≡ length nodes
   pub named : AllByRecursion (IsNamed names) nodes

@@ -1,4 +1,3 @@
-pub mod Inputs
-pub mod Rows
+pub mod View
 pub mod Kept
 pub mod Depths

@@ -1,4 +1,4 @@
-//! How deep the nodes of a list stand.
+//! The depths of the nodes of a list.
 
 ghost use Rattle.std.specs.Prelude.{◌≡◌, ◌<◌, ◌+◌, ◌^◌, IfOk, length, map};
 ghost use Rattle.std.specs.List.{range_with_len};

@@ -7,8 +7,6 @@ mod node;
 mod nodes;
 mod numbers;
 mod start;
-#[cfg(test)]
-mod tests;
 mod words;
 
 pub use doc::Doc;

@@ -14,8 +14,8 @@ pub(crate) struct NamedAttr {
     pub value: Text,
 }
 
-/// The attributes of an element. Contracts see the list; where a name stands twice the first one
-/// counts.
+/// The attributes of an element. Contracts see the list; of attributes with the same name
+/// the first counts.
 #[derive(Drop)]
 pub(crate) struct NamedAttrs {
     list: Vec<NamedAttr>,
@@ -62,6 +62,6 @@ pub(crate) struct Node {
 pub(crate) struct Link {
     /// The numbers of its children, in tree order.
     pub children: Numbers,
-    /// How many siblings stand before it.
+    /// How many siblings are before it.
     pub place: u32,
 }

@@ -1,9 +1,9 @@
-//! The list of nodes of a job or an insertion, each behind its parent.
+//! The list of nodes of a job or an insertion, each after its parent.
 
 ghost use Rattle.std.specs.Prelude.{◌≡◌, ◌<◌, ◌≤◌, ◌++◌, ◌∷◌, [], ℕ, Some, None, IfSome, length, IfOk, OnOk, OnErr, slice_get, vec_len};
 ghost use Rattle.std.specs.FinMap as finmap;
 ghost use Rattle.scene_model.specs.Nodes.{IsNodeList};
-ghost use Rattle.dom_tree.specs.Inputs.{attributes_of, node_of};
+ghost use Rattle.dom_tree.specs.View.{attributes_of, node_of};
 
 use std::alloc::Global;
 use std::marker::Model;
@@ -37,7 +37,7 @@ impl Model for Attrs {
 
     ghost coded = { attributes_code };
 
-    ghost use Rattle.dom_tree.specs.Inputs.{attributes_of};
+    ghost use Rattle.dom_tree.specs.View.{attributes_of};
 
     ghost view = { λ a. attributes_of a.list.items };
 }
@@ -52,7 +52,7 @@ impl Attrs {
         }
     }
 
-    /// The attributes of a list. Where a name stands twice the first one counts. It takes no memory.
+    /// The attributes of a list. Of attributes with the same name the first counts. It takes no memory.
     pub fn of_list(list: Vec<Attr>) -> Attrs
         ensures { result ≡ attributes_of list.items }
     {
@@ -82,7 +82,7 @@ pub(crate) struct Row {
     pub input: NodeInput,
 }
 
-/// A list of nodes that is not empty: the first is the root, and each other one stands behind its
+/// A list of nodes that is not empty: the first is the root, and each other one is after its
 /// parent. Contracts see the list of its nodes.
 #[derive(Debug, Drop)]
 pub struct NodeList {
@@ -97,7 +97,7 @@ impl Model for NodeList {
 
     ghost coded = { nodes_code };
 
-    ghost use Rattle.dom_tree.specs.Rows.{row_node};
+    ghost use Rattle.dom_tree.specs.View.{row_node};
 
     ghost view = { λ l. mapped row_node l.rows.items };
 
@@ -106,11 +106,11 @@ impl Model for NodeList {
 
 impl NodeList {
     ghost use Rattle.std.specs.Prelude.{map as mapped};
-    ghost use Rattle.dom_tree.specs.Rows.{row_node};
+    ghost use Rattle.dom_tree.specs.View.{row_node};
 
     /// The list of a root alone.
     pub fn of_root(alloc: Global, root: NodeInput) -> Result<NodeList, NoMemory>
-        ensures { IfOk result (λ list. list ≡ node_of None root.tag root.attrs root.states ∷ []) }
+        ensures { IfOk result (λ list. list ≡ node_of None root ∷ []) }
     {
         let mut rows = Vec::new(alloc);
         rows.push(Row {
@@ -120,10 +120,10 @@ impl NodeList {
         Ok(NodeList { rows })
     }
 
-    /// Puts a node behind the list, as a child of the node at the index `parent`.
+    /// Appends a node to the list, as a child of the node at the index `parent`.
     pub fn push(&mut self, parent: u32, node: NodeInput) -> Result<(), NoMemory>
         requires { parent < length self.old }
-        ensures ok { OnOk result (self.new ≡ self.old ++ node_of (Some parent) node.tag node.attrs node.states ∷ []) }
+        ensures ok { OnOk result (self.new ≡ self.old ++ node_of (Some parent) node ∷ []) }
         ensures err { OnErr result (self.new ≡ self.old) }
     {
         self.rows.push(Row {

@@ -37,7 +37,7 @@ impl Numbers {
         self.list.len()
     }
 
-    /// Puts a number behind the others.
+    /// Appends a number.
     pub fn push(&mut self, number: u32) -> Result<(), NoMemory>
         ensures ok { OnOk result (self.new ≡ self.old ++ number ∷ []) }
         ensures err { OnErr result (self.new ≡ self.old) }

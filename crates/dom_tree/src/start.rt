@@ -3,7 +3,7 @@
 ghost use Rattle.std.specs.Prelude.{◌≡◌, ◌++◌, ◌∷◌, ◌^◌, ◌<◌, ◌≤◌, ◌+◌, ℕ, [], IfOk, IfSome, OnOk, length, option_map, reverse, slice_get, slice_set};
 ghost use Rattle.std.specs.List.{AllByRecursion};
 ghost use Rattle.scene_model.specs.Nodes.{IsNodeList, listed, tree_order};
-ghost use Rattle.dom_tree.specs.Inputs.{input_element};
+ghost use Rattle.dom_tree.specs.View.{input_element};
 ghost use Rattle.dom_tree.specs.Kept.{AreLinks, IsNamed, KeepsTexts, element_of, elements_of, named_attributes};
 
 use crate::node::{Link, NamedAttr, NamedAttrs, Node};
@@ -77,7 +77,7 @@ fn name_attrs(alloc: Global, names: &mut Names, attrs: &Attrs) -> Result<NamedAt
     Ok(NamedAttrs::of_list(list))
 }
 
-/// The children and the place of each node, by number.
+/// The children and the sibling index of each node, by number.
 pub(crate) fn link_nodes(alloc: Global, list: &NodeList) -> Result<Vec<Link>, NoMemory>
     requires { length list.now ≤ 65536 }
     ensures { IfOk result (λ links. AreLinks (listed list.now) links.items) }
@@ -86,7 +86,7 @@ pub(crate) fn link_nodes(alloc: Global, list: &NodeList) -> Result<Vec<Link>, No
     for index in 0..list.len() {
         let number = index as u32 + 1;
         let place = match list.parent(index) {
-            Some(parent) => put_child(&mut links, parent as usize, number)?,
+            Some(parent) => append_child(&mut links, parent as usize, number)?,
             None => 0,
         };
         links.push(Link {
@@ -97,8 +97,8 @@ pub(crate) fn link_nodes(alloc: Global, list: &NodeList) -> Result<Vec<Link>, No
     Ok(links)
 }
 
-/// Puts a child behind the children of the node at the index `parent`. The answer is its place.
-fn put_child(links: &mut Vec<Link>, parent: usize, child: u32) -> Result<u32, NoMemory>
+/// Appends a child to the children of the node at the index `parent`. The answer is its sibling index.
+fn append_child(links: &mut Vec<Link>, parent: usize, child: u32) -> Result<u32, NoMemory>
     requires there { parent < length links.old.items }
     requires few { IfSome (slice_get links.old.items parent) (λ link. length link.children < 2 ^ 32) }
     ensures place { IfOk result (λ place. IfSome (slice_get links.old.items parent) (λ link. place ≡ length link.children)) }
@@ -110,8 +110,8 @@ fn put_child(links: &mut Vec<Link>, parent: usize, child: u32) -> Result<u32, No
     Ok(place)
 }
 
-/// The numbers of the nodes of `list` in tree order: a walk from the root that goes down before it
-/// goes on. `links` are those of the list.
+/// The numbers of the nodes of `list` in tree order: a walk from the root that visits what is below a
+/// node before its next sibling. `links` are those of the list.
 pub(crate) fn walk(alloc: Global, list: &NodeList, links: &[Link]) -> Result<Vec<u32>, NoMemory>
     requires few { length list.now ≤ 65536 }
     requires links { AreLinks (listed list.now) links.now }
@@ -123,13 +123,13 @@ pub(crate) fn walk(alloc: Global, list: &NodeList, links: &[Link]) -> Result<Vec
     ahead.push(1)?;
     while let Some(x) = ahead.pop() {
         order.push(x)?;
-        put_reversed(&mut ahead, links[x as usize - 1].children.as_slice())?;
+        append_reversed(&mut ahead, links[x as usize - 1].children.as_slice())?;
     }
     Ok(order)
 }
 
-/// Puts numbers behind a list, the last one first.
-fn put_reversed(list: &mut Vec<u32>, numbers: &[u32]) -> Result<(), NoMemory>
+/// Appends numbers to a list, the last one first.
+fn append_reversed(list: &mut Vec<u32>, numbers: &[u32]) -> Result<(), NoMemory>
     ensures { OnOk result (list.new.items ≡ list.old.items ++ reverse numbers.now) }
 {
     for number in numbers.iter().rev() {

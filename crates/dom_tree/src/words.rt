@@ -4,8 +4,8 @@ ghost use Rattle.std.specs.Prelude.{◌≡◌};
 ghost use Rattle.std.specs.Str.{chars};
 ghost use Rattle.scene_model.specs.Words.{has_word as is_word};
 
-/// Whether `word` is one of the words of `text`: the pieces between the ASCII white space
-/// characters, the empty ones left out. It takes no memory.
+/// Whether `word` is one of the words of `text`: the pieces between ASCII whitespace characters that
+/// are not empty. It takes no memory.
 pub fn has_word(word: &str, text: &str) -> bool
     ensures { result ≡ is_word (chars word.now) (chars text.now) }
 {

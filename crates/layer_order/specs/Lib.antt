@@ -1,1 +1,1 @@
-pub mod Origins
+pub mod View

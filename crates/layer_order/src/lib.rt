@@ -3,8 +3,6 @@
 
 mod origin;
 mod sheet_input;
-#[cfg(test)]
-mod tests;
 
 pub use origin::Origin;
 pub use sheet_input::SheetInput;

@@ -9,6 +9,7 @@ use Rattle.std.proofs.lemmas.List.Elements.{All-from_recursion}
 use Rattle.std.proofs.lemmas.List.FromFn.{length-range_with_len, get_or-range_with_len}
 use Rattle.std.proofs.lemmas.List.Kept.{IsStrictlyIncreasing-filter}
 use Rattle.std.proofs.lemmas.Option.{same_Some, slice_get_within}
+use Rattle.base_model.proofs.Lists.{slice_get_some}
 use Rattle.scene_model.specs.Element.{Element}
 use Rattle.scene_model.specs.Lookups.{numbers, element_at, is_element, IsElement, parent_of, is_child_of, children, beside, siblings, left_of, place_of}
 use Rattle.scene_model.specs.Nodes.{Node, IsParentAt, HaveParentsFrom, IsNodeList, listed_from, listed}
@@ -80,11 +81,6 @@ pub element_at-listed_some : (nodes : List Node) (k : ℕ) (node : Node) → sli
 element_at-listed_some nodes k node h = element_at-listed nodes k ∙ ap (option_map (numbered k)) h
 
 -- parents
-
-slice_get_some : {X : Type 0} (xs : List X) (i : ℕ) → i < length xs → (x : X) × (slice_get xs i ≡ Some x)
-slice_get_some [] i h = absurd (omega arith)
-slice_get_some (x ∷ xs) zero h = (x, refl)
-slice_get_some (x ∷ xs) (suc i) h = slice_get_some xs i (omega arith)
 
 pub parent_of-listed : (nodes : List Node) (k : ℕ) (node : Node) → slice_get nodes k ≡ Some node → parent_of (listed nodes) (k + 1) ≡ option_map (λ p. p + 1) node.parent
 parent_of-listed nodes k node h = ap (option_and_then (λ e. e.parent)) (element_at-listed_some nodes k node h)

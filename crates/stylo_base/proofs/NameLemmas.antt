@@ -9,24 +9,19 @@ use Rattle.std.specs.String.{string_bytes, string_eq}
 use Rattle.std.proofs.lemmas.Bool.{cond-false, false≢true}
 use Rattle.std.proofs.lemmas.Map.Views.{Contains-from_any, list_any-from_Contains}
 use Rattle.std.specs.Cmp.Lexicographic.{nat_list_eq_equiv}
-use Rattle.std.proofs.lemmas.Bool.Decides.{same_from_decides, nat_tests}
-use Rattle.std.proofs.lemmas.List.{map_push, length-map, length_push, get_or_push, get_or_append_left}
+use Rattle.std.proofs.lemmas.Bool.Decides.{nat_tests}
+use Rattle.std.proofs.lemmas.List.{map_push, length-map, length_push}
 use Rattle.std.proofs.lemmas.List.Sums.{prefix_len_stops}
-use Rattle.std.proofs.lemmas.Option.{slice_get-get_or, slice_get_read, slice_get_within, get_or_from_slice_get}
+use Rattle.std.proofs.lemmas.Option.{slice_get-get_or, slice_get_within, get_or_from_slice_get}
 use Rattle.std.proofs.lemmas.Slice.Eq.{bytes_eq-Decides}
 use Rattle.std.proofs.lemmas.Str.{IsUtf8-string_bytes}
-use Rattle.stylo_base.proofs.TextLemmas.{chars_same}
+use Rattle.base_model.proofs.Lists.{get_push_below, get_push_last}
+use Rattle.stylo_base.proofs.TextLemmas.{same_test}
 use Rattle.stylo_base.specs.NameList.{is_among, interned, StandOnce, AreNamed}
 
 -- the characters of each key
 abbrev pub seen : {Z : Type 0} → List (String Z) → List (List ℕ)
 seen keys = map (λ s. chars (string_bytes s)) keys
-
--- two texts are compared alike by bytes and by characters
-same_test : (a b : List ℕ) → IsUtf8 a → IsUtf8 b → bytes_eq a b ≡ bytes_eq (chars a) (chars b)
-same_test a b u v =
-    let by_chars = bytes_eq-Decides (chars a) (chars b) in
-    same_from_decides _ _ (bytes_eq-Decides a b) (λ e. chars_same a b u v (by_chars.0 e), λ e. by_chars.1 (ap chars e))
 
 -- the first key with the bytes of a text is the first with its characters
 prefix-seen : {Z : Type 0} (text : List ℕ) → IsUtf8 text → (keys : List (String Z)) → prefix_len (λ k. not (bytes_eq text (string_bytes k))) keys ≡ prefix_len (λ cs. not (bytes_eq (chars text) cs)) (seen keys)
@@ -93,17 +88,6 @@ pub is_among-Decides : (text : List ℕ) (texts : List (List ℕ)) → Decides (
 is_among-Decides text texts =
     (Contains-from_any (λ x y. (bytes_eq-Decides x y).0) text texts, list_any-from_Contains nat_list_eq_equiv text texts)
 
--- the place behind all texts has the text that is put there
-pub get_last : (texts : List (List ℕ)) (text : List ℕ) (n : ℕ) → n ≡ length texts → slice_get (texts ++ text ∷ []) n ≡ Some text
-get_last texts text n e =
-    slice_get_read (texts ++ text ∷ []) (n + 1) n text (omega (arith, length_push texts text)) (omega arith) (sym (get_or_push texts text text n (sym e)))
-
--- the other places keep their texts
-pub get_kept : (texts : List (List ℕ)) (text : List ℕ) (n : ℕ) → n < length texts → slice_get (texts ++ text ∷ []) n ≡ slice_get texts n
-get_kept texts text n h =
-    slice_get-get_or (texts ++ text ∷ []) n [] (omega (arith, length_push texts text))
-    ∙ (ap Some (get_or_append_left texts (text ∷ []) [] n h) ∙ sym (slice_get-get_or texts n [] h))
-
 -- a new text has no place
 new_has_none : (texts : List (List ℕ)) (text : List ℕ) (i : ℕ) → is_among text texts ≡ false → slice_get texts i ≡ Some text → ⊥
 new_has_none texts text i new p =
@@ -115,7 +99,7 @@ below_or_last n l h = grind arith
 
 -- the last place has the new text alone
 last_text : (texts : List (List ℕ)) (text other : List ℕ) (i : ℕ) → i ≡ length texts → slice_get (texts ++ text ∷ []) i ≡ Some other → other ≡ text
-last_text texts text other i e p = let same = sym p ∙ get_last texts text i e in cc
+last_text texts text other i e p = let same = sym p ∙ get_push_last texts i text e in cc
 
 -- a text that was not there makes no text stand twice
 pub StandOnce-push : (texts : List (List ℕ)) (text : List ℕ) → StandOnce texts → is_among text texts ≡ false → StandOnce (texts ++ text ∷ [])
@@ -123,11 +107,11 @@ StandOnce-push texts text once new i j other p q =
     let within = λ (n : ℕ) (h : slice_get (texts ++ text ∷ []) n ≡ Some other). below_or_last n (length texts) (omega (arith, slice_get_within (texts ++ text ∷ []) n other h, length_push texts text)) in
     elim (within i p) [
       | inl a ↦ elim (within j q) [
-        | inl b ↦ once i j other (sym (get_kept texts text i a) ∙ p) (sym (get_kept texts text j b) ∙ q)
-        | inr b ↦ absurd (new_has_none texts text i new (sym (get_kept texts text i a) ∙ p ∙ ap Some (last_text texts text other j b q)))
+        | inl b ↦ once i j other (sym (get_push_below texts i text a) ∙ p) (sym (get_push_below texts j text b) ∙ q)
+        | inr b ↦ absurd (new_has_none texts text i new (sym (get_push_below texts i text a) ∙ p ∙ ap Some (last_text texts text other j b q)))
       ]
       | inr a ↦ elim (within j q) [
-        | inl b ↦ absurd (new_has_none texts text j new (sym (get_kept texts text j b) ∙ q ∙ ap Some (last_text texts text other i a p)))
+        | inl b ↦ absurd (new_has_none texts text j new (sym (get_push_below texts j text b) ∙ q ∙ ap Some (last_text texts text other i a p)))
         | inr b ↦ a ∙ sym b
       ]
     ]

@@ -1,7 +1,8 @@
 use Rattle.std.proofs.Common.{◌≡◌, ℕ, zero, suc, true, List, [], ◌∷◌, ◌++◌, encode_utf8_all, sym, ap, ◌∙◌, arith}
-use Rattle.std.specs.Str.{chars, IsUtf8, IsAscii}
+use Rattle.std.specs.Str.{chars, bytes_eq, IsUtf8, IsAscii}
 use Rattle.std.proofs.lemmas.Str.{chars-IsAscii, chars-append, encodes-chars}
-use Rattle.std.proofs.lemmas.Bool.Decides.{nat_tests}
+use Rattle.std.proofs.lemmas.Bool.Decides.{nat_tests, same_from_decides}
+use Rattle.std.proofs.lemmas.Slice.Eq.{bytes_eq-Decides}
 use Rattle.stylo_base.specs.Ascii.{is_all_ascii}
 
 -- the test means that each byte is below 128
@@ -14,7 +15,7 @@ IsAscii-from_all (b ∷ bs) h (suc i) = IsAscii-from_all bs (grind (arith, nat_t
 pub chars-ascii : (bs : List ℕ) → is_all_ascii bs ≡ true → chars bs ≡ bs
 chars-ascii bs h = chars-IsAscii bs (IsAscii-from_all bs h)
 
--- a text put behind another
+-- a text that is appended to another
 pub chars_push : (old new text now : List ℕ) → IsUtf8 old → new ≡ old ++ text → chars old ≡ now → chars new ≡ now ++ chars text
 chars_push old new text now u e v = ap chars e ∙ (chars-append old text u ∙ ap (λ cs. cs ++ chars text) v)
 
@@ -25,3 +26,9 @@ bytes_from_chars bytes now u v = sym (encodes-chars bytes u) ∙ ap encode_utf8_
 -- two texts of the same characters have the same bytes
 pub chars_same : (a b : List ℕ) → IsUtf8 a → IsUtf8 b → chars a ≡ chars b → a ≡ b
 chars_same a b u v h = sym (encodes-chars a u) ∙ ap encode_utf8_all h ∙ encodes-chars b v
+
+-- two texts are compared alike by bytes and by characters
+pub same_test : (a b : List ℕ) → IsUtf8 a → IsUtf8 b → bytes_eq a b ≡ bytes_eq (chars a) (chars b)
+same_test a b u v =
+    let by_chars = bytes_eq-Decides (chars a) (chars b) in
+    same_from_decides _ _ (bytes_eq-Decides a b) (λ e. chars_same a b u v (by_chars.0 e), λ e. by_chars.1 (ap chars e))

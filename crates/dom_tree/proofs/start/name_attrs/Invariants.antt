@@ -1,6 +1,6 @@
 use Rattle.std.proofs.Common.{◌≡◌, ◌<◌, map, take, length}
 use Rattle.std.specs.List.{AllByRecursion}
-use Rattle.dom_tree.specs.Inputs.{pair_of}
+use Rattle.dom_tree.specs.View.{pair_of}
 use Rattle.dom_tree.specs.Kept.{named_pair, KeepsTexts}
 use Rattle.dom_tree.proofs.start.name_attrs.Given as goal
 

@@ -1,6 +1,6 @@
-use Rattle.std.proofs.Common.{arith, ◌∙◌, sym, ap, ◌++◌, ◌∷◌, [], ℕ}
+use Rattle.std.proofs.Common.{arith, ◌∙◌, ap, ◌++◌, ◌∷◌, []}
 use Rattle.scene_model.proofs.Listed.{length-listed}
-use Rattle.dom_tree.proofs.WalkLemmas.{walk_begins, next_inside, walk_goes_on, walk_nears_end, walk_ends, linked_children, IsWalk}
+use Rattle.dom_tree.proofs.WalkLemmas.{walk_begins, next_inside, walk_goes_on, walk_nears_end, linked_children}
 use Rattle.dom_tree.proofs.start.walk.Goals as goal
 
 pub loop-x-init : goal.loop-x-init
@@ -18,7 +18,7 @@ loop-x-smaller c =
     let popped = c.in-Some.ensures.items in
     let next = next_inside _ shape _ _ _ _ c.loop-x.invariant popped in
     let linked = linked_children _ _ _ c.index-links-x.result _ c.requires.links next c.as_slice.ensures in
-    let later = walk_goes_on _ shape _ _ _ _ c.loop-x.invariant popped _ _ _ c.in_ok-push-2.ensures.items c.in_ok-put_reversed.ensures linked in
+    let later = walk_goes_on _ shape _ _ _ _ c.loop-x.invariant popped _ _ _ c.in_ok-push-2.ensures.items c.in_ok-append_reversed.ensures linked in
     walk_nears_end _ _ _ _ _ _ c.loop-x.invariant later c.in_ok-push-2.ensures.items
 
 pub loop-x-preserved : goal.loop-x-preserved
@@ -27,4 +27,4 @@ loop-x-preserved c =
     let popped = c.in-Some.ensures.items in
     let next = next_inside _ shape _ _ _ _ c.loop-x.invariant popped in
     let linked = linked_children _ _ _ c.index-links-x.result _ c.requires.links next c.as_slice.ensures in
-    walk_goes_on _ shape _ _ _ _ c.loop-x.invariant popped _ _ _ c.in_ok-push-2.ensures.items c.in_ok-put_reversed.ensures linked
+    walk_goes_on _ shape _ _ _ _ c.loop-x.invariant popped _ _ _ c.in_ok-push-2.ensures.items c.in_ok-append_reversed.ensures linked

@@ -1,5 +1,5 @@
 use Rattle.std.proofs.Common.{sym, ◌∙◌}
-use Rattle.dom_tree.proofs.WordLemmas.{IsWordOff, word_off, has_word-found, has_word-passed, has_word-none}
+use Rattle.dom_tree.proofs.WordLemmas.{word_off, has_word-found, has_word-passed, has_word-none}
 use Rattle.dom_tree.proofs.words.has_word.Goals as goal
 
 pub returns-then-eq : goal.returns-then-eq

@@ -1,4 +1,4 @@
-use Rattle.std.proofs.Common.{sym, ap, ◌∙◌, unwrap_or, option_map, [], Some}
+use Rattle.std.proofs.Common.{sym, ap, ◌∙◌, unwrap_or, option_map, []}
 use Rattle.scene_model.specs.Element.{Element}
 use Rattle.dom_tree.proofs.KeptLemmas.{found}
 use Rattle.dom_tree.proofs.doc.Doc.tag.Goals as goal

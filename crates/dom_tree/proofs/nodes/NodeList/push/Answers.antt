@@ -1,5 +1,5 @@
 use Rattle.std.proofs.Common.{rules, Some, refl}
-use Rattle.dom_tree.specs.Rows.{row_node}
+use Rattle.dom_tree.specs.View.{row_node}
 use Rattle.dom_tree.proofs.NodeLists.{IsNodeList-push_row}
 use Rattle.dom_tree.proofs.nodes.NodeList.push.Goals as goal
 

@@ -2,7 +2,8 @@ use Rattle.std.proofs.Common.{◌≡◌, ◌++◌, ◌∷◌, [], ◌<◌, ◌^�
 use Rattle.std.specs.Option.{is_some}
 use Rattle.std.specs.Str.{chars}
 use Rattle.stylo_base.specs.NameList.{is_among, StandOnce}
-use Rattle.stylo_base.proofs.NameLemmas.{seen, seen_push, count-seen, interned_new, AreNamed-push, StandOnce-push, get_last, get_kept}
+use Rattle.base_model.proofs.Lists.{get_push_below, get_push_last}
+use Rattle.stylo_base.proofs.NameLemmas.{seen, seen_push, count-seen, interned_new, AreNamed-push, StandOnce-push}
 use Rattle.stylo_base.proofs.names.Names.intern.Goals as goal
 
 -- the text was not there
@@ -27,14 +28,14 @@ invariant_of-self-2 c =
 pub returns-clause-place : goal.returns-clause-place
 returns-clause-place c =
     ap (λ ts. slice_get ts c.len-place.result) (longer c)
-    ∙ get_last c.args.self.now (chars c.args.text.now) c.len-place.result (at_end c)
+    ∙ get_push_last c.args.self.now c.len-place.result (chars c.args.text.now) (at_end c)
 
 pub returns-clause-list : goal.returns-clause-list
 returns-clause-list c = interned_new (chars c.args.text.now) c.args.self.now _ (longer c) (absent c)
 
 pub returns-clause-kept : goal.returns-clause-kept
 returns-clause-kept c n h =
-    ap (λ ts. slice_get ts n) (longer c) ∙ get_kept c.args.self.now (chars c.args.text.now) n h
+    ap (λ ts. slice_get ts n) (longer c) ∙ get_push_below c.args.self.now n (chars c.args.text.now) h
 
 pub returns-clause-distinct : goal.returns-clause-distinct
 returns-clause-distinct c =

@@ -8,6 +8,7 @@ use Rattle.stylo_base.specs.declared.state.State.TheVariants.{Hover, Active, Foc
 use Rattle.dom_tree.specs.declared.nodes.States.{States}
 use Rattle.dom_tree.specs.declared.nodes.Attr.{Attr}
 use Rattle.dom_tree.specs.declared.nodes.NodeInput.{NodeInput}
+use Rattle.dom_tree.specs.declared.nodes.Row.{Row}
 
 abbrev pub states_of : States → model.States
 states_of s = record { hover = s.hover; active = s.active; focus = s.focus }
@@ -19,8 +20,12 @@ pair_of attr = (attr.name, attr.value)
 abbrev pub attributes_of : List Attr → model.Attributes
 attributes_of list = finmap.from_entries (map pair_of list)
 
-abbrev pub node_of : Option ℕ → model.Characters → model.Attributes → States → Node
-node_of parent tag attrs states = record { parent = parent; tag = tag; attrs = attrs; states = states_of states }
+abbrev pub node_of : Option ℕ → NodeInput → Node
+node_of parent input =
+    record { parent = parent; tag = input.tag; attrs = input.attrs; states = states_of input.states }
+
+abbrev pub row_node : Row → Node
+row_node row = node_of row.parent row.input
 
 -- a state by its word in the model
 abbrev pub state_seen : State → model.State

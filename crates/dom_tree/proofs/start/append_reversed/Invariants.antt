@@ -1,5 +1,5 @@
 use Rattle.std.proofs.Common.{◌≡◌, ◌++◌, reverse}
-use Rattle.dom_tree.proofs.start.put_reversed.Given as goal
+use Rattle.dom_tree.proofs.start.append_reversed.Given as goal
 
 abbrev pub invariant-loop-number : goal.invariant-loop-number
 invariant-loop-number l =
