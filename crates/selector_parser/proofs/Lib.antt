@@ -1,3 +1,2 @@
-pub mod KindLemmas
+pub mod CompoundLemmas
 pub mod ListLemmas
-pub mod MemberLemmas

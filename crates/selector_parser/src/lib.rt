@@ -4,10 +4,6 @@
 #![tactic(auto)]
 
 mod compound;
-pub mod laws;
 mod list;
-mod marks;
-#[cfg(test)]
-mod tests;
 
 pub use list::selector_list;
