@@ -1,16 +1,15 @@
 -- The property of a name, looked for row by row.
-use Rattle.std.proofs.Common.{◌≡◌, ℕ, ◌<◌, ◌≤◌, ◌+◌, List, Bool, if◌then◌else◌, Option, Some, None, length, map, option_map, get_or, drop, slice_get, sym, ap, ◌∙◌, refl, arith}
+use Rattle.std.proofs.Common.{◌≡◌, ℕ, ◌<◌, ◌≤◌, ◌+◌, List, Bool, if◌then◌else◌, Option, Some, None, length, map, get_or, drop, slice_get, sym, ap, ◌∙◌, refl, arith}
 use Rattle.std.specs.List.{position_from}
 use Rattle.std.specs.Str.{chars}
 use Rattle.std.proofs.lemmas.Iterator.Adapters.{position_from-zero}
 use Rattle.std.proofs.lemmas.List.{at_drop_all}
-use Rattle.std.proofs.lemmas.Option.{slice_get-map}
 use Rattle.base_model.specs.Text.{Characters, same_text, ascii_lower, is_word}
 use Rattle.value_model.specs.Table as model
 use Rattle.value_model.specs.Table.{table, property_named}
 use Rattle.property_table.specs.View.{row_seen}
 use Rattle.property_table.specs.declared.property.Row.{Row}
-use Rattle.property_table.proofs.RowLemmas.{length-rows, row_at, drop_at}
+use Rattle.property_table.proofs.RowLemmas.{length-rows, row_at, drop_at, alike_at}
 
 abbrev name_of : model.Row → Characters
 name_of row = row.name
@@ -26,16 +25,6 @@ names_lower : map lower_name_of table ≡ map name_of table
 unfolding table
 names_lower = refl
 
-lower_at : (i : ℕ) (row : model.Row) → slice_get table i ≡ Some row → ascii_lower row.name ≡ row.name
-lower_at i row at =
-    let lower : slice_get (map lower_name_of table) i ≡ Some (ascii_lower row.name) =
-    slice_get-map lower_name_of table i ∙ ap (option_map lower_name_of) at in
-    let plain : slice_get (map name_of table) i ≡ Some row.name =
-    slice_get-map name_of table i ∙ ap (option_map name_of) at in
-    let same : Some (ascii_lower row.name) ≡ Some row.name =
-    sym lower ∙ (ap (λ names. slice_get names i) names_lower ∙ plain) in
-    cc
-
 -- the first row of that name, from an index of the table on
 abbrev pub named_from : Characters → ℕ → Option ℕ
 named_from name i = position_from (is_named name) i (drop i table)
@@ -48,7 +37,7 @@ pub named_row : (rows : List Row) (name : Characters) (i : ℕ) (d : Row) (test 
 named_row rows name i d test h lt is =
     let row : model.Row = row_seen (get_or rows i d) in
     let at : slice_get table i ≡ Some row = row_at rows i d h lt in
-    let same : is_named name row ≡ test = ap (same_text (ascii_lower name)) (sym (lower_at i row at)) ∙ sym is in
+    let same : is_named name row ≡ test = ap (same_text (ascii_lower name)) (sym (alike_at lower_name_of name_of table i row names_lower at)) ∙ sym is in
     ap (position_from (is_named name) i) (drop_at table i row at)
     ∙ ap (λ b. if b then Some i else named_from name (i + 1)) same
 

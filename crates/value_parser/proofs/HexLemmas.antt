@@ -8,9 +8,9 @@ use Rattle.std.proofs.lemmas.Bool.Decides.{nat_tests}
 use Rattle.std.proofs.lemmas.Str.{chars-IsAscii, encodes-chars}
 use Rattle.std.proofs.lemmas.Str.Ascii.{IsAscii-nil, IsAscii-cons, encodes-IsAscii}
 use Rattle.value_model.specs.Color.{rgba}
-use Rattle.value_parser.specs.HexColor.{color_of_digits, hex_color, pair}
+use Rattle.value_model.specs.HexColor.{color_of_digits, hex_color, pair}
 
--- the number of the two digits at a place
+-- the number of the two digits at an index
 abbrev pub pair_at : List ℕ → ℕ → ℕ
 pair_at bs i = pair (digit_value (get_or bs i 0)) (digit_value (get_or bs (i + 1) 0))
 

@@ -1,3 +1,1 @@
-pub mod HexColor
-pub mod Accepts
-pub mod Readings
+pub mod View

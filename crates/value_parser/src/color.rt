@@ -1,25 +1,40 @@
 //! Colours (css-color-4, sections 4 to 6).
 
-ghost use Rattle.value_parser.specs.Accepts.{IsColor};
-ghost use Rattle.value_parser.specs.Readings.{IsExactly};
+ghost use Rattle.std.specs.Prelude.{◌≡◌, option_map};
+ghost use Rattle.property_table.specs.View.{color_of, value_of};
+ghost use Rattle.sheet_model.specs.ValueIn.{color_in, hex_color_in, named_color_in};
 
 use crate::hex::hex_color;
+use crate::keyword::keyword_of;
 use crate::named::named_color;
-use crate::word::is_keyword;
-use css_tokens::{Kind, Token, name_of};
-use property_table::{Keyword, Value};
+use crate::one_token::{hash_of, ident_of};
+use css_tokens::Token;
+use property_table::{Color, Keyword, Value};
 
-/// The colour that the token is.
-pub fn color_of_token(token: &Token) -> Option<Value>
-    ensures { IsExactly (IsColor token.now) result }
+/// The colour that the tokens are.
+pub fn color_of(tokens: &[Token]) -> Option<Value>
+    ensures { option_map value_of result ≡ color_in tokens.now }
 {
-    if is_keyword(token, Keyword::CurrentColor) {
-        return Some(Value::Keyword(Keyword::CurrentColor));
+    if let Some(current) = keyword_of(Keyword::CurrentColor, tokens) {
+        return Some(current);
     }
-    let color = match token.kind() {
-        Kind::Ident => named_color(name_of(token).as_str())?,
-        Kind::Hash { .. } => hex_color(name_of(token).as_str())?,
-        _ => return None,
+    let color = match hex_color_of(tokens) {
+        Some(color) => color,
+        None => named_color_of(tokens)?,
     };
     Some(Value::Color(color))
+}
+
+// The colour in hexadecimal.
+fn hex_color_of(tokens: &[Token]) -> Option<Color>
+    ensures { option_map color_of result ≡ hex_color_in tokens.now }
+{
+    hex_color(hash_of(tokens)?.as_str())
+}
+
+// The colour by its name.
+fn named_color_of(tokens: &[Token]) -> Option<Color>
+    ensures { option_map color_of result ≡ named_color_in tokens.now }
+{
+    named_color(ident_of(tokens)?.as_str())
 }

@@ -5,12 +5,12 @@ ghost use Rattle.std.specs.Char.{digit_value, is_ascii_hexdigit};
 ghost use Rattle.std.specs.List.{AllPass, list_all};
 ghost use Rattle.std.specs.Str.{chars};
 ghost use Rattle.value_model.specs.Color.{opaque};
-ghost use Rattle.property_table.specs.Colors.{color_of};
-ghost use Rattle.value_parser.specs.HexColor.{doubled, hex_color, pair};
+ghost use Rattle.property_table.specs.View.{color_of};
+ghost use Rattle.value_model.specs.HexColor.{doubled, hex_color, pair};
 
 use property_table::Color;
 
-/// The colour of the digits behind a `#`.
+/// The colour of the digits after a `#`.
 pub fn hex_color(text: &str) -> Option<Color>
     ensures { option_map color_of result ≡ hex_color (chars text.now) }
 {

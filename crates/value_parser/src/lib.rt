@@ -7,11 +7,9 @@
 
 mod color;
 mod hex;
-pub mod laws;
+mod keyword;
 mod named;
-mod reading;
-#[cfg(test)]
-mod tests;
-mod word;
+mod one_token;
+mod property_value;
 
-pub use reading::value;
+pub use property_value::value;

@@ -1,11 +1,11 @@
 //! Colours by name (css-color-4, sections 6.1 and 6.3).
 
-ghost use Rattle.std.specs.Prelude.{◌≡◌, MatchOption, map};
+ghost use Rattle.std.specs.Prelude.{◌≡◌, find, map, option_map};
 ghost use Rattle.std.specs.Str.{chars};
-ghost use Rattle.value_model.specs.Color as model;
+ghost use Rattle.base_model.specs.Text.{is_word};
 ghost use Rattle.value_model.specs.Color.{named_colors};
-ghost use Rattle.property_table.specs.Colors.{color_of};
-ghost use Rattle.value_parser.specs.Readings.{IsNameOf, named_seen};
+ghost use Rattle.property_table.specs.View.{color_of};
+ghost use Rattle.value_parser.specs.View.{named_seen};
 
 use property_table::Color;
 use stylo_base::eq_ascii_case;
@@ -53,11 +53,10 @@ static NAMED: [Named; 18] = [
     named!("yellow", 255, 255, 0, 255),
 ];
 
-/// The colour of that name, ASCII case aside.
+/// The colour of that name, ignoring ASCII case.
 pub fn named_color(text: &str) -> Option<Color>
-    ensures { MatchOption result
-        ((c : model.Color) → ¬ IsNameOf (chars text.now) c)
-        (λ c. IsNameOf (chars text.now) (color_of c)) }
+    ensures { option_map color_of result ≡ option_map (λ row. row.color)
+        (find (λ row. is_word row.name (chars text.now)) named_colors) }
 {
     for row in all_named() {
         if eq_ascii_case(text, row.name) {

@@ -1,5 +1,5 @@
 use Rattle.std.proofs.Common.{◌∙◌, ap}
-use Rattle.value_parser.specs.HexColor.{hex_color}
+use Rattle.value_model.specs.HexColor.{hex_color}
 use Rattle.value_parser.proofs.HexLemmas.{hex_color-chars}
 use Rattle.value_parser.proofs.hex.hex_color.Goals as goal
 

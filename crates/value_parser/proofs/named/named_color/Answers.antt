@@ -1,15 +1,20 @@
-use Rattle.std.proofs.Common.{refl, arith}
+use Rattle.std.proofs.Common.{option_map, true, false, ap, sym, ◌∙◌}
 use Rattle.std.specs.Str.{chars}
-use Rattle.std.proofs.lemmas.List.Elements.{Contains-get_or}
-use Rattle.value_parser.proofs.NameLemmas.{name_found, no_name}
+use Rattle.value_model.specs.Color.{NamedColor}
+use Rattle.value_parser.proofs.TableLemmas.{named_row, named_end}
 use Rattle.value_parser.proofs.named.named_color.Goals as goal
+
+pub loop-row-preserved : goal.loop-row-preserved
+loop-row-preserved c =
+    c.loop-row.invariant
+    ∙ named_row _ (chars c.args.text.now) c.loop-row.row-index _ false c.all_named-row-items.ensures c.loop-row-test.true c.if-eq_ascii_case.ensures.value
 
 pub returns-then-eq_ascii_case : goal.returns-then-eq_ascii_case
 returns-then-eq_ascii_case c =
-    let rows = c.all_named-row-items in
-    name_found rows.result.now _ (chars c.args.text.now) rows.ensures (Contains-get_or rows.result.now c.loop-row.row-index _ c.loop-row-test.true) (c.if-eq_ascii_case.ensures.same.0 refl)
+    sym (ap (option_map (λ (row : NamedColor). row.color)) (c.loop-row.invariant
+    ∙ named_row _ (chars c.args.text.now) c.loop-row.row-index _ true c.all_named-row-items.ensures c.loop-row-test.true c.if-eq_ascii_case.ensures.value))
 
 pub returns : goal.returns
 returns c =
-    let rows = c.all_named-row-items in
-    λ color. no_name rows.result.now (chars c.args.text.now) color rows.ensures (λ k within. c.loop-row.invariant k (omega arith))
+    sym (ap (option_map (λ (row : NamedColor). row.color)) (c.loop-row.invariant
+    ∙ named_end _ (chars c.args.text.now) c.loop-row.row-index c.all_named-row-items.ensures c.loop-row-test.false))

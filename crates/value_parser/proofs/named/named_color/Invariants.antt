@@ -1,10 +1,7 @@
-use Rattle.std.proofs.Common.{◌≢◌, ℕ, ◌<◌, get_or}
+use Rattle.std.proofs.Common.{◌≡◌}
 use Rattle.std.specs.Str.{chars}
-use Rattle.stylo_base.specs.AsciiCase.{ascii_lower}
-use Rattle.value_parser.specs.declared.named.Named.{Named}
+use Rattle.value_parser.proofs.TableLemmas.{named_from}
 use Rattle.value_parser.proofs.named.named_color.Given as goal
 
--- the text is none of the names so far
 abbrev pub invariant-loop-row : goal.invariant-loop-row
-invariant-loop-row l =
-    (k : ℕ) → k < l.row-index → (d : Named) → ascii_lower (chars l.text) ≢ ascii_lower (chars (get_or l.row-items k d).name.now)
+invariant-loop-row l = named_from (chars l.text) 0 ≡ named_from (chars l.text) l.row-index

@@ -1,0 +1,42 @@
+//! The value of a property.
+
+ghost use Rattle.std.specs.Prelude.{◌≡◌, map, option_map};
+ghost use Rattle.base_model.specs.Lists.{first_some};
+ghost use Rattle.property_table.specs.View.{form_of, property_of, value_of};
+ghost use Rattle.sheet_model.specs.ValueIn.{value_by, value_in};
+
+use crate::color::color_of;
+use crate::keyword::keyword_of;
+use css_tokens::Token;
+use property_table::{PropId, Row, Value, ValueForm};
+
+/// Reads the tokens as a value of the property, if it takes one that they are. Whitespace at an end
+/// is of no value. It takes no memory.
+pub fn value(id: PropId, tokens: &[Token]) -> Option<Value>
+    ensures { option_map value_of result ≡ value_in (property_of id) tokens.now }
+{
+    first_value(Row::of(id).forms, tokens)
+}
+
+// The value that the tokens are in the first of the forms that takes them.
+fn first_value(forms: &[ValueForm], tokens: &[Token]) -> Option<Value>
+    ensures { option_map value_of result
+        ≡ first_some (λ form. value_by form tokens.now) (map form_of forms.now) }
+{
+    for form in forms {
+        if let Some(value) = value_by(*form, tokens) {
+            return Some(value);
+        }
+    }
+    None
+}
+
+// The value that the tokens are in the form.
+fn value_by(form: ValueForm, tokens: &[Token]) -> Option<Value>
+    ensures { option_map value_of result ≡ value_by (form_of form) tokens.now }
+{
+    match form {
+        ValueForm::Word(word) => keyword_of(word, tokens),
+        ValueForm::AnyColor => color_of(tokens),
+    }
+}
