@@ -1,3 +1,4 @@
 pub mod TokensLemmas
 pub mod OutsideLemmas
 pub mod DeclarationsLemmas
+pub mod RulesLemmas
