@@ -37,9 +37,8 @@ enough (suc n) (suc m) (t ∷ tokens) h k =
     cond_both test (declarations_from n tokens) (one ++ declarations_from n rest) P
     (λ skipped. enough n m tokens (omega (arith, h)) (omega (arith, k)) ∙ sym (cond-true test _ _ skipped))
     (λ other.
-      let less : length rest ≤ length tokens = left_shorter t tokens other in
-      ap (λ ds. one ++ ds) (enough n m rest (omega (arith, less, h)) (omega (arith, less, k))) ∙ sym (cond-false test _ _ other))
-
+    let less : length rest ≤ length tokens = left_shorter t tokens other in
+    ap (λ ds. one ++ ds) (enough n m rest (omega (arith, less, h)) (omega (arith, less, k))) ∙ sym (cond-false test _ _ other))
 
 -- whitespace and semicolons are skipped
 pub skip_one : (token : Token) (tokens : List Token) → is_between token.kind ≡ true → declarations_in (token ∷ tokens) ≡ declarations_in tokens

@@ -2,3 +2,4 @@ pub mod TokensLemmas
 pub mod OutsideLemmas
 pub mod DeclarationsLemmas
 pub mod RulesLemmas
+pub mod Examples

@@ -107,14 +107,14 @@ mutual
       let P : List Rule → Type 0 = λ rs. SheetRules (prelude ++ t ∷ left) rs in
       cond_both (is_nil prelude && is_white t.kind) _ _ P
       (λ skips.
-        let none : prelude ≡ [] = nil_from_test prelude (and_parts _ _ skips).0 in
-        rw none (skip_white t left _ (and_parts (is_nil prelude) _ skips).1 (cut_in_prelude left [] [] no_prelude)))
+      let none : prelude ≡ [] = nil_from_test prelude (and_parts _ _ skips).0 in
+      rw none (skip_white t left _ (and_parts (is_nil prelude) _ skips).1 (cut_in_prelude left [] [] no_prelude)))
       (λ no_skip. cond_both (is_nil pending && is_open_curly t.kind) _ _ P
-        (λ opens.
-          let closed : pending ≡ [] = nil_from_test pending (and_parts _ _ opens).0 in
-          let part' : IsPrelude prelude [] = rw closed at part in
-          cut_in_block left prelude t [] (curly ∷ []) (record { part = part'; opens = opener_from_test t.kind (and_parts (is_nil pending) _ opens).1; stays = tt; brackets = refl }))
-        (λ no_open. rw (← append_assoc prelude (t ∷ []) left) (cut_in_prelude left (prelude ++ t ∷ []) (open_past pending t) (one_more prelude pending t part no_skip no_open))))
+      (λ opens.
+      let closed : pending ≡ [] = nil_from_test pending (and_parts _ _ opens).0 in
+      let part' : IsPrelude prelude [] = rw closed at part in
+      cut_in_block left prelude t [] (curly ∷ []) (record { part = part'; opens = opener_from_test t.kind (and_parts (is_nil pending) _ opens).1; stays = tt; brackets = refl }))
+      (λ no_open. rw (← append_assoc prelude (t ∷ []) left) (cut_in_prelude left (prelude ++ t ∷ []) (open_past pending t) (one_more prelude pending t part no_skip no_open))))
 
   cut_in_block : (left prelude : List Token) (opener : Token) (block : List Token) (pending : List Bracket) → IsBlock prelude opener block pending → SheetRules (prelude ++ opener ∷ (block ++ left)) (in_block prelude block pending left)
   cut_in_block [] prelude opener block pending at =
@@ -122,15 +122,15 @@ mutual
   cut_in_block (t ∷ left) prelude opener block pending at =
       cond_both (is_nil (open_past pending t)) _ _ (λ rs. SheetRules (prelude ++ opener ∷ (block ++ t ∷ left)) rs)
       (λ closes.
-        keep _ prelude opener block t left _ (begins-rule prelude opener (block ++ t ∷ left) at.part.begins at.opens) refl at.part.avoids (sym at.part.brackets) at.opens at.stays (ap (λ p. open_past p t) (sym at.brackets) ∙ nil_from_test _ closes) (cut_in_prelude left [] [] no_prelude))
+      keep _ prelude opener block t left _ (begins-rule prelude opener (block ++ t ∷ left) at.part.begins at.opens) refl at.part.avoids (sym at.part.brackets) at.opens at.stays (ap (λ p. open_past p t) (sym at.brackets) ∙ nil_from_test _ closes) (cut_in_prelude left [] [] no_prelude))
       (λ still.
-        let stays : open_past (open_after (curly ∷ []) block) t ≢ [] = λ e. cc (ap is_nil (ap (λ p. open_past p t) at.brackets ∙ e)) in
-        rw (← append_assoc block (t ∷ []) left) (cut_in_block left prelude opener (block ++ t ∷ []) (open_past pending t) (record {
-          part = at.part;
-          opens = at.opens;
-          stays = stays-push (curly ∷ []) block t at.stays stays;
-          brackets = ap (λ p. open_past p t) at.brackets ∙ sym (open_after-push (curly ∷ []) block t);
-        })))
+      let stays : open_past (open_after (curly ∷ []) block) t ≢ [] = λ e. cc (ap is_nil (ap (λ p. open_past p t) at.brackets ∙ e)) in
+      rw (← append_assoc block (t ∷ []) left) (cut_in_block left prelude opener (block ++ t ∷ []) (open_past pending t) (record {
+        part = at.part;
+        opens = at.opens;
+        stays = stays-push (curly ∷ []) block t at.stays stays;
+        brackets = ap (λ p. open_past p t) at.brackets ∙ sym (open_after-push (curly ∷ []) block t);
+      })))
 
 pub rules_as : (tokens : List Token) (rules : List Rule) → SheetRules tokens rules ↔ (rules ≡ rules_in tokens)
 unfolding rules_in
