@@ -4,6 +4,7 @@
 #![tactic(auto)]
 
 mod declarations;
+pub mod laws;
 mod rule;
 mod rule_parser;
 mod sheet;

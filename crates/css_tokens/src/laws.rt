@@ -1,10 +1,17 @@
 //! What is true of the tokens of a text, as the contracts of functions that do nothing.
 
-ghost use Rattle.std.specs.Prelude.{List};
+ghost use Rattle.std.specs.Prelude.{◌≡◌, ◌↔◌, List};
 ghost use Rattle.base_model.specs.Text.{Characters};
 ghost use Rattle.syntax_model.specs.Reading.{Reading};
 ghost use Rattle.syntax_model.specs.Token as model;
+ghost use Rattle.syntax_model.specs.TokensIn.{tokens_in};
 ghost use Rattle.css_tokens.specs.Spans.{FillInOrder};
+
+/// A text reads as its tokens, and as no others.
+pub fn reads_as()
+    ensures { (text : Characters) (tokens : List model.Token)
+        → Reading text tokens ↔ (tokens ≡ tokens_in text) }
+{}
 
 /// The texts of the tokens of a reading follow one another in the text, and fill it.
 pub fn in_order()

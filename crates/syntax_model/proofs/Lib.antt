@@ -1,3 +1,5 @@
 pub mod TokensLemmas
 pub mod OutsideLemmas
 pub mod DeclarationsLemmas
+pub mod RulesLemmas
+pub mod Examples

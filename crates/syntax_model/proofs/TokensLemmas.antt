@@ -1,12 +1,13 @@
 -- The tokens of a text: that it reads as these and no others.
-use Rattle.std.proofs.Common.{◌≡◌, ℕ, zero, suc, ◌+◌, ◌<◌, ◌≤◌, Bool, true, eqb, ◌&&◌, [], ◌∷◌, length, take, drop, refl, ap, arith, inl, inr, length-drop}
+use Rattle.std.proofs.Common.{◌≡◌, ℕ, zero, suc, ◌+◌, ◌<◌, ◌≤◌, Bool, true, eqb, ◌&&◌, ◌↔◌, List, [], ◌∷◌, ◌++◌, length, take, drop, refl, sym, ap, ◌∙◌, arith, inl, inr, take-append-drop, length-drop}
 use Rattle.std.specs.List.{prefix_len}
 use Rattle.std.proofs.Math.Numerals.{one-add}
-use Rattle.std.proofs.lemmas.Bool.{cond_both, cond-true, and_parts, or_cases, or_left, or_right, eqb-true}
+use Rattle.std.proofs.lemmas.Bool.{cond_both, cond-true, cond-false, and_parts, or_cases, or_left, or_right, eqb-true}
+use Rattle.std.proofs.lemmas.List.{drop_at, length-append, length-take-le, take_at}
 use Rattle.base_model.specs.Text.{Characters}
-use Rattle.syntax_model.specs.Token.{Kind, ident, hash, whitespace, delim, comma, colon, semicolon, open_round, close_round, open_square, close_square, open_curly, close_curly}
-use Rattle.syntax_model.specs.Reading.{IsPiece, IsRun, begins, is_blank, is_digit, is_name_char, is_name_start, kind_at, mark_kind, starts_ident, token_of}
-use Rattle.syntax_model.specs.TokensIn.{piece_length, tokens_from}
+use Rattle.syntax_model.specs.Token.{Token, Kind, ident, hash, whitespace, delim, comma, colon, semicolon, open_round, close_round, open_square, close_square, open_curly, close_curly}
+use Rattle.syntax_model.specs.Reading.{IsPiece, IsRun, Reads, Reading, begins, is_blank, is_digit, is_name_char, is_name_start, kind_at, mark_kind, nothing_left, starts_ident, take_piece, token_of}
+use Rattle.syntax_model.specs.TokensIn.{piece_length, tokens_from, tokens_in}
 
 -- one more character that passes, before a run
 run_more : (p : ℕ → Bool) (c : ℕ) (cs : Characters) (n : ℕ) → p c ≡ true → IsRun p (take n cs) (drop n cs) → IsRun p (take (1 + n) (c ∷ cs)) (drop (1 + n) (c ∷ cs))
@@ -111,3 +112,59 @@ tokens_more start (c ∷ cs) some =
     let taken : ℕ = piece_length (kind_at (c ∷ cs)) (c ∷ cs) in
     let first : 0 < taken = (first_is c cs).some in
     ap (λ ts. token_of start (kind_at (c ∷ cs)) (take taken (c ∷ cs)) ∷ ts) (enough _ _ (start + taken) (drop taken (c ∷ cs)) (omega (arith, first, length-drop taken (c ∷ cs))) (omega arith))
+
+-- a text reads as its tokens
+reads_from : (n start : ℕ) (text : Characters) → length text ≤ n → Reads start text (tokens_from n start text)
+reads_from zero start [] h = nothing_left start
+reads_from zero start (c ∷ cs) h = absurd (omega (arith, h))
+reads_from (suc n) start [] h = nothing_left start
+reads_from (suc n) start (c ∷ cs) h =
+    let kind : Kind = kind_at (c ∷ cs) in
+    let taken : ℕ = piece_length kind (c ∷ cs) in
+    let first : IsFirst (c ∷ cs) kind taken = first_is c cs in
+    let size : length (take taken (c ∷ cs)) ≡ taken = length-take-le taken (c ∷ cs) first.inside in
+    let rest : Reads (start + taken) (drop taken (c ∷ cs)) (tokens_from n (start + taken) (drop taken (c ∷ cs))) =
+    reads_from n (start + taken) (drop taken (c ∷ cs)) (omega (arith, first.some, h, length-drop taken (c ∷ cs))) in
+    take_piece start (c ∷ cs) (take taken (c ∷ cs)) (drop taken (c ∷ cs)) _ (λ e. absurd (omega (arith, first.some, size, ap length e))) (sym (take-append-drop taken (c ∷ cs))) first.piece (rw size rest)
+
+pub tokens_read : (text : Characters) → Reading text (tokens_in text)
+unfolding tokens_in
+tokens_read text = reads_from (length text) 0 text (omega arith)
+
+-- a run is as long as can be
+run_length : (p : ℕ → Bool) (run rest : Characters) → IsRun p run rest → prefix_len p (run ++ rest) ≡ length run
+run_length p [] [] run = refl
+run_length p [] (c ∷ rest) run = cond-false (p c) _ _ run.stops
+run_length p (c ∷ cs) rest run =
+    let more : prefix_len p (cs ++ rest) ≡ length cs = run_length p cs rest (record { all = run.all.1; stops = run.stops }) in
+    cond-true (p c) _ _ run.all.0 ∙ omega (arith, more)
+
+-- so is the text of a token
+one_length : (piece : Characters) → length piece ≡ 1 → 1 ≡ length piece
+one_length piece e = sym e
+
+length_is : (kind : Kind) (piece rest : Characters) → IsPiece kind piece rest → piece_length kind (piece ++ rest) ≡ length piece
+length_is whitespace piece rest is = run_length is_blank piece rest is
+length_is ident piece rest is = run_length is_name_char piece rest is
+length_is (hash is_id) [] rest is = absurd is
+length_is (hash is_id) (c ∷ name) rest is =
+    let more : prefix_len is_name_char (name ++ rest) ≡ length name = run_length is_name_char name rest is.1 in
+    omega (arith, more)
+length_is kind piece rest is = one_length piece is
+
+-- and as no others
+tokens_are : {start : ℕ} {text : Characters} {tokens : List Token} → Reads start text tokens → tokens ≡ tokens_from (length text) start text
+tokens_are (nothing_left start) = refl
+tokens_are (take_piece start text [] rest tokens some is piece reads) = absurd (some refl)
+tokens_are (take_piece start text (c ∷ cs) rest tokens some is piece reads) =
+    let n : ℕ = piece_length (kind_at text) text in
+    let size : n ≡ length (c ∷ cs) = ap (piece_length (kind_at text)) is ∙ length_is (kind_at text) (c ∷ cs) rest piece in
+    let full : 0 < length text = omega (arith, ap length is, length-append (c ∷ cs) rest) in
+    let first : take n text ≡ c ∷ cs = ap (take n) is ∙ take_at (c ∷ cs) rest n (sym size) in
+    let left : drop n text ≡ rest = ap (drop n) is ∙ drop_at (c ∷ cs) rest n (sym size) in
+    let more : tokens ≡ tokens_from (length (drop n text)) (start + n) (drop n text) = rw (left, size) (tokens_are reads) in
+    sym (tokens_more start text full ∙ (ap (λ xs. token_of start (kind_at text) xs ∷ tokens_from (length (drop n text)) (start + n) (drop n text)) first ∙ ap (λ ts. token_of start (kind_at text) (c ∷ cs) ∷ ts) (sym more)))
+
+pub reads_as : (text : Characters) (tokens : List Token) → Reading text tokens ↔ (tokens ≡ tokens_in text)
+unfolding tokens_in
+reads_as text tokens = ((λ reads. tokens_are reads), (λ e. rw e (tokens_read text)))

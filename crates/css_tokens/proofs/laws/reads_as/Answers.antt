@@ -1,0 +1,5 @@
+use Rattle.syntax_model.proofs.TokensLemmas.{reads_as}
+use Rattle.css_tokens.proofs.laws.reads_as.Goals as goal
+
+pub returns : goal.returns
+returns c = λ text tokens. reads_as text tokens
