@@ -1,19 +1,18 @@
 -- One rule, one declaration and one sheet more.
-use Rattle.std.proofs.Common.{◌≡◌, ℕ, ◌+◌, Bool, true, false, List, [], ◌∷◌, ◌++◌, length, map, filter, Option, Some, None, refl, sym, ap, ◌∙◌, arith, append_assoc, append-nil}
-use Rattle.std.specs.Prelude.{Vec, flat_map, filter_map, option_map, option_to_list}
+use Rattle.std.proofs.Common.{◌≡◌, ℕ, ◌+◌, Bool, true, false, List, [], ◌∷◌, ◌++◌, length, map, filter, Some, None, refl, sym, ap, ◌∙◌, arith, append_assoc, append-nil}
+use Rattle.std.specs.Prelude.{Vec, flat_map, filter_map}
 use Rattle.std.specs.declared.alloc.Global.{Global}
 use Rattle.base_model.specs.Sheet.{Sheet}
 use Rattle.syntax_model.specs.Rules.{Rule}
 use Rattle.selector_model.specs.Selector as selectors
 use Rattle.sheet_model.specs.SelectorsIn.{selectors_in}
+use Rattle.sheet_model.specs.Declared as model
 use Rattle.sheet_model.specs.Declared.{block_declared}
-use Rattle.sheet_model.specs.StyleRules.{StyleRule, style_rule_in}
+use Rattle.sheet_model.specs.StyleRules.{style_rule_in, style_rules_in}
 use Rattle.sheet_model.specs.Sources.{PlacedRule, placed, all_placed, rules_from}
 use Rattle.layer_order.specs.View.{origin_of}
-use Rattle.layer_order.specs.declared.origin.Origin.{Origin}
 use Rattle.selector_types.specs.declared.selector.Selector.{Selector}
 use Rattle.selector_types.specs.View.{selector_of}
-use Rattle.sheet_set.specs.declared.declared.Declared.{Declared}
 use Rattle.sheet_set.specs.declared.sheet_rule.SheetRule.{SheetRule}
 use Rattle.sheet_set.specs.View.{declared_of, rule_of, rules_with}
 
@@ -32,6 +31,10 @@ rules_with-last [] (l ∷ lists) rule list same = absurd (omega (arith, same))
 rules_with-last (r ∷ rules) [] rule list same = absurd (omega (arith, same))
 rules_with-last (r ∷ rules) (l ∷ lists) rule list same =
     ap (λ rest. rule_of r l.items ∷ rest) (rules_with-last rules lists rule list (omega (arith, same)))
+
+pub rule_is : (rule : SheetRule) (list : List Selector) (kept : List model.Declared) (sheet : Sheet) (position index : ℕ) → map declared_of rule.declarations.items ≡ kept → origin_of rule.origin ≡ sheet.origin
+    → rule.sheet ≡ sheet.number → rule.position ≡ position → rule.first_index ≡ index → rule_of rule list ≡ placed sheet position index (record { selectors = map selector_of list; declarations = kept })
+rule_is rule list kept sheet position index d o n p i = cc
 
 -- the rules that are collected, and those that are left of a sheet, are the whole
 module _ (sheet : Sheet) (position : ℕ) (whole : List PlacedRule) where
@@ -52,13 +55,20 @@ module _ (sheet : Sheet) (position : ℕ) (whole : List PlacedRule) where
   pub rules_done : (found : List PlacedRule) (index : ℕ) (left : List Rule) → left ≡ [] → Completes found index left → found ≡ whole
   rules_done found index left none before = sym (append-nil found) ∙ (rw none at before)
 
+-- the rules that were there, and all of a sheet
+abbrev pub collected : Sheet → ℕ → List PlacedRule → List Rule → List PlacedRule
+collected sheet position found rules = found ++ all_placed sheet position 0 (filter_map style_rule_in rules)
+
 -- and so of the enabled sheets
 abbrev pub is_enabled : Sheet → Bool
 is_enabled sheet = sheet.enabled
 
-pub sheet_enabled : (whole found new : List PlacedRule) (position next : ℕ) (sheet : Sheet) (left : List Sheet) (own : List PlacedRule) → sheet.enabled ≡ true
-    → own ≡ rules_from position (sheet ∷ []) → new ≡ found ++ own → next ≡ position + 1 → found ++ rules_from position (filter is_enabled (sheet ∷ left)) ≡ whole → new ++ rules_from next (filter is_enabled left) ≡ whole
-sheet_enabled whole found new position next sheet left own on gives added n before = ?
+pub sheet_enabled : (whole found new : List PlacedRule) (position next : ℕ) (sheet : Sheet) (left : List Sheet) → sheet.enabled ≡ true
+    → new ≡ found ++ all_placed sheet position 0 (style_rules_in sheet.text) → next ≡ position + 1 → found ++ rules_from position (filter is_enabled (sheet ∷ left)) ≡ whole → new ++ rules_from next (filter is_enabled left) ≡ whole
+sheet_enabled whole found new position next sheet left on added n before =
+    let own = all_placed sheet position 0 (style_rules_in sheet.text) in
+    let rest = filter is_enabled left in
+    ap (λ l. l ++ rules_from next rest) added ∙ append_assoc found own (rules_from next rest) ∙ ap (λ k. found ++ (own ++ rules_from k rest)) n ∙ (rw on at before)
 
 pub sheet_disabled : (whole found : List PlacedRule) (position : ℕ) (sheet : Sheet) (left : List Sheet) → sheet.enabled ≡ false
     → found ++ rules_from position (filter is_enabled (sheet ∷ left)) ≡ whole → found ++ rules_from position (filter is_enabled left) ≡ whole

@@ -19,7 +19,7 @@ pub struct Declared {
 
 /// What a declaration declares. None: its name is of no property, or the property does not take its
 /// value.
-pub fn declared(declaration: &RawDecl) -> Option<Declared>
+pub fn declared_by(declaration: &RawDecl) -> Option<Declared>
     ensures { option_map declared_of result ≡ declared_by (declaration_of declaration.now) }
 {
     let property = by_name(declaration.name.as_str())?;

@@ -5,7 +5,7 @@ ghost use Rattle.sheet_model.specs.Declared.{block_declared};
 ghost use Rattle.sheet_set.specs.View.{declared_of};
 
 use crate::Declared;
-use crate::declared::declared;
+use crate::declared::declared_by;
 use css_rules::declaration_list;
 use css_tokens::Token;
 use std::alloc::Global;
@@ -18,7 +18,7 @@ pub fn parse_block(alloc: Global, block: &[Token]) -> Result<Vec<Declared>, NoMe
     let declarations = declaration_list(alloc, block)?;
     let mut kept = Vec::new(alloc);
     for declaration in &declarations {
-        if let Some(one) = declared(declaration) {
+        if let Some(one) = declared_by(declaration) {
             kept.push(one)?;
         }
     }
