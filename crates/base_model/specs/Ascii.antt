@@ -86,6 +86,6 @@ delete = 127
 abbrev pub first_beyond_ascii : ℕ
 first_beyond_ascii = 128
 
--- U+FFFD, which is put for what is no character
+-- U+FFFD, which replaces what is no character
 abbrev pub replacement_character : ℕ
 replacement_character = 65533

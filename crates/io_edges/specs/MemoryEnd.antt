@@ -5,7 +5,8 @@ use Rattle.io_edges.specs.declared.source.Failed.{Failed}
 use Rattle.io_edges.specs.declared.sink.SinkRefused.{SinkRefused}
 use Rattle.io_edges.specs.declared.sink.SinkRefused.TheVariants.{Failed as write_failed, NoMemory}
 
--- the bytes that a source has left or a sink holds, the numbers of the calls that fail, and how many calls and faults there were
+-- The bytes that a source has left or a sink holds, the numbers of the calls that fail, and how many calls and faults
+-- there were.
 pub record MemoryEnd : Type 0 where
   pub bytes : List ℕ
   pub fails : List ℕ
@@ -29,7 +30,7 @@ abbrev pub after_read : MemoryEnd → Result ℕ Failed → MemoryEnd
 after_read memory (Ok n) = called memory (drop n memory.bytes)
 after_read memory (Err e) = faulted memory
 
--- a sink after a write: a fault, want of memory, or the bytes that were taken stand at the end
+-- a sink after a write: a fault, out of memory, or the bytes that were taken are at the end
 abbrev pub after_write : MemoryEnd → List ℕ → Result ℕ SinkRefused → MemoryEnd
 after_write memory piece (Ok n) = called memory (memory.bytes ++ take n piece)
 after_write memory piece (Err write_failed) = faulted memory

@@ -10,8 +10,6 @@ mod sink;
 mod source;
 mod std_sink;
 mod std_source;
-#[cfg(test)]
-mod tests;
 
 pub use memory_sink::MemorySink;
 pub use memory_source::MemorySource;

@@ -1,4 +1,4 @@
--- In a subtree each parent stands before its children.
+-- In a subtree each parent is before its children.
 use Rattle.std.proofs.Common.{◌≡◌, ℕ, zero, suc, ◌+◌, ◌<◌, ◌==◌, ◌⊎◌, nat_eq, List, [], ◌∷◌, ◌++◌, flat_map, Bool, true, false, cond, not, ◌||◌, Some, None, refl, sym, ap, subst, ◌∙◌, inl, inr, arith}
 use Rattle.std.specs.List.{AllByRecursion, IsDistinct, position_or_len}
 use Rattle.std.proofs.lemmas.Bool.{eqb-true}
@@ -10,7 +10,7 @@ use Rattle.scene_model.proofs.Lists.{each_weaker}
 use Rattle.scene_model.proofs.Numbers.{is_in, same_number}
 use Rattle.scene_model.proofs.Found.{each_child-parent}
 
--- each number's parent stands before it, or is among those seen
+-- each number's parent is before it, or is among those seen
 abbrev ParentsFirst : List Element → List ℕ → List ℕ → Type 0
 ParentsFirst es seen [] = Unit {0}
 ParentsFirst es seen (y ∷ ys) = ((p : ℕ) → parent_of es y ≡ Some p → is_in p seen ≡ true) × ParentsFirst es (y ∷ seen) ys
@@ -44,7 +44,7 @@ first_in_subtree es seen zero x d h = tt
 first_in_subtree es seen (suc l) x d h =
     (h, first-flat_map es (x ∷ seen) (children es x) (subtree es l) (each_weaker (λ y. parent_of es y ≡ Some x) (λ y. ParentsFirst es (x ∷ seen) (subtree es l y)) (λ y e. first_in_subtree es (x ∷ seen) l y d (λ p f. just_seen x p seen (same_Some x p (sym e ∙ f)))) (children es x) (each_child-parent es x d)))
 
--- where a number first stands
+-- where a number is first
 abbrev pub place_in : List ℕ → ℕ → ℕ
 place_in xs x = position_or_len (λ y. y == x) xs
 
@@ -61,7 +61,7 @@ before_or_seen : (es : List Element) (seen xs : List ℕ) (x p : ℕ) → Parent
 before_or_seen es seen [] x p d h e = absurd (cc)
 before_or_seen es seen (y ∷ ys) x p d h e = step es x p y seen ys (y == x) refl d.0 e h (λ k. before_or_seen es (y ∷ seen) ys x p d.1 k e)
 
--- below a top with no parent each parent stands before its child
+-- below a top with no parent each parent is before its child
 pub parent_placed : (es : List Element) (l x y p : ℕ) → IsDistinct nat_eq (numbers es) → parent_of es x ≡ None → is_in y (subtree es l x) ≡ true → parent_of es y ≡ Some p → place_in (subtree es l x) p < place_in (subtree es l x) y
 parent_placed es l x y p d n h e = settled (before_or_seen es [] (subtree es l x) y p (first_in_subtree es [] l x d (λ q f. absurd (none-some q (sym n ∙ f)))) h e)
   where

@@ -1,4 +1,4 @@
--- Laws of a list of nodes as elements: each has the number of its place, from 1, and each parent is before its child.
+-- Laws of a list of nodes as elements: each has the number of its index and 1, and each parent is before its child.
 use Rattle.std.proofs.Common.{◌≡◌, ◌≢◌, ℕ, zero, suc, ◌+◌, ◌-◌, ◌<◌, ◌≤◌, ◌==◌, nat_eq, List, [], ◌∷◌, ◌++◌, filter, length, take, drop, Decides, false, Option, Some, None, All, option_map, option_and_then, slice_get, refl, sym, ap, subst, subst₂, ◌∙◌, arith}
 use Rattle.std.specs.List.{AllByRecursion, IsDistinct, range_with_len}
 use Rattle.std.specs.List.Sorted.{IsStrictlyIncreasing}
@@ -17,7 +17,7 @@ use Rattle.scene_model.proofs.Lists.{each_weaker, each-filter, split_at}
 use Rattle.scene_model.proofs.Numbers.{is_in, each-range, distinct-range, is_in-range, each_is_in, differs, left_of_split}
 use Rattle.scene_model.proofs.Found.{hangs_on, hangs_on-parent, children-hangs, children-append, is_element-numbers, element_at_absent, parent_of-element}
 
--- the node at place k as an element
+-- the node at index k as an element
 abbrev pub numbered : ℕ → Node → Element
 numbered k node =
     record { number = k + 1; parent = option_map (λ p. p + 1) node.parent; tag = node.tag; attrs = node.attrs; states = node.states }
@@ -88,18 +88,18 @@ parent_of-listed nodes k node h = ap (option_and_then (λ e. e.parent)) (element
 parent_from : (j : ℕ) (nodes : List Node) (k : ℕ) (node : Node) (m : ℕ) → m ≡ j + k → HaveParentsFrom j nodes → slice_get nodes k ≡ Some node → IsParentAt m node.parent
 parent_from j [] k node m e h f = absurd (cc)
 parent_from j (n ∷ nodes) zero node m e h f =
-    let place : j ≡ m = omega arith in
+    let at : j ≡ m = omega arith in
     let one : n ≡ node = same_Some n node f in
-    subst₂ (λ i (x : Node). IsParentAt i x.parent) place one h.0
+    subst₂ (λ i (x : Node). IsParentAt i x.parent) at one h.0
 parent_from j (n ∷ nodes) (suc k) node m e h f = parent_from (j + 1) nodes k node m (omega arith) h.1 f
 
--- the parent of the node at a place
+-- the parent of the node at an index
 pub parent_at : (nodes : List Node) (k : ℕ) (node : Node) → IsNodeList nodes → slice_get nodes k ≡ Some node → IsParentAt k node.parent
 parent_at nodes k node v f = parent_from 0 nodes k node k (omega arith) v.parents f
 
--- the place of an element
-pub place-listed : (nodes : List Node) (x : ℕ) → IsElement (listed nodes) x → (k : ℕ) × (node : Node) × (k + 1 ≡ x) × (slice_get nodes k ≡ Some node)
-place-listed nodes x h =
+-- the index of an element's node
+pub index-listed : (nodes : List Node) (x : ℕ) → IsElement (listed nodes) x → (k : ℕ) × (node : Node) × (k + 1 ≡ x) × (slice_get nodes k ≡ Some node)
+index-listed nodes x h =
     let w = within-listed nodes x h in
     let within : x - 1 < length nodes = omega arith in
     let (node, f) = slice_get_some nodes (x - 1) within in
@@ -123,8 +123,8 @@ module _ (nodes : List Node) (v : IsNodeList nodes) where
   parent-below x q h =
       let is : IsElement (listed nodes) x = parent_of-element (listed nodes) x q h in
       let w = within-listed nodes x is in
-      let (k, node, place, f) = place-listed nodes x is in
-      let e : option_map (λ p. p + 1) node.parent ≡ Some q = sym (parent_of-listed nodes k node f) ∙ (ap (parent_of (listed nodes)) place ∙ h) in
+      let (k, node, same, f) = index-listed nodes x is in
+      let e : option_map (λ p. p + 1) node.parent ≡ Some q = sym (parent_of-listed nodes k node f) ∙ (ap (parent_of (listed nodes)) same ∙ h) in
       let below = above_child k q node.parent (parent_at nodes k node v f) e in
       (below.0, omega arith, w.1)
 
@@ -139,8 +139,8 @@ module _ (nodes : List Node) (v : IsNodeList nodes) where
 
   pub only_root-listed : (x : ℕ) → IsElement (listed nodes) x → parent_of (listed nodes) x ≡ None → x ≡ 1
   only_root-listed x is h =
-      let (k, node, place, f) = place-listed nodes x is in
-      let e : option_map (λ p. p + 1) node.parent ≡ None = sym (parent_of-listed nodes k node f) ∙ (ap (parent_of (listed nodes)) place ∙ h) in
+      let (k, node, same, f) = index-listed nodes x is in
+      let e : option_map (λ p. p + 1) node.parent ≡ None = sym (parent_of-listed nodes k node f) ∙ (ap (parent_of (listed nodes)) same ∙ h) in
       let first : k ≡ 0 = at_root k node.parent (parent_at nodes k node v f) e in
       omega arith
 
@@ -212,13 +212,13 @@ module _ (nodes : List Node) (node : Node) where
   children_push_root p h =
       not_last p (ap (λ o. option_map_or (λ r. r == p) (option_map (λ r. r + 1) o) false) h)
 
--- the place among the children of its parent
+-- the sibling index
 
 pub each_child-within : (nodes : List Node) (p : ℕ) → AllByRecursion (λ y. (0 < y) × (y ≤ length nodes)) (children (listed nodes) p)
 each_child-within nodes p =
     subst (AllByRecursion (λ y. (0 < y) × (y ≤ length nodes))) (sym (children-hangs (listed nodes) p (distinct-listed nodes))) (each-filter (λ y. (0 < y) × (y ≤ length nodes)) (λ y. (0 < y) × (y ≤ length nodes)) (hangs_on (listed nodes) p) (λ y _ h. h) (numbers (listed nodes)) (each_number-listed nodes))
 
--- the children are those before it, itself and those behind it
+-- the children are those before it, itself and those after it
 children_split : (nodes : List Node) (k : ℕ) (node : Node) (p : ℕ) → slice_get nodes k ≡ Some node → node.parent ≡ Some p → children (listed nodes) (p + 1) ≡ children (listed (take k nodes)) (p + 1) ++ (k + 1) ∷ children (listed_from (k + 1) (drop (suc k) nodes)) (p + 1)
 children_split nodes k node p h e =
     let short : length (take k nodes) ≡ k = length-take-le k nodes (omega (arith, slice_get_within nodes k node h)) in

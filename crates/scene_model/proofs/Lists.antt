@@ -93,7 +93,7 @@ pub flat_map-flat_map : {X Y Z : Type 0} (g : Y → List Z) (f : X → List Y) (
 flat_map-flat_map g f [] = refl
 flat_map-flat_map g f (x ∷ xs) = flat_map-append g (f x) (flat_map f xs) ∙ ap (λ l. flat_map g (f x) ++ l) (flat_map-flat_map g f xs)
 
--- an element with what stands before it and behind it
+-- an element with what is before it and after it
 pub split_at : {X : Type 0} (xs : List X) (k : ℕ) (x : X) → slice_get xs k ≡ Some x → xs ≡ take k xs ++ x ∷ drop (suc k) xs
 split_at [] k x h = absurd (cc)
 split_at (y ∷ xs) zero x h = ap (λ z. z ∷ xs) (same_Some y x h)

@@ -1,4 +1,4 @@
--- Lemmas on lists of numbers: which stand in them, and how often.
+-- Lemmas on lists of numbers: which are in them, and how often.
 use Rattle.std.proofs.Common.{◌≡◌, ◌≢◌, ℕ, zero, suc, ◌+◌, ◌<◌, ◌≤◌, ◌==◌, nat_eq, List, [], ◌∷◌, ◌++◌, filter, flat_map, length, take, Bool, true, false, cond, not, ◌||◌, refl, sym, ap, ◌∙◌, subst, one-add, arith}
 use Rattle.std.specs.List.{AllByRecursion, list_any, IsDistinct, range_with_len, prefix_len}
 use Rattle.std.proofs.lemmas.Bool.Decides.{nat_tests}
@@ -8,11 +8,11 @@ use Rattle.std.proofs.lemmas.List.Filters.{length-filter_both}
 use Rattle.scene_model.specs.Lookups.{left_of}
 use Rattle.scene_model.proofs.Lists.{filter_nothing, filter-filter, each_weaker, each-filter}
 
--- whether a number stands in a list
+-- whether a number is in a list
 abbrev pub is_in : ℕ → List ℕ → Bool
 is_in x xs = list_any (λ y. y == x) xs
 
--- the number as often as it stands in the list
+-- the number as often as it is in the list
 abbrev pub copies : ℕ → List ℕ → List ℕ
 copies x xs = filter (λ y. y == x) xs
 
@@ -67,7 +67,7 @@ split_here : (x y : ℕ) (xs : List ℕ) (b : Bool) → (y == x) ≡ b → (b ||
 split_here x y xs true e h r = ([], xs, ap (λ z. z ∷ xs) (eqb-true y x e))
 split_here x y xs false e h r = let (before, behind, f) = r h in (y ∷ before, behind, ap (λ l. y ∷ l) f)
 
--- a number in a list, with what stands before it and behind it
+-- a number in a list, with what is before it and after it
 pub split_in : (x : ℕ) (xs : List ℕ) → is_in x xs ≡ true → (before : List ℕ) × (behind : List ℕ) × (xs ≡ before ++ x ∷ behind)
 split_in x [] h = absurd (cc)
 split_in x (y ∷ xs) h = split_here x y xs (y == x) refl h (split_in x xs)
@@ -166,7 +166,7 @@ length_from_copies (suc n) xs h c =
     let others : length rest ≡ n = length_from_copies n rest below (λ x k l. filter-filter (λ y. y == x) (λ y. not (y == suc n)) (λ y e. not_past x y n e l) xs ∙ c x k (omega arith)) in
     omega (arith, length-filter_both (λ y. y == suc n) (λ y. not (y == suc n)) (λ _. refl) xs)
 
--- what stands left of a number
+-- what is left of a number
 
 left_more : (x y : ℕ) (xs : List ℕ) → (y == x) ≡ false → left_of x (y ∷ xs) ≡ y ∷ left_of x xs
 left_more x y xs h = rw h (ap (λ n. take n (y ∷ xs)) (one-add (prefix_len (λ z. not (z == x)) xs)))

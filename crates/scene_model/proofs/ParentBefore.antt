@@ -1,4 +1,4 @@
--- A parent stands before its child.
+-- A parent is before its child.
 use Rattle.std.proofs.Common.{◌≡◌, ℕ, ◌+◌, ◌≤◌, ◌==◌, Bool, true, false, not, cond, ◌||◌, List, [], ◌∷◌, ◌++◌, length, Some, refl, sym, ap, ◌∙◌, arith, subst}
 use Rattle.std.specs.List.{position_or_len}
 use Rattle.scene_model.specs.Element.{Element}
@@ -7,7 +7,7 @@ use Rattle.scene_model.specs.Valid.{IsValid}
 use Rattle.scene_model.proofs.Numbers.{is_in, same_number}
 use Rattle.scene_model.proofs.Found.{position_of-numbers}
 
--- where x stands first, or the length
+-- where x is first, or the length
 abbrev place_in : ℕ → List ℕ → ℕ
 place_in x xs = position_or_len (λ y. y == x) xs
 
@@ -15,7 +15,7 @@ first_bound : (b : Bool) (n m : ℕ) → n ≤ m → cond (not b) (1 + n) 0 ≤ 
 first_bound true n m h = omega arith
 first_bound false n m h = omega arith
 
--- it stands first no later than it stands
+-- it is first no later than anywhere else
 place_in-le : (x : ℕ) (before after : List ℕ) → place_in x (before ++ x ∷ after) ≤ length before
 place_in-le x [] after = subst (λ b. cond (not b) (1 + place_in x after) 0 ≤ 0) (sym (same_number x)) (omega arith)
 place_in-le x (y ∷ before) after =
@@ -25,7 +25,7 @@ absent_bound : (b rest : Bool) (n m : ℕ) → (b || rest) ≡ false → (rest �
 absent_bound true rest n m none h = cc
 absent_bound false rest n m none h = let here = h none in omega arith
 
--- what does not stand in the front of a list stands behind it
+-- what is not in the first part of a list is after it
 place_in-ge : (x : ℕ) (before after : List ℕ) → is_in x before ≡ false → length before ≤ place_in x (before ++ after)
 place_in-ge x [] after none = omega arith
 place_in-ge x (y ∷ before) after none =

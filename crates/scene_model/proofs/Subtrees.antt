@@ -1,4 +1,4 @@
--- Laws of the subtrees of a list of elements: each number stands once in the whole, with its children behind it.
+-- Laws of the subtrees of a list of elements: each number is once in the whole, with its children after it.
 use Rattle.std.proofs.Common.{◌≡◌, ◌≢◌, ℕ, zero, suc, ◌+◌, ◌<◌, ◌≤◌, ◌==◌, nat_eq, List, [], ◌∷◌, ◌++◌, filter, flat_map, Bool, true, false, cond, ◌||◌, Some, None, refl, sym, ap, subst, ◌∙◌, append-nil, append_assoc, inl, inr, arith}
 use Rattle.std.specs.List.{AllByRecursion, IsDistinct}
 use Rattle.std.proofs.lemmas.Bool.{cases_lt, eqb-true}
@@ -175,7 +175,7 @@ module _ (es : List Element) (n : ℕ) (t : IsTree es n) where
   child_in : (x q : ℕ) → parent_of es x ≡ Some q → is_in x (children es q) ≡ true
   child_in x q e = in_copied x (children es q) [] (copies-children es q x t.grows.distinct e)
 
-  -- where the subtree of x stands
+  -- where the subtree of x is
   IsRunOf : ℕ → Type 0
   IsRunOf x = (before : List ℕ) × (behind : List ℕ) × (subtree es n 1 ≡ before ++ (subtree es n x ++ behind))
 

@@ -43,7 +43,7 @@ module _ (nodes : List Node) (v : IsNodeList nodes) where
   unfolding tree_order
   each_in_order = each_whole (listed nodes) (length nodes) (IsTree-listed nodes v)
 
-  -- each number from 1 to the length stands once in the tree order
+  -- each number from 1 to the length is once in the tree order
   pub once_in_order : (x : ℕ) → 0 < x → x ≤ length nodes → filter (λ y. y == x) (tree_order nodes) ≡ x ∷ []
   unfolding tree_order
   once_in_order x h k = copies-whole (listed nodes) (length nodes) (IsTree-listed nodes v) x h k
@@ -124,7 +124,7 @@ module _ (nodes : List Node) (v : IsNodeList nodes) where
   pub left_of-child : (k : ℕ) (node : Node) (p : ℕ) → slice_get nodes k ≡ Some node → node.parent ≡ Some p → left_of (k + 1) (siblings (scene_of nodes) (k + 1)) ≡ children (listed (take k nodes)) (p + 1)
   left_of-child k node p h e = ap (left_of (k + 1)) (siblings-scene_of (k + 1)) ∙ left_of-listed nodes k node p h e
 
-  -- a node's place is how many of its parent's children the list has before it
+  -- a node's sibling index is how many of its parent's children the list has before it
   pub place_of-child : (k : ℕ) (node : Node) (p : ℕ) → slice_get nodes k ≡ Some node → node.parent ≡ Some p → place_of (scene_of nodes) (k + 1) ≡ length (children (listed (take k nodes)) (p + 1))
   place_of-child k node p h e = place_of-scene_of (k + 1) ∙ place_of-listed nodes k node p h e
 

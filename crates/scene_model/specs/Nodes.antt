@@ -5,7 +5,7 @@ use Rattle.std.specs.Coded.{Coded, code_by, coded×, coded_ℕ, coded_list, code
 use Rattle.scene_model.specs.Element.{Element, Characters, Attributes, States, attributes_code, states_code}
 use Rattle.scene_model.specs.Lookups.{element_at, children}
 
--- A node of the list. Its parent is named by place in the list, from 0.
+-- A node of the list. Its parent is named by index in the list, from 0.
 pub record Node : Type 0 where
   pub parent : Option ℕ
   pub tag : Characters
@@ -34,7 +34,7 @@ pub record IsNodeList (nodes : List Node) : Type 0 where
   pub some : 0 < length nodes
   pub parents : HaveParentsFrom 0 nodes
 
--- the nodes as elements in list order, numbered from 1 by place
+-- the nodes as elements in list order, numbered from 1
 abbrev pub listed_from : ℕ → List Node → List Element
 listed_from k [] = []
 listed_from k (node ∷ nodes) = record {

@@ -32,9 +32,9 @@ prefix-seen text u (k ∷ ks) =
     ap (λ b. cond (not b) (1 + prefix_len (λ s. not (bytes_eq text (string_bytes s))) ks) 0) t
     ∙ ap (λ n. cond (not (bytes_eq (chars text) (chars (string_bytes k)))) (1 + n) 0) h
 
--- its place
-pub place-seen : {Z : Type 0} (text : List ℕ) → IsUtf8 text → (keys : List (String Z)) → position (λ k. bytes_eq text (string_bytes k)) keys ≡ position (bytes_eq (chars text)) (seen keys)
-place-seen text u keys =
+-- its index
+pub index-seen : {Z : Type 0} (text : List ℕ) → IsUtf8 text → (keys : List (String Z)) → position (λ k. bytes_eq text (string_bytes k)) keys ≡ position (bytes_eq (chars text)) (seen keys)
+index-seen text u keys =
     let at = λ (p n : ℕ). cond (nat_lt p n) (Some p) None in
     ap (λ p. at p (length keys)) (prefix-seen text u keys)
     ∙ ap (λ n. at (prefix_len (λ cs. not (bytes_eq (chars text) cs)) (seen keys)) n) (sym (length-map keys (λ s. chars (string_bytes s))))
@@ -46,7 +46,7 @@ among-seen text u (k ∷ ks) kept b =
     let t = ap (λ bs. bytes_eq bs (string_bytes k)) b ∙ same_test text (string_bytes k) u (IsUtf8-string_bytes k) in
     ap (λ x. x || list_any (string_eq kept) ks) t ∙ ap (λ r. bytes_eq (chars text) (chars (string_bytes k)) || r) (among-seen text u ks kept b)
 
--- the test of a place that may be none
+-- the test of an index that may be none
 some_from_cond : (b : Bool) (n i : ℕ) → cond b (Some n) None ≡ Some i → (b ≡ true) × (n ≡ i)
 some_from_cond true n i h = (refl, cc)
 some_from_cond false n i h = cc
@@ -66,18 +66,18 @@ any_step : (b r : Bool) (n l : ℕ) → nat_lt n l ≡ r → nat_lt (cond (not b
 any_step true r n l h = grind (arith, nat_tests)
 any_step false r n l h = rw (← h) (grind (arith, nat_tests))
 
--- the place of a text lies among the texts exactly where the text is there
+-- the index of a text is below the count of the texts exactly where the text is there
 any_before : (text : List ℕ) (texts : List (List ℕ)) → nat_lt (prefix_len (λ cs. not (bytes_eq text cs)) texts) (length texts) ≡ is_among text texts
 any_before text [] = refl
 any_before text (t ∷ ts) =
     any_step (bytes_eq text t) (is_among text ts) (prefix_len (λ cs. not (bytes_eq text cs)) ts) (length ts) (any_before text ts)
 
--- whether such a place is one
+-- whether such an index is one
 is_some-cond : (b : Bool) (n : ℕ) → is_some (cond b (Some n) None) ≡ b
 is_some-cond true n = refl
 is_some-cond false n = refl
 
--- a text is among the texts exactly where it has a place
+-- a text is among the texts exactly where it has an index
 pub is_some-position : (text : List ℕ) (texts : List (List ℕ)) → is_some (position (bytes_eq text) texts) ≡ is_among text texts
 is_some-position text texts =
     let n = prefix_len (λ cs. not (bytes_eq text cs)) texts in
@@ -88,20 +88,20 @@ pub is_among-Decides : (text : List ℕ) (texts : List (List ℕ)) → Decides (
 is_among-Decides text texts =
     (Contains-from_any (λ x y. (bytes_eq-Decides x y).0) text texts, list_any-from_Contains nat_list_eq_equiv text texts)
 
--- a new text has no place
+-- a new text has no index
 new_has_none : (texts : List (List ℕ)) (text : List ℕ) (i : ℕ) → is_among text texts ≡ false → slice_get texts i ≡ Some text → ⊥
 new_has_none texts text i new p =
     false≢true (sym new ∙ (is_among-Decides text texts).1 (i, slice_get_within texts i text p, get_or_from_slice_get texts i text text p))
 
--- a place of the longer list is one of the shorter or the last
+-- an index of the longer list is one of the shorter or the last
 below_or_last : (n l : ℕ) → n < l + 1 → (n < l) ⊎ (n ≡ l)
 below_or_last n l h = grind arith
 
--- the last place has the new text alone
+-- the last index has the new text alone
 last_text : (texts : List (List ℕ)) (text other : List ℕ) (i : ℕ) → i ≡ length texts → slice_get (texts ++ text ∷ []) i ≡ Some other → other ≡ text
 last_text texts text other i e p = let same = sym p ∙ get_push_last texts i text e in cc
 
--- a text that was not there makes no text stand twice
+-- a text that was not there makes no text be there twice
 pub StandOnce-push : (texts : List (List ℕ)) (text : List ℕ) → StandOnce texts → is_among text texts ≡ false → StandOnce (texts ++ text ∷ [])
 StandOnce-push texts text once new i j other p q =
     let within = λ (n : ℕ) (h : slice_get (texts ++ text ∷ []) n ≡ Some other). below_or_last n (length texts) (omega (arith, slice_get_within (texts ++ text ∷ []) n other h, length_push texts text)) in
@@ -117,13 +117,13 @@ StandOnce-push texts text once new i j other p q =
     ]
 
 -- what was found among the keys, as what is among the texts
-pub place_of : {Z : Type 0} (text : List ℕ) → IsUtf8 text → (keys : List (String Z)) (now : List (List ℕ)) (r : Option ℕ) → r ≡ position (λ k. bytes_eq text (string_bytes k)) keys → seen keys ≡ now → position (bytes_eq (chars text)) now ≡ r
-place_of text u keys now r e v =
-    sym (ap (position (bytes_eq (chars text))) v) ∙ (sym (place-seen text u keys) ∙ sym e)
+pub index_of : {Z : Type 0} (text : List ℕ) → IsUtf8 text → (keys : List (String Z)) (now : List (List ℕ)) (r : Option ℕ) → r ≡ position (λ k. bytes_eq text (string_bytes k)) keys → seen keys ≡ now → position (bytes_eq (chars text)) now ≡ r
+index_of text u keys now r e v =
+    sym (ap (position (bytes_eq (chars text))) v) ∙ (sym (index-seen text u keys) ∙ sym e)
 
--- a text that has a place is there
-pub there : {N : Type 0} (r : Option N) (text : List ℕ) (texts : List (List ℕ)) (place : Option ℕ) → is_some r ≡ is_some place → position (bytes_eq text) texts ≡ place → is_some r ≡ is_among text texts
-there r text texts place same e = same ∙ (sym (ap (is_some {T = ℕ}) e) ∙ is_some-position text texts)
+-- a text that has an index is there
+pub there : {N : Type 0} (r : Option N) (text : List ℕ) (texts : List (List ℕ)) (index : Option ℕ) → is_some r ≡ is_some index → position (bytes_eq text) texts ≡ index → is_some r ≡ is_among text texts
+there r text texts index same e = same ∙ (sym (ap (is_some {T = ℕ}) e) ∙ is_some-position text texts)
 
 -- the same as facts
 pub exactly : {N : Type 0} (r : Option N) (text : List ℕ) (texts : List (List ℕ)) → is_some r ≡ is_among text texts → IsSome r ↔ Contains texts text

@@ -10,7 +10,7 @@ is_among text texts = list_any (bytes_eq text) texts
 abbrev pub interned : List (List ℕ) → List ℕ → List (List ℕ)
 interned texts text = if is_among text texts then texts else texts ++ text ∷ []
 
--- no text is there twice: two places of one text are one place
+-- no text is there twice: two indices of one text are one index
 abbrev pub StandOnce : List (List ℕ) → Type 0
 StandOnce texts = (i j : ℕ) (text : List ℕ) → slice_get texts i ≡ Some text → slice_get texts j ≡ Some text → i ≡ j
 

@@ -12,8 +12,6 @@ mod path_text;
 mod refusal;
 mod specificity;
 mod state;
-#[cfg(test)]
-mod tests;
 mod text;
 
 pub use ascii_case::eq_ascii_case;

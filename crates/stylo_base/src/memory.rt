@@ -1,4 +1,4 @@
-//! The one answer that has no other cause: there was no memory.
+//! Out of memory.
 
 use std::alloc::{AllocError, AllocFailed};
 

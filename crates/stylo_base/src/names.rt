@@ -1,4 +1,4 @@
-//! Names: each text that is used as a name is kept once, and known by its place.
+//! Names: each text that is used as a name is kept once, and known by its index.
 
 ghost use Rattle.std.specs.Prelude.{◌≡◌, ◌↔◌, ◌<◌, ◌≤◌, ◌^◌, ℕ, [], Contains, IfOk, IfSome, IsOk, IsSome, IsTrue, OnErr, OnOk, Some, is_some, length, slice_get};
 ghost use Rattle.std.specs.Str.{chars};
@@ -12,10 +12,10 @@ use std::marker::Model;
 /// How many names there may be: a name is a `u32`.
 const MOST: usize = 4_294_967_296;
 
-/// A name that a `Names` gave. Contracts see its place in the order of first use, from 0.
+/// A name that a `Names` gave. Contracts see its index in the order of first use, from 0.
 #[derive(Clone, Copy, Debug, PartialEq, Eq, PartialOrd, Ord, Hash)]
 pub struct Name {
-    place: u32,
+    index: u32,
 }
 
 impl Model for Name {
@@ -23,9 +23,9 @@ impl Model for Name {
 
     ghost Value = { ℕ };
 
-    ghost view = { λ n. n.place };
+    ghost view = { λ n. n.index };
 
-    ghost inverse = { λ n. record { place = n } };
+    ghost inverse = { λ n. record { index = n } };
 }
 
 /// The texts that have names. Contracts see them as lists of characters, in the order of first
@@ -80,16 +80,16 @@ impl Names {
         ensures exactly { IsSome result ↔ Contains self.now (chars text.now) }
         ensures distinct { StandOnce self.now }
     {
-        let place = self.texts.get_index_of(text)?;
+        let index = self.texts.get_index_of(text)?;
         Some(Name {
-            place: place as u32,
+            index: index as u32,
         })
     }
 
     /// The name of `text`: the one that it has, or else a new one, which alone takes memory. There
     /// are at most 2^32 names.
     pub fn intern(&mut self, text: &str) -> Result<Name, NoMemory>
-        ensures place { IfOk result (λ n. slice_get self.new n ≡ Some (chars text.now)) }
+        ensures index { IfOk result (λ n. slice_get self.new n ≡ Some (chars text.now)) }
         ensures list { OnOk result (self.new ≡ interned self.old (chars text.now)) }
         ensures err { OnErr result (self.new ≡ self.old) }
         ensures known { Contains self.old (chars text.now) → IsOk result × (self.new ≡ self.old) }
@@ -99,14 +99,14 @@ impl Names {
         if let Some(name) = self.find(text) {
             return Ok(name);
         }
-        let place = self.texts.len();
-        if place >= MOST {
+        let index = self.texts.len();
+        if index >= MOST {
             return Err(NoMemory);
         }
         let kept = String::from_str(*self.texts.allocator(), text)?;
         self.texts.insert(kept)?;
         Ok(Name {
-            place: place as u32,
+            index: index as u32,
         })
     }
 
@@ -115,6 +115,6 @@ impl Names {
         requires { name < length self.now }
         ensures { slice_get self.now name ≡ Some (chars result.now) }
     {
-        self.texts.as_slice()[name.place as usize].as_str()
+        self.texts.as_slice()[name.index as usize].as_str()
     }
 }

@@ -54,7 +54,7 @@ pub enum EditRefused {
     UnknownNode(u64),
     /// No sheet has this number.
     UnknownSheet(u64),
-    /// The place is none: the root would go or move, an element would be below itself, or an
+    /// There is no such place: the root would go or move, an element would be below itself, or an
     /// index is past the end.
     BadPlace,
     /// The limit of this kind, with its number, would be exceeded.

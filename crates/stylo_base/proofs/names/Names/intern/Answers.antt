@@ -15,20 +15,20 @@ longer : (c : goal.In_ok-insert) → seen c.insert.new.self.keys ≡ c.args.self
 longer c =
     seen_push c.args.text.now c.utf8.text c.self.inside.texts.keys c.insert.new.self.keys c.in_ok-kept.kept c.args.self.now c.in_ok-kept.ensures.ok c.in_ok-insert.ensures.keys c.self.view_is (absent c)
 
--- the place is the old length
-at_end : (c : goal.In_ok-insert) → c.len-place.result ≡ length c.args.self.now
+-- the index is the old length
+at_end : (c : goal.In_ok-insert) → c.len-index.result ≡ length c.args.self.now
 at_end c =
-    count-seen c.self.inside.texts.keys c.args.self.now c.len-place.result c.len-place.ensures.len c.self.view_is
+    count-seen c.self.inside.texts.keys c.args.self.now c.len-index.result c.len-index.ensures.len c.self.view_is
 
 pub invariant_of-self-2 : goal.invariant_of-self-2
 invariant_of-self-2 c =
     let few : length c.args.self.now < 2 ^ 32 = omega (arith, at_end c) in
     AreNamed-push (chars c.args.text.now) c.args.self.now _ (longer c) (absent c) c.find.ensures.distinct few
 
-pub returns-clause-place : goal.returns-clause-place
-returns-clause-place c =
-    ap (λ ts. slice_get ts c.len-place.result) (longer c)
-    ∙ get_push_last c.args.self.now c.len-place.result (chars c.args.text.now) (at_end c)
+pub returns-clause-index : goal.returns-clause-index
+returns-clause-index c =
+    ap (λ ts. slice_get ts c.len-index.result) (longer c)
+    ∙ get_push_last c.args.self.now c.len-index.result (chars c.args.text.now) (at_end c)
 
 pub returns-clause-list : goal.returns-clause-list
 returns-clause-list c = interned_new (chars c.args.text.now) c.args.self.now _ (longer c) (absent c)

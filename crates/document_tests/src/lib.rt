@@ -1,0 +1,17 @@
+//! Tests of the public calls of stylo_base, io_edges, dom_tree and job_json, with ample memory.
+#![tactic(auto)]
+
+#[cfg(test)]
+mod documents;
+#[cfg(test)]
+mod ends;
+#[cfg(test)]
+mod jobs;
+#[cfg(test)]
+mod limits;
+#[cfg(test)]
+mod names;
+#[cfg(test)]
+mod numbers;
+#[cfg(test)]
+mod texts;

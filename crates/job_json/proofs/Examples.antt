@@ -1,0 +1,251 @@
+-- What JSON values say, computed.
+use Rattle.std.specs.Prelude.{◌≡◌, ℕ, List, [], ◌∷◌, Bool, true, false, is_some, Option, Some, None, pos, neg_ℤ, Float, replicate, codes}
+use Rattle.std.specs.List.{list_all, list_any}
+use Rattle.std.proofs.Common.{refl}
+use Rattle.serde_json.specs.Data.{Data, null, boolean, number, string, array, object, unsigned, negative, float, Items, no_items, item, Members, no_members, put}
+use Rattle.base_model.specs.Ascii.{delete}
+use Rattle.scene_model.specs.Ancestors.{ancestors}
+use Rattle.scene_model.specs.Nodes.{scene_of, tree_order}
+use Rattle.job_json.specs.Shape.{is_name, states_from}
+use Rattle.job_json.specs.Sheets.{sheet_from}
+use Rattle.job_json.specs.JobOf.{job_within}
+
+-- JSON values as they are read: of members with the same key the last stays
+
+abbrev items : List Data → Items
+items [] = no_items
+items (value ∷ values) = item value (items values)
+
+abbrev put_all : Members → List (List ℕ × Data) → Members
+put_all found [] = found
+put_all found (entry ∷ entries) = put_all (put entry.0 entry.1 found) entries
+
+abbrev list : List Data → Data
+list values = array (items values)
+
+abbrev obj : List (List ℕ × Data) → Data
+obj entries = object (put_all no_members entries)
+
+abbrev n : ℕ → Data
+n k = number (unsigned k)
+
+abbrev text : List ℕ → Data
+text t = string t
+
+abbrev empty : Data
+empty = text []
+
+-- names
+
+names : list_all is_name (codes "p" ∷ (195 ∷ 169 ∷ []) ∷ replicate 256 97 ∷ []) ≡ true
+names = refl
+
+no_names : list_any is_name ([] ∷ codes "a b" ∷ (97 ∷ delete ∷ []) ∷ replicate 257 97 ∷ []) ≡ false
+no_names = refl
+
+-- whole jobs
+
+abbrev is_job : Data → Bool
+is_job value = is_some (job_within value)
+
+abbrev version : Data → List ℕ × Data
+version value = (codes "version", value)
+
+abbrev nodes : Data → List ℕ × Data
+nodes value = (codes "nodes", value)
+
+abbrev sheets : Data → List ℕ × Data
+sheets value = (codes "sheets", value)
+
+abbrev batches : Data → List ℕ × Data
+batches value = (codes "batches", value)
+
+abbrev more : Data → List ℕ × Data
+more value = (codes "more", value)
+
+abbrev tag : Data → List ℕ × Data
+tag value = (codes "tag", value)
+
+abbrev p : List ℕ × Data
+p = tag (text (codes "p"))
+
+abbrev alone : List ℕ × Data
+alone = nodes (list (obj (p ∷ []) ∷ []))
+
+abbrev good_jobs : List Data
+good_jobs =
+    obj (version (n 1) ∷ alone ∷ [])
+    ∷ obj (alone ∷ version (n 1) ∷ sheets (list []) ∷ batches (list []) ∷ more null ∷ [])
+    ∷ obj (version (n 2) ∷ nodes (n 7) ∷ version (n 1) ∷ alone ∷ [])
+    ∷ []
+
+jobs : list_all is_job good_jobs ≡ true
+unfolding scene_of tree_order ancestors
+jobs = refl
+
+abbrev other_values : List Data
+other_values =
+    null
+    ∷ list []
+    ∷ obj []
+    ∷ obj (alone ∷ [])
+    ∷ obj (version (n 2) ∷ alone ∷ [])
+    ∷ obj (version (text (codes "1")) ∷ alone ∷ [])
+    ∷ obj (version (n 1) ∷ version (n 2) ∷ alone ∷ [])
+    ∷ obj (version (n 1) ∷ [])
+    ∷ obj (version (n 1) ∷ nodes (obj []) ∷ [])
+    ∷ obj (version (n 1) ∷ alone ∷ sheets null ∷ [])
+    ∷ obj (version (n 1) ∷ alone ∷ sheets (list (obj [] ∷ [])) ∷ [])
+    ∷ obj (version (n 1) ∷ alone ∷ batches (list (list [] ∷ [])) ∷ [])
+    ∷ []
+
+others : list_any is_job other_values ≡ false
+unfolding scene_of tree_order ancestors
+others = refl
+
+-- `1.0` is no whole number
+no_float_version : (f : Float) → is_job (obj (version (number (float f)) ∷ alone ∷ [])) ≡ false
+unfolding scene_of tree_order ancestors
+no_float_version f = refl
+
+-- nodes
+
+abbrev are_nodes : List Data → Bool
+are_nodes values = is_job (obj (version (n 1) ∷ nodes (list values) ∷ []))
+
+abbrev parent : Data → List ℕ × Data
+parent value = (codes "parent", value)
+
+abbrev attrs : Data → List ℕ × Data
+attrs value = (codes "attrs", value)
+
+abbrev states : Data → List ℕ × Data
+states value = (codes "states", value)
+
+-- the first, and one more with this parent
+abbrev two : Data → List Data
+two value = obj (p ∷ []) ∷ obj (p ∷ parent value ∷ []) ∷ []
+
+abbrev good_nodes : List (List Data)
+good_nodes =
+    (obj (tag empty ∷ p ∷ []) ∷ [])
+    ∷ (obj (tag (text (195 ∷ 169 ∷ [])) ∷ more (list (n 1 ∷ obj [] ∷ [])) ∷ []) ∷ [])
+    ∷ (obj (p ∷ attrs (obj []) ∷ states (list []) ∷ []) ∷ [])
+    ∷ (obj (p ∷ attrs (obj ((codes "id", empty) ∷ [])) ∷ states (list (text (codes "focus") ∷ text (codes "focus") ∷ [])) ∷ []) ∷ [])
+    ∷ two (n 0)
+    ∷ []
+
+node_lists : list_all are_nodes good_nodes ≡ true
+unfolding scene_of tree_order ancestors
+node_lists = refl
+
+abbrev other_nodes : List (List Data)
+other_nodes =
+    []
+    ∷ (obj [] ∷ [])
+    ∷ (obj (tag empty ∷ []) ∷ [])
+    ∷ (obj (p ∷ tag (n 7) ∷ []) ∷ [])
+    ∷ (obj (tag (text (codes "a b")) ∷ []) ∷ [])
+    ∷ (obj (tag (text (97 ∷ delete ∷ [])) ∷ []) ∷ [])
+    ∷ (obj (p ∷ parent (n 0) ∷ []) ∷ [])
+    ∷ (obj (p ∷ parent null ∷ []) ∷ [])
+    ∷ (obj (p ∷ []) ∷ obj (p ∷ []) ∷ [])
+    ∷ two (n 1)
+    ∷ two (number (negative (neg_ℤ (pos 1))))
+    ∷ two (text (codes "0"))
+    ∷ (obj (p ∷ states (list (text (codes "visited") ∷ [])) ∷ []) ∷ [])
+    ∷ (obj (p ∷ states (list (text (codes "hover") ∷ n 1 ∷ [])) ∷ []) ∷ [])
+    ∷ (obj (p ∷ states null ∷ []) ∷ [])
+    ∷ (obj (p ∷ attrs (list []) ∷ []) ∷ [])
+    ∷ (obj (p ∷ attrs (obj ((codes "id", n 7) ∷ [])) ∷ []) ∷ [])
+    ∷ (obj (p ∷ attrs (obj ((codes "a b", empty) ∷ [])) ∷ []) ∷ [])
+    ∷ (obj (p ∷ attrs (obj (([], empty) ∷ [])) ∷ []) ∷ [])
+    ∷ []
+
+no_node_lists : list_any are_nodes other_nodes ≡ false
+unfolding scene_of tree_order ancestors
+no_node_lists = refl
+
+-- nor `0.0`, `-0` and 2^64, which are read as floats
+no_float_parent : (f : Float) → are_nodes (two (number (float f))) ≡ false
+unfolding scene_of tree_order ancestors
+no_float_parent f = refl
+
+node_states : states_from (Some (list (text (codes "focus") ∷ text (codes "hover") ∷ text (codes "focus") ∷ []))) ≡ Some (record { hover = true; active = false; focus = true })
+node_states = refl
+
+-- sheets
+
+abbrev are_sheets : Data → Bool
+are_sheets value = is_job (obj (version (n 1) ∷ alone ∷ sheets value ∷ []))
+
+-- a sheet, however long its text
+abbrev is_sheet : List (List ℕ × Data) → Bool
+is_sheet entries = is_some (sheet_from (obj entries))
+
+abbrev origin : Data → List ℕ × Data
+origin value = (codes "origin", value)
+
+abbrev author : List ℕ × Data
+author = origin (text (codes "author"))
+
+abbrev enabled : Data → List ℕ × Data
+enabled value = (codes "enabled", value)
+
+abbrev css : Data → List ℕ × Data
+css value = (codes "text", value)
+
+abbrev rule : Data
+rule = text (codes "p{}")
+
+abbrev good_sheets : List (List (List ℕ × Data))
+good_sheets =
+    (author ∷ css empty ∷ [])
+    ∷ (css rule ∷ enabled (boolean true) ∷ author ∷ [])
+    ∷ (author ∷ css rule ∷ (codes "title", null) ∷ (codes "media", list (obj [] ∷ [])) ∷ [])
+    ∷ (origin (text (codes "ua")) ∷ enabled (boolean false) ∷ css (n 7) ∷ author ∷ enabled (boolean true) ∷ css rule ∷ [])
+    ∷ []
+
+sheet_members : list_all is_sheet good_sheets ≡ true
+sheet_members = refl
+
+no_sheets : is_job (obj (version (n 1) ∷ alone ∷ sheets (list (n 7 ∷ [])) ∷ sheets (list []) ∷ [])) ≡ true
+unfolding scene_of tree_order ancestors
+no_sheets = refl
+
+abbrev one : Data
+one = obj (author ∷ css empty ∷ [])
+
+abbrev other_lists : List Data
+other_lists =
+    null ∷ obj [] ∷ one ∷ list (null ∷ []) ∷ list (list [] ∷ []) ∷ list (rule ∷ []) ∷ list (one ∷ one ∷ []) ∷ list (one ∷ n 7 ∷ []) ∷ list (n 7 ∷ []) ∷ []
+
+no_lists : list_any are_sheets other_lists ≡ false
+unfolding scene_of tree_order ancestors
+no_lists = refl
+
+abbrev other_sheets : List (List (List ℕ × Data))
+other_sheets =
+    []
+    ∷ (css empty ∷ [])
+    ∷ (origin (text (codes "ua")) ∷ css empty ∷ [])
+    ∷ (origin (text (codes "user")) ∷ css empty ∷ [])
+    ∷ (origin (text (codes "Author")) ∷ css empty ∷ [])
+    ∷ (origin empty ∷ css empty ∷ [])
+    ∷ (origin null ∷ css empty ∷ [])
+    ∷ (origin (n 2) ∷ css empty ∷ [])
+    ∷ (author ∷ origin (text (codes "user")) ∷ css empty ∷ [])
+    ∷ (author ∷ enabled (boolean false) ∷ css empty ∷ [])
+    ∷ (author ∷ enabled null ∷ css empty ∷ [])
+    ∷ (author ∷ enabled (n 1) ∷ css empty ∷ [])
+    ∷ (author ∷ enabled (text (codes "true")) ∷ css empty ∷ [])
+    ∷ (author ∷ enabled (boolean true) ∷ enabled (boolean false) ∷ css empty ∷ [])
+    ∷ (author ∷ [])
+    ∷ (author ∷ css (n 7) ∷ [])
+    ∷ (author ∷ css null ∷ [])
+    ∷ (author ∷ css (list (rule ∷ [])) ∷ [])
+    ∷ (author ∷ css rule ∷ css null ∷ [])
+    ∷ []
+
+no_sheet_members : list_any is_sheet other_sheets ≡ false
+no_sheet_members = refl
