@@ -1,28 +1,35 @@
--- The definitions computed on a small document: `html` over `i` and `p`, and the sheet
--- `i{color:red} p{color:red} i{color:blue;display:block} *{visibility:hidden;color:lime}`.
-use Rattle.std.proofs.Common.{◌≡◌, ℕ, List, [], ◌∷◌, Option, Some, None, refl, false, true}
+-- The definitions computed.
+use Rattle.std.proofs.Common.{◌≡◌, ℕ, ◌&&◌, Bool, List, [], ◌∷◌, map, slice_get, Option, Some, None, refl, false, true}
 use Rattle.std.specs.Prelude.{codes}
-use Rattle.std.specs.FinMap as map
-use Rattle.scene_model.specs.Element.{Element, States, Characters}
+use Rattle.std.specs.FinMap as maps
+use Rattle.base_model.specs.Text.{Characters}
+use Rattle.base_model.specs.Origin.{Origin, user_agent, user, author}
+use Rattle.base_model.specs.Specificity.{Specificity, nothing, one_id, one_class}
+use Rattle.base_model.specs.Sheet.{Sheet}
+use Rattle.scene_model.specs.Element.{Element, States}
 use Rattle.scene_model.specs.Ancestors.{ancestors}
 use Rattle.selector_model.specs.Selector.{Selector, subject, any, with_test, Simple, type_selector, simple}
-use Rattle.value_model.specs.Color.{opaque}
-use Rattle.value_model.specs.Value.{Value, keyword, color}
-use Rattle.value_model.specs.Table.{table}
-use Rattle.base_model.specs.Sheet.{Sheet}
-use Rattle.base_model.specs.Origin.{author}
-use Rattle.sheet_model.specs.Declared.{Declared, declares}
+use Rattle.value_model.specs.Color.{opaque, black}
+use Rattle.value_model.specs.Value.{Value, keyword, color, same_value, current_color}
+use Rattle.value_model.specs.Table.{table, color_property, display_property}
+use Rattle.value_model.specs.Style.{Style, initial_style}
+use Rattle.sheet_model.specs.Declared.{Declared, declares, longhand, exactly}
 use Rattle.sheet_model.specs.StyleRules.{StyleRule}
 use Rattle.sheet_model.specs.Sources.{Sources, all_placed}
+use Rattle.cascade_model.specs.Key.{Matched}
 use Rattle.cascade_model.specs.Matching.{matching}
 use Rattle.cascade_model.specs.Winner.{winner}
+use Rattle.cascade_model.specs.Ending.{Ending, unsets, ends_at, ending}
+use Rattle.cascade_model.specs.Cascade.{cascaded}
 use Rattle.cascade_model.specs.StyleOf.{style_of}
 
+-- A small document, `html` over `i` and `p`, and the sheet
+-- `i{color:red} p{color:red} i{color:blue;display:block} *{visibility:hidden;color:lime}`.
 abbrev quiet : States
 quiet = record { hover = false; active = false; focus = false }
 
 abbrev element : ℕ → Option ℕ → Characters → Element
-element n p tag = record { number = n; parent = p; tag = tag; attrs = map.empty; states = quiet }
+element n p tag = record { number = n; parent = p; tag = tag; attrs = maps.empty; states = quiet }
 
 abbrev doc : List Element
 doc =
@@ -77,3 +84,158 @@ higher_wins = refl
 plain : style_of doc sources 3 ≡ record { values = values red (keyword (codes "inline")) none hidden }
 unfolding style_of ancestors matching winner table
 plain = refl
+
+-- Which of two declarations of `color` wins. Each here is of an author's sheet and of `*`, but for what is said.
+abbrev plainly : Value → Matched
+plainly value = record {
+  target = longhand color_property;
+  given = exactly value;
+  origin = author;
+  important = false;
+  attached = false;
+  layer = 0;
+  specificity = nothing;
+  sheet = 1;
+  position = 0;
+  index = 0;
+}
+
+abbrev is_red : Ending → Bool
+is_red (ends_at value) = same_value value red
+is_red end = false
+
+-- the first wins over the second, in whichever order they come
+abbrev beats : (Value → Matched) → (Value → Matched) → Bool
+beats one other =
+    is_red (ending color_property (one red ∷ other lime ∷ []))
+    && is_red (ending color_property (other lime ∷ one red ∷ []))
+
+-- each wins over the one before it
+abbrev rises : {A : Type 0} → (A → Value → Matched) → (A → Value → Matched) → List A → Bool
+rises strong weak [] = true
+rises strong weak (a ∷ []) = true
+rises strong weak (a ∷ b ∷ rest) = beats (strong b) (weak a) && rises strong weak (b ∷ rest)
+
+abbrev specific : ℕ → ℕ → ℕ → Specificity
+specific ids classes types = record { ids = ids; classes = classes; types = types }
+
+abbrev with_specificity : Specificity → Value → Matched
+with_specificity specificity value = record (plainly value) { specificity = specificity }
+
+by_specificity : rises with_specificity (λ s value. record (with_specificity s value) { index = 9 }) (nothing ∷ specific 0 0 1 ∷ specific 0 0 9 ∷ specific 0 1 0 ∷ specific 0 9 9 ∷ specific 1 0 0 ∷ []) ≡ true
+unfolding winner
+by_specificity = refl
+
+abbrev of_origin : Origin × Bool → Value → Matched
+of_origin level value = record (plainly value) { origin = level.0; important = level.1 }
+
+by_origin : rises of_origin (λ level value. record (of_origin level value) {
+  attached = true;
+  specificity = specific 9 9 9;
+  position = 9;
+  index = 9;
+}) ((user_agent, false) ∷ (user, false) ∷ (author, false) ∷ (author, true) ∷ (user, true) ∷ (user_agent, true) ∷ []) ≡ true
+unfolding winner
+by_origin = refl
+
+-- later in one sheet, and in a later one
+abbrev with_index : ℕ → Value → Matched
+with_index index value = record (plainly value) { index = index }
+
+by_index : rises with_index with_index (0 ∷ 1 ∷ 9 ∷ 18446744073709551615 ∷ []) ≡ true
+unfolding winner
+by_index = refl
+
+by_position : beats (λ value. record (plainly value) { position = 1 }) (λ value. record (plainly value) {
+  sheet = 2;
+  index = 9;
+}) ≡ true
+unfolding winner
+by_position = refl
+
+first_of_equal_ones : ending color_property (plainly red ∷ plainly lime ∷ []) ≡ ends_at red
+unfolding winner
+first_of_equal_ones = refl
+
+-- the `style` attribute
+abbrev of_attribute : Value → Matched
+of_attribute value = record (plainly value) { attached = true }
+
+attached_wins : beats of_attribute (λ value. record (plainly value) {
+  specificity = one_id;
+  layer = 3;
+  index = 9;
+}) ≡ true
+unfolding winner
+attached_wins = refl
+
+important_wins : beats (λ value. record (plainly value) { important = true }) of_attribute ≡ true
+unfolding winner
+important_wins = refl
+
+-- the later layer, and among important ones the earlier
+later_layer : beats (λ value. record (plainly value) { layer = 1 }) (with_specificity one_class) ≡ true
+unfolding winner
+later_layer = refl
+
+earlier_layer : beats (λ value. record (with_specificity one_class value) { important = true }) (λ value. record (plainly value) {
+  important = true;
+  layer = 1;
+}) ≡ true
+unfolding winner
+earlier_layer = refl
+
+no_ending : ending color_property [] ≡ unsets
+unfolding winner
+no_ending = refl
+
+-- The style over that of a parent.
+abbrev word : Characters → Value
+word text = keyword text
+
+abbrev parent : Style
+parent = record { values = values lime (word (codes "flex")) (word (codes "both")) hidden }
+
+abbrev declares_one : ℕ → Value → Matched
+declares_one property value = record (plainly value) { target = longhand property }
+
+without_a_declaration : cascaded false parent [] ≡ record { values = values lime (word (codes "inline")) none hidden }
+unfolding winner table
+without_a_declaration = refl
+
+each_property_alone : cascaded false parent (declares_one 3 (word (codes "collapse")) ∷ declares_one 1 (word (codes "inline-block")) ∷ declares_one 2 (word (codes "left")) ∷ []) ≡ record { values = values lime (word (codes "inline-block")) (word (codes "left")) (word (codes "collapse")) }
+unfolding winner table
+each_property_alone = refl
+
+current_color_inherits : cascaded false parent (plainly current_color ∷ []) ≡ cascaded false parent []
+unfolding winner table
+current_color_inherits = refl
+
+current_color_of_the_root : cascaded true initial_style (plainly current_color ∷ []) ≡ cascaded true initial_style []
+unfolding winner table
+current_color_of_the_root = refl
+
+bare_root : cascaded true initial_style [] ≡ record { values = values (color black) (word (codes "block")) none (word (codes "visible")) }
+unfolding winner table
+bare_root = refl
+
+-- each `display` at the root, and below it
+abbrev displays : List Value
+displays =
+    map word (codes "inline" ∷ codes "block" ∷ codes "inline-block" ∷ codes "flex" ∷ codes "inline-flex" ∷ codes "none" ∷ [])
+
+abbrev blocks : List Value
+blocks =
+    map word (codes "block" ∷ codes "block" ∷ codes "block" ∷ codes "flex" ∷ codes "flex" ∷ codes "none" ∷ [])
+
+abbrev display_at : Bool → Value → Option Value
+display_at is_root value =
+    slice_get (cascaded is_root initial_style (declares_one display_property value ∷ [])).values display_property
+
+root_displays : map (display_at true) displays ≡ map Some blocks
+unfolding winner table
+root_displays = refl
+
+other_displays : map (display_at false) displays ≡ map Some displays
+unfolding winner table
+other_displays = refl
