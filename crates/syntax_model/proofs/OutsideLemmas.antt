@@ -1,5 +1,5 @@
 -- What is outside brackets.
-use Rattle.std.proofs.Common.{◌≡◌, ◌≢◌, ℕ, ◌+◌, ◌<◌, ◌≤◌, Bool, true, false, ◌&&◌, List, [], ◌∷◌, ◌++◌, length, take, drop, get_or, refl, sym, ap, ◌∙◌, arith}
+use Rattle.std.proofs.Common.{◌≡◌, ◌≢◌, ℕ, ◌+◌, ◌<◌, ◌≤◌, Bool, true, false, cond, ◌&&◌, List, [], ◌∷◌, ◌++◌, length, take, drop, get_or, refl, sym, ap, ◌∙◌, arith}
 use Rattle.std.proofs.Math.Numerals.{one-add}
 use Rattle.std.proofs.lemmas.Bool.{cond_both, cond-true, cond-false, false≢true}
 use Rattle.std.proofs.lemmas.List.{drop_all, drop_more, take_more}
@@ -95,15 +95,12 @@ parts_after p (separator ∷ tokens) = parts_between p tokens
 parts_first : (p : Kind → Bool) (pending : List Bracket) (tokens : List Token) → parts_within p pending tokens ≡ take (length_before p pending tokens) tokens ∷ parts_after p (drop (length_before p pending tokens) tokens)
 parts_first p pending [] = refl
 parts_first p pending (t ∷ tokens) =
-    let before : ℕ = length_before p (open_past pending t) tokens in
-    let ps : List (List Token) = parts_within p (open_past pending t) tokens in
-    let passes : Bool = is_nil pending && p t.kind in
-    let P : Bool → Type 0 = λ b. passes ≡ b → parts_within p pending (t ∷ tokens) ≡ take (length_before p pending (t ∷ tokens)) (t ∷ tokens) ∷ parts_after p (drop (length_before p pending (t ∷ tokens)) (t ∷ tokens)) in
-    let at : P passes = elim passes as P [
-      | true ↦ λ e. rw (cond-true passes _ _ e, cond-true passes _ _ e) refl
-      | false ↦ λ e. rw (cond-false passes _ _ e, cond-false passes _ _ e, one-add) (ap (onto_first t) (parts_first p (open_past pending t) tokens))
-    ] in
-    at refl
+    let n : ℕ = 1 + length_before p (open_past pending t) tokens in
+    let Q : Bool → Type 0 = λ b. cond b ([] ∷ parts_between p tokens) (onto_first t (parts_within p (open_past pending t) tokens)) ≡ take (cond b 0 n) (t ∷ tokens) ∷ parts_after p (drop (cond b 0 n) (t ∷ tokens)) in
+    elim (is_nil pending && p t.kind) as Q [
+      | true ↦ refl
+      | false ↦ rw one-add (ap (onto_first t) (parts_first p (open_past pending t) tokens))
+    ]
 
 pub parts_split : (p : Kind → Bool) (tokens : List Token) → parts_between p tokens ≡ up_to p tokens ∷ parts_after p (from_first p tokens)
 parts_split p tokens = parts_first p [] tokens
