@@ -2,17 +2,16 @@
 use Rattle.std.proofs.Common.{◌≡◌, ℕ, zero, suc, ◌<◌, ◌≤◌, Bool, true, false, cond, not, ◌||◌, List, [], ◌∷◌, ◌++◌, length, get_or, filter, encode_utf8_all, sym, ap, ◌∙◌, subst, refl, arith, append-nil, length-append}
 use Rattle.std.specs.List.{AllByRecursion, AllPass, list_any}
 use Rattle.std.specs.Char.{is_ascii_whitespace}
-use Rattle.std.specs.Str.{chars, IsUtf8, IsAscii, IsCharBoundary, NonePass, NoCharPasses, bytes_eq}
+use Rattle.std.specs.Str.{chars, IsUtf8, IsAscii, IsCharBoundary, NonePass, NoCharPasses}
 use Rattle.std.specs.Str.Iter.{IsAsciiSeparator}
 use Rattle.std.proofs.Math.Seq.{take-append_seam, drop-append_seam, get_or-append_seam}
 use Rattle.std.proofs.lemmas.Bool.{cond-true, cond-false}
 use Rattle.std.proofs.lemmas.Bool.Decides.{nat_tests}
 use Rattle.std.proofs.lemmas.List.Elements.{recursion_from_All}
 use Rattle.std.proofs.lemmas.Str.{chars-nil, chars-IsAscii, chars-append, chars_from_encodes, encodes-chars, encode_ascii, IsUtf8-from_ascii, IsUtf8-past_char, IsUtf8-take, IsUtf8-drop, IsCharBoundary-before_ascii}
-use Rattle.stylo_base.proofs.TextLemmas.{same_test}
 use Rattle.base_model.specs.Lists.{onto_first}
-use Rattle.base_model.specs.Text.{Characters, same_text, is_empty_text}
-use Rattle.scene_model.specs.Words.{pieces, words, has_word}
+use Rattle.base_model.specs.Text.{Characters, is_empty_text}
+use Rattle.scene_model.specs.Words.{pieces, words}
 
 abbrev AreSpaces : List ℕ → Type 0
 AreSpaces cs = AllByRecursion (λ c. is_ascii_whitespace c ≡ true) cs
@@ -141,18 +140,16 @@ no_words bs h =
     let spaces : AreSpaces bs = recursion_from_All (λ c. is_ascii_whitespace c ≡ true) bs h in
     ap words (chars-IsAscii bs (spaces-ascii bs spaces)) ∙ (sym (ap words (append-nil bs)) ∙ words_spaces bs [] spaces)
 
--- the word that came off is asked for, or the rest decides
-has_word-off : (w bs x rest : List ℕ) → IsUtf8 w → IsWordOff bs x rest → has_word (chars w) (chars bs) ≡ (bytes_eq w x || has_word (chars w) (chars rest))
-has_word-off w bs x rest u off =
-    ap (list_any (same_text (chars w))) off.first ∙ ap (λ b. b || has_word (chars w) (chars rest)) (sym (same_test w x u off.word_text))
+-- the word that came off passes a test, or the rest decides
+module _ (p : Characters → Bool) (bs x rest : List ℕ) (answer : Bool) (off : IsWordOff bs x rest) (h : list_any p (words (chars bs)) ≡ answer) where
+  decided : (p (chars x) || list_any p (words (chars rest))) ≡ answer
+  decided = sym (ap (list_any p) off.first) ∙ h
 
-pub has_word-found : (w bs x rest : List ℕ) (answer : Bool) → IsUtf8 w → IsWordOff bs x rest → bytes_eq w x ≡ true → has_word (chars w) (chars bs) ≡ answer → true ≡ answer
-has_word-found w bs x rest answer u off same h =
-    sym (ap (λ b. b || has_word (chars w) (chars rest)) same) ∙ (sym (has_word-off w bs x rest u off) ∙ h)
+  pub any_word-found : p (chars x) ≡ true → true ≡ answer
+  any_word-found passes = sym (ap (λ b. b || list_any p (words (chars rest))) passes) ∙ decided
 
-pub has_word-passed : (w bs x rest : List ℕ) (answer : Bool) → IsUtf8 w → IsWordOff bs x rest → bytes_eq w x ≡ false → has_word (chars w) (chars bs) ≡ answer → has_word (chars w) (chars rest) ≡ answer
-has_word-passed w bs x rest answer u off other h =
-    sym (ap (λ b. b || has_word (chars w) (chars rest)) other) ∙ (sym (has_word-off w bs x rest u off) ∙ h)
+  pub any_word-passed : p (chars x) ≡ false → list_any p (words (chars rest)) ≡ answer
+  any_word-passed fails = sym (ap (λ b. b || list_any p (words (chars rest))) fails) ∙ decided
 
-pub has_word-none : (w bs : List ℕ) (answer : Bool) → AllPass is_ascii_whitespace bs → has_word (chars w) (chars bs) ≡ answer → false ≡ answer
-has_word-none w bs answer spaces h = sym (ap (list_any (same_text (chars w))) (no_words bs spaces)) ∙ h
+pub any_word-none : (p : Characters → Bool) (bs : List ℕ) (answer : Bool) → AllPass is_ascii_whitespace bs → list_any p (words (chars bs)) ≡ answer → false ≡ answer
+any_word-none p bs answer spaces h = sym (ap (list_any p) (no_words bs spaces)) ∙ h

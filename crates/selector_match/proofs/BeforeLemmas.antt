@@ -1,10 +1,9 @@
 -- The siblings before an element have its ancestors, and its ancestors no others than it has.
-use Rattle.std.proofs.Common.{◌≡◌, ◌≢◌, ℕ, zero, suc, ◌-◌, ◌==◌, Bool, true, false, cond, ◌||◌, List, [], ◌∷◌, ◌++◌, length, take, drop, Option, Some, None, slice_get, refl, sym, ap, ◌∙◌, subst, arith, append_assoc, length-append, eq-eqb}
+use Rattle.std.proofs.Common.{◌≡◌, ◌≢◌, ℕ, zero, suc, ◌==◌, Bool, true, false, cond, List, [], ◌∷◌, ◌++◌, length, take, drop, Option, Some, None, refl, sym, ap, ◌∙◌, subst, arith, append_assoc, length-append, eq-eqb}
 use Rattle.std.specs.List.{AllByRecursion, list_any}
 use Rattle.std.proofs.lemmas.Bool.{cond-true, false≢true}
-use Rattle.std.proofs.lemmas.List.{take-append-drop, nil_from_length, drop_all}
+use Rattle.std.proofs.lemmas.List.{take-append-drop, nil_from_length}
 use Rattle.std.proofs.lemmas.List.Elements.{filter-append}
-use Rattle.std.proofs.lemmas.List.Folds.{list_any-append}
 use Rattle.scene_model.specs.Element.{Element}
 use Rattle.scene_model.specs.Lookups.{is_element, parent_of, children, beside, siblings, left_of}
 use Rattle.scene_model.specs.Ancestors.{up, climb, ancestors, position_of}
@@ -12,7 +11,7 @@ use Rattle.scene_model.specs.Valid.{IsValid}
 use Rattle.scene_model.proofs.Any.{in_start, in_middle, none-append}
 use Rattle.scene_model.proofs.Climbing.{ancestors_climb, ancestors-up, ancestors-child}
 use Rattle.scene_model.proofs.Found.{copies-children, each_child-parent, parent_of-element}
-use Rattle.scene_model.proofs.Lists.{each_weaker, split_at}
+use Rattle.scene_model.proofs.Lists.{each_weaker}
 use Rattle.scene_model.proofs.Numbers.{is_in, copies, same_number, each_is_in, each_failed, split_in, left_of_split}
 use Rattle.scene_model.proofs.Siblings.{left_here, siblings-children}
 use Rattle.selector_match.specs.Results.{before, IsUnder}

@@ -7,7 +7,7 @@ use Rattle.std.proofs.lemmas.Slice.Eq.{bytes_eq-Decides}
 use Rattle.std.proofs.lemmas.Str.{chars-nil, chars-append, chars-IsAscii, encodes-chars, encodes-append, IsUtf8-take, IsCharBoundary-start, IsCharBoundary-at_seam, IsUtf8-from_ascii, IsUtf8-nil, IsUtf8-append}
 use Rattle.std.proofs.lemmas.Str.Ascii.{IsAscii-nil, IsAscii-cons}
 use Rattle.std.specs.Option.{option_map_or}
-use Rattle.stylo_base.proofs.TextLemmas.{chars_same, chars-ascii}
+use Rattle.stylo_base.proofs.TextLemmas.{same_test, chars-ascii}
 use Rattle.base_model.specs.Ascii.{hyphen}
 use Rattle.base_model.specs.Text.{Characters, same_text, is_empty_text}
 use Rattle.scene_model.specs.Element.{Element}
@@ -29,11 +29,6 @@ module _ (a b : List ℕ) (u : IsUtf8 a) (v : IsUtf8 b) where
       ∙ (ap encode_utf8_all e
       ∙ (encodes-append front (chars b ++ rest)
       ∙ ap (λ l. encode_utf8_all front ++ l) (encodes-append (chars b) rest ∙ ap (λ l. l ++ encode_utf8_all rest) (encodes-chars b v))))
-
-  pub same_text-chars : same_text a b ≡ same_text (chars a) (chars b)
-  same_text-chars =
-      let by_chars = bytes_eq-Decides (chars a) (chars b) in
-      same_from_decides _ _ (bytes_eq-Decides a b) (λ e. chars_same a b u v (by_chars.0 e), λ e. by_chars.1 (ap chars e))
 
   pub begins_with-chars : begins_with a b ≡ begins_with (chars a) (chars b)
   begins_with-chars =
@@ -90,7 +85,7 @@ chars-dash : (b : List ℕ) → IsUtf8 b → chars (b ++ hyphen ∷ []) ≡ char
 chars-dash b v = chars-append b (hyphen ∷ []) v ∙ ap (λ l. chars b ++ l) (chars-IsAscii (hyphen ∷ []) dash_ascii)
 
 is_empty_text-chars : (b : List ℕ) → IsUtf8 b → is_empty_text b ≡ is_empty_text (chars b)
-is_empty_text-chars b v = same_text-chars b [] v IsUtf8-nil ∙ ap (same_text (chars b)) chars-nil
+is_empty_text-chars b v = same_test b [] v IsUtf8-nil ∙ ap (same_text (chars b)) chars-nil
 
 -- an operator that does not ask for words
 abbrev pub AsksForNoWord : AttributeOperator → Type 0
@@ -98,10 +93,10 @@ AsksForNoWord includes = ⊥
 AsksForNoWord operator = Unit {0}
 
 compared-chars : (operator : AttributeOperator) (a b : List ℕ) → AsksForNoWord operator → IsUtf8 a → IsUtf8 b → compared operator a b ≡ compared operator (chars a) (chars b)
-compared-chars equals a b h u v = same_text-chars a b u v
+compared-chars equals a b h u v = same_test a b u v
 compared-chars includes a b h u v = absurd h
 compared-chars dash_match a b h u v =
-    ap (λ x. x || begins_with a (b ++ hyphen ∷ [])) (same_text-chars a b u v)
+    ap (λ x. x || begins_with a (b ++ hyphen ∷ [])) (same_test a b u v)
     ∙ ap (λ x. same_text (chars a) (chars b) || x) (begins_with-chars a (b ++ hyphen ∷ []) u (IsUtf8-append b (hyphen ∷ []) v (IsUtf8-from_ascii (hyphen ∷ []) dash_ascii)) ∙ ap (begins_with (chars a)) (chars-dash b v))
 compared-chars prefix a b h u v =
     ap (λ x. not x && begins_with a b) (is_empty_text-chars b v) ∙ ap (λ x. not (is_empty_text (chars b)) && x) (begins_with-chars a b u v)

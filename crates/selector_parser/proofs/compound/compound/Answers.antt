@@ -1,4 +1,4 @@
-use Rattle.std.proofs.Common.{map, sym, ap, ◌∙◌}
+use Rattle.std.proofs.Common.{map, sym, ◌∙◌}
 use Rattle.selector_types.specs.ComplexView.{test_of}
 use Rattle.selector_parser.proofs.CompoundLemmas.{type_first, no_type_first, more_classes, all_classes}
 use Rattle.selector_parser.proofs.compound.compound.Goals as goal
