@@ -1,4 +1,4 @@
-use Rattle.std.proofs.Common.{◌≡◌, None, drop}
+use Rattle.std.proofs.Common.{◌≡◌, None, drop, map}
 use Rattle.selector_model.specs.Holds.{holds}
 use Rattle.selector_types.specs.View.{selector_of}
 use Rattle.cascade_model.specs.Matching.{greatest_by}
