@@ -41,7 +41,7 @@ declares_other p k other = false_from_ne_true _ (λ e. other (sym (eqb-true p k 
 abbrev won : List Matched → ℕ → Option Matched
 won ds property = winner (declares_longhand property) ds
 
--- what wins once a declaration is added is put at the row of its property
+-- what wins once a declaration is added is kept at the row of its property
 pub winners-set : {A : Type 0} (seen : A → Option Matched) (best : List A) (row : ℕ) (old new : A) (d : Matched) (p : ℕ) (ds : List Matched) → map seen best ≡ winners_of ds → row ≡ p → d.target ≡ longhand p → row < length table → old ≡ get_or best row old → (won ds p ≡ seen old → won (ds ++ d ∷ []) p ≡ seen new) → map seen (set best row new) ≡ winners_of (ds ++ d ∷ [])
 winners-set seen best row old new d p ds is at target within read put =
     let long : length best ≡ length table = sym (length-map best seen) ∙ (ap length is ∙ length-along (won ds) (length table)) in

@@ -12,7 +12,7 @@ use Rattle.selector_model.specs.Selector.{Selector, subject, any, with_test, Sim
 use Rattle.value_model.specs.Color.{opaque, black}
 use Rattle.value_model.specs.Value.{Value, keyword, color, same_value, current_color}
 use Rattle.value_model.specs.Table.{table, color_property, display_property}
-use Rattle.value_model.specs.Style.{Style, initial_style}
+use Rattle.value_model.specs.Style.{Style, initial_style, blockified}
 use Rattle.sheet_model.specs.Declared.{Declared, declares, longhand, exactly}
 use Rattle.sheet_model.specs.StyleRules.{StyleRule}
 use Rattle.sheet_model.specs.Sources.{Sources, all_placed}
@@ -224,15 +224,11 @@ abbrev displays : List Value
 displays =
     map word (codes "inline" ∷ codes "block" ∷ codes "inline-block" ∷ codes "flex" ∷ codes "inline-flex" ∷ codes "none" ∷ [])
 
-abbrev blocks : List Value
-blocks =
-    map word (codes "block" ∷ codes "block" ∷ codes "block" ∷ codes "flex" ∷ codes "flex" ∷ codes "none" ∷ [])
-
 abbrev display_at : Bool → Value → Option Value
 display_at is_root value =
     slice_get (cascaded is_root initial_style (declares_one display_property value ∷ [])).values display_property
 
-root_displays : map (display_at true) displays ≡ map Some blocks
+root_displays : map (display_at true) displays ≡ map (λ value. Some (blockified value)) displays
 unfolding winner table
 root_displays = refl
 

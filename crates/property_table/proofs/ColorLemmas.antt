@@ -1,9 +1,10 @@
 -- A colour is known by its four parts.
-use Rattle.std.proofs.Common.{◌≡◌, ℕ, ◌<◌, zero, suc, ◌/◌, ◌%◌, ◌==◌, Bool, List, [], ◌∷◌, ◌++◌, take, sym, ap, ◌∙◌, subst, refl, arith, if◌then◌else◌, true, false}
+use Rattle.std.proofs.Common.{◌≡◌, ℕ, ◌<◌, ◌/◌, ◌%◌, ◌==◌, Bool, List, [], ◌∷◌, ◌++◌, take, sym, ap, ◌∙◌, subst, refl, arith, if◌then◌else◌, true, false}
 use Rattle.std.specs.Bool.{Decides}
 use Rattle.std.specs.Char.{digit_char}
 use Rattle.std.specs.Str.{IsAscii, IsUtf8, chars}
 use Rattle.std.proofs.lemmas.Str.{IsUtf8-from_ascii, chars-IsAscii}
+use Rattle.std.proofs.lemmas.Str.Ascii.{IsAscii-nil, IsAscii-cons}
 use Rattle.std.proofs.lemmas.Bool.Decides.{nat_tests, Decides-eqb, Decides-and, Decides-like}
 use Rattle.value_model.specs.Color as model
 use Rattle.value_model.specs.Color.{rgba, same_color, color_text, two_digits, alpha_digits}
@@ -37,24 +38,17 @@ color_of-same a b h =
 pub color_eq-Decides : (a b : Color) → Decides (ghosts.eq a b) (color_of a ≡ color_of b)
 color_eq-Decides a b = same_color-Decides (color_of a) (color_of b)
 
-nil-IsAscii : IsAscii []
-nil-IsAscii i = omega arith
-
-cons-IsAscii : (b : ℕ) (bs : List ℕ) → b < 128 → IsAscii bs → IsAscii (b ∷ bs)
-cons-IsAscii b bs h rest zero = h
-cons-IsAscii b bs h rest (suc i) = rest i
-
 digit_char-ascii : (n : ℕ) → n < 16 → digit_char n < 128
 digit_char-ascii n h = grind (arith, nat_tests)
 
--- two digits in front of a text in ASCII
+-- two digits before a text in ASCII
 two_digits-IsAscii : (n : ℕ) (bs : List ℕ) → n < 256 → IsAscii bs → IsAscii (two_digits n ++ bs)
 two_digits-IsAscii n bs h rest =
-    cons-IsAscii (digit_char (n / 16)) (digit_char (n % 16) ∷ bs) (digit_char-ascii (n / 16) (omega arith)) (cons-IsAscii (digit_char (n % 16)) bs (digit_char-ascii (n % 16) (omega arith)) rest)
+    IsAscii-cons (digit_char (n / 16)) (digit_char (n % 16) ∷ bs) (digit_char-ascii (n / 16) (omega arith)) (IsAscii-cons (digit_char (n % 16)) bs (digit_char-ascii (n % 16) (omega arith)) rest)
 
 alpha_digits-IsAscii : (n : ℕ) (opaque : Bool) → n < 256 → IsAscii (if opaque then [] else two_digits n)
-alpha_digits-IsAscii n true h = nil-IsAscii
-alpha_digits-IsAscii n false h = two_digits-IsAscii n [] h nil-IsAscii
+alpha_digits-IsAscii n true h = IsAscii-nil
+alpha_digits-IsAscii n false h = two_digits-IsAscii n [] h IsAscii-nil
 
 -- the text of a colour is in ASCII
 color_text-IsAscii : (c : model.Color) → c.red < 256 → c.green < 256 → c.blue < 256 → c.alpha < 256 → IsAscii (color_text c)
@@ -62,7 +56,7 @@ color_text-IsAscii c red green blue alpha =
     let two : IsAscii (alpha_digits c.alpha) = alpha_digits-IsAscii c.alpha (c.alpha == 255) alpha in
     let blues : List ℕ = two_digits c.blue ++ alpha_digits c.alpha in
     let greens : List ℕ = two_digits c.green ++ blues in
-    cons-IsAscii 35 (two_digits c.red ++ greens) (omega arith) (two_digits-IsAscii c.red greens red (two_digits-IsAscii c.green blues green (two_digits-IsAscii c.blue (alpha_digits c.alpha) blue two)))
+    IsAscii-cons 35 (two_digits c.red ++ greens) (omega arith) (two_digits-IsAscii c.red greens red (two_digits-IsAscii c.green blues green (two_digits-IsAscii c.blue (alpha_digits c.alpha) blue two)))
 
 -- the bytes with the alpha, and how many of them are printed
 abbrev pub all_digits : model.Color → List ℕ

@@ -66,10 +66,10 @@ hexadecimals =
     ∷ codes "#123456" ∷ codes "#aBcDeF" ∷ codes "#789aBCde" ∷ codes "#FEDCBA98" ∷ codes "#00000000" ∷ []
 
 by_digits : reads color_property hexadecimals ≡ colors (
-  opaque 17 34 51
-      ∷ opaque 170 187 204 ∷ opaque 221 238 255 ∷ rgba 0 255 0 0 ∷ rgba 170 187 153 238
-      ∷ opaque 18 52 86 ∷ opaque 171 205 239 ∷ rgba 120 154 188 222 ∷ rgba 254 220 186 152 ∷ transparent ∷ []
-)
+    opaque 17 34 51
+    ∷ opaque 170 187 204 ∷ opaque 221 238 255 ∷ rgba 0 255 0 0 ∷ rgba 170 187 153 238
+    ∷ opaque 18 52 86 ∷ opaque 171 205 239 ∷ rgba 120 154 188 222 ∷ rgba 254 220 186 152 ∷ transparent ∷ []
+    )
 unfolding value_in tokens_in table
 by_digits = refl
 
@@ -78,27 +78,27 @@ abbrev reads_none : ℕ → List Characters → Type 0
 reads_none property texts = list_all is_none (reads property texts) ≡ true
 
 no_hexadecimals : reads_none color_property (
-  codes "#1" ∷ codes "#12" ∷ codes "#12345" ∷ codes "#1234567" ∷ codes "#123456789" ∷ codes "#12g" ∷ codes "#ggg"
-      ∷ codes "#abcdefgh" ∷ codes "#12-" ∷ (codes "#" ++ 233 ∷ codes "12") ∷ (codes "#" ++ 233 ∷ codes "a")
-      ∷ codes "# 123" ∷ codes "123" ∷ codes "#123 " ∷ codes "#123#123" ∷ []
-)
+    codes "#1" ∷ codes "#12" ∷ codes "#12345" ∷ codes "#1234567" ∷ codes "#123456789" ∷ codes "#12g" ∷ codes "#ggg"
+    ∷ codes "#abcdefgh" ∷ codes "#12-" ∷ (codes "#" ++ 233 ∷ codes "12") ∷ (codes "#" ++ 233 ∷ codes "a")
+    ∷ codes "# 123" ∷ codes "123" ∷ codes "#123 " ∷ codes "#123#123" ∷ []
+    )
 unfolding value_in tokens_in table named_colors
 no_hexadecimals = refl
 
 no_color_names : reads_none color_property (
-  [] ∷ codes " " ∷ codes "abc" ∷ codes "re" ∷ codes "redd" ∷ codes "current-color" ∷ codes "currentcolo"
-      ∷ (383 ∷ codes "ilver") ∷ codes " red" ∷ codes "red " ∷ codes "red red" ∷ codes "red blue" ∷ codes "red,"
-      ∷ codes "(red)" ∷ codes "inherit" ∷ codes "initial" ∷ codes "unset" ∷ codes "block" ∷ codes "none"
-      ∷ codes "rgb(1,2,3)" ∷ codes "rgb(" ∷ codes "*" ∷ []
-)
+    [] ∷ codes " " ∷ codes "abc" ∷ codes "re" ∷ codes "redd" ∷ codes "current-color" ∷ codes "currentcolo"
+    ∷ (383 ∷ codes "ilver") ∷ codes " red" ∷ codes "red " ∷ codes "red red" ∷ codes "red blue" ∷ codes "red,"
+    ∷ codes "(red)" ∷ codes "inherit" ∷ codes "initial" ∷ codes "unset" ∷ codes "block" ∷ codes "none"
+    ∷ codes "rgb(1,2,3)" ∷ codes "rgb(" ∷ codes "*" ∷ []
+    )
 unfolding value_in tokens_in table named_colors
 no_color_names = refl
 
 no_displays : reads_none display_property (
-  codes "left" ∷ codes "hidden" ∷ codes "red" ∷ codes "currentcolor" ∷ codes "inherit" ∷ codes "#123"
-      ∷ codes "#block" ∷ codes "block " ∷ codes " block" ∷ codes "block flex" ∷ codes "inlineblock"
-      ∷ codes "inline block" ∷ codes "inline-" ∷ (codes "bloc" ++ 8490 ∷ []) ∷ [] ∷ []
-)
+    codes "left" ∷ codes "hidden" ∷ codes "red" ∷ codes "currentcolor" ∷ codes "inherit" ∷ codes "#123"
+    ∷ codes "#block" ∷ codes "block " ∷ codes " block" ∷ codes "block flex" ∷ codes "inlineblock"
+    ∷ codes "inline block" ∷ codes "inline-" ∷ (codes "bloc" ++ 8490 ∷ []) ∷ [] ∷ []
+    )
 unfolding value_in tokens_in table
 no_displays = refl
 

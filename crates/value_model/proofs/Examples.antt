@@ -1,5 +1,5 @@
 -- The definitions computed on small values.
-use Rattle.std.proofs.Common.{◌≡◌, true, not, List, [], ◌∷◌, ◌++◌, map, Some, None, is_none, refl}
+use Rattle.std.proofs.Common.{◌≡◌, true, not, List, [], ◌∷◌, ◌++◌, map, Some, is_none, refl}
 use Rattle.std.specs.Prelude.{codes}
 use Rattle.std.specs.List.{list_all}
 use Rattle.base_model.specs.Text.{Characters}
