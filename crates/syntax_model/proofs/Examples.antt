@@ -4,6 +4,8 @@ use Rattle.std.specs.Prelude.{codes, not, filter}
 use Prim.Native.String.{String}
 use Rattle.base_model.specs.Text.{Characters, same_text}
 use Rattle.syntax_model.specs.Token.{Token, ident, hash, delim, whitespace}
+use Rattle.syntax_model.specs.Kinds.{is_comma, trimmed}
+use Rattle.syntax_model.specs.Outside.{parts_between}
 use Rattle.syntax_model.specs.Preprocess.{preprocessed}
 use Rattle.syntax_model.specs.TokensIn.{tokens_in}
 use Rattle.syntax_model.specs.RulesIn.{declarations_in, rules_in, sheet_rules_in}
@@ -48,6 +50,12 @@ tokens_shown text = join (map shown (tokens_in (preprocessed text)))
 
 abbrev rules_shown : Characters → Characters
 rules_shown text = join (map (λ r. with_inner (spelled r.prelude) (spelled r.block)) (sheet_rules_in text))
+
+abbrev parts_shown : Characters → Characters
+parts_shown text = join (map (λ part. with_inner [] (spelled part)) (parts_between is_comma (tokens_in text)))
+
+abbrev trimmed_shown : Characters → Characters
+trimmed_shown text = spelled (trimmed (tokens_in text))
 
 abbrev declarations_shown : Characters → Characters
 declarations_shown text =
@@ -225,3 +233,31 @@ blocks =
 blocks_right : others declarations_shown blocks ≡ []
 unfolding tokens_in declarations_in
 blocks_right = refl
+
+abbrev lists : List Case
+lists =
+    case "" "«»" ∷
+    case "a" "«a»" ∷
+    case "a,b" "«a»«b»" ∷
+    case ",a," "«»«a»«»" ∷
+    case "a(,)b,c" "«a(,)b»«c»" ∷
+    case "[,{,],},]," "«[,{,],},]»«»" ∷
+    case "a),b" "«a)»«b»" ∷
+    case "a(,b" "«a(,b»" ∷
+    []
+
+lists_right : others parts_shown lists ≡ []
+unfolding tokens_in
+lists_right = refl
+
+abbrev ends : List Case
+ends =
+    case "" "" ∷
+    case " \n " "" ∷
+    case " a b " "a b" ∷
+    case "a" "a" ∷
+    []
+
+ends_right : others trimmed_shown ends ≡ []
+unfolding tokens_in
+ends_right = refl
