@@ -1,0 +1,7 @@
+//! Tests of the public calls on selectors.
+#![tactic(auto)]
+
+#[cfg(test)]
+mod lists;
+#[cfg(test)]
+mod matched;

@@ -1,0 +1,88 @@
+use css_tokens::{preprocess, tokens};
+use selector_parser::selector_list;
+use selector_types::weight::specificity;
+use selector_types::{Combinator, Complex, Key, Selector, Simple, Test, key_of};
+use std::alloc::Global;
+use std::test::Fail;
+use stylo_base::{NoMemory, Text};
+
+/// The selectors of a text.
+fn read(alloc: Global, text: &str) -> Result<Option<Vec<Selector>>, NoMemory> {
+    let text = preprocess(alloc, text)?;
+    let list = tokens(alloc, text.as_str())?;
+    selector_list(alloc, list.as_slice())
+}
+
+/// How specific a selector is, and its key.
+fn told(alloc: Global, selector: &Selector) -> Result<String, NoMemory> {
+    let of = specificity(selector);
+    let (sign, name) = match key_of(selector) {
+        Key::Id(name) => ("#", name.as_str()),
+        Key::Class(class) => (".", class.as_str()),
+        Key::Type(tag) => ("", tag.as_str()),
+        Key::Any => ("*", ""),
+    };
+    Ok(format!(in alloc;
+        "{} {} {} {sign}{name} ",
+        of.ids(),
+        of.classes(),
+        of.types()
+    )?)
+}
+
+/// The same of the selectors of a text, or `none`.
+fn all_told(alloc: Global, text: &str) -> Result<String, NoMemory> {
+    let Some(list) = read(alloc, text)? else {
+        return Ok(String::from_str(alloc, "none")?);
+    };
+    let mut all = String::new(alloc);
+    for selector in list.as_slice() {
+        all.push_str(told(alloc, selector)?.as_str())?;
+    }
+    Ok(all)
+}
+
+#[test]
+fn three(rt: HostRuntime) -> Result<(), Fail> {
+    let text = all_told(rt.alloc(), "p.B.a , *,\n.c")?;
+    assert_eq!(rt; text.as_str(), "0 2 1 .B 0 0 0 * 0 1 0 .c ");
+    Ok(())
+}
+
+#[test]
+fn a_type(rt: HostRuntime) -> Result<(), Fail> {
+    let text = all_told(rt.alloc(), "html")?;
+    assert_eq!(rt; text.as_str(), "0 0 1 html ");
+    Ok(())
+}
+
+#[test]
+fn no_list(rt: HostRuntime) -> Result<(), Fail> {
+    let text = all_told(rt.alloc(), "a,,b")?;
+    assert_eq!(rt; text.as_str(), "none");
+    Ok(())
+}
+
+/// `#n > :is(p, .a)`
+fn nested(alloc: Global) -> Result<Selector, NoMemory> {
+    let tag = Test::Simple(Simple::Type(Text::of_str(alloc, "p")?));
+    let class = Test::Simple(Simple::Class(Text::of_str(alloc, "a")?));
+    let members = vec![in alloc;
+        Complex::alone(vec![in alloc; tag]?),
+        Complex::alone(vec![in alloc; class]?),
+    ]?;
+    let id = Test::Simple(Simple::Id(Text::of_str(alloc, "n")?));
+    let left = Complex::alone(vec![in alloc; id]?);
+    let tests = vec![in alloc; Test::Is(members)]?;
+    Selector::new(
+        alloc,
+        Complex::combined(alloc, tests, Combinator::Child, left)?,
+    )
+}
+
+#[test]
+fn most_specific_member(rt: HostRuntime) -> Result<(), Fail> {
+    let text = told(rt.alloc(), &nested(rt.alloc())?)?;
+    assert_eq!(rt; text.as_str(), "1 1 0 * ");
+    Ok(())
+}
