@@ -1,6 +1,9 @@
 -- The definitions computed on small texts.
 use Rattle.std.proofs.Common.{◌≡◌, [], ◌∷◌, refl}
-use Rattle.std.specs.Prelude.{codes}
+use Rattle.std.specs.Prelude.{codes, ℕ, List, map, length, true, false, Bool}
+use Rattle.base_model.specs.Origin.{Origin, user_agent, user, author, origin_rank}
+use Rattle.base_model.specs.Sheet.{Sheet}
+use Rattle.base_model.specs.Text.{Characters}
 use Rattle.value_model.specs.Color.{opaque}
 use Rattle.value_model.specs.Value.{keyword, color}
 use Rattle.value_model.specs.Table.{table}
@@ -12,6 +15,7 @@ use Rattle.sheet_model.specs.SelectorsIn.{selectors_in}
 use Rattle.sheet_model.specs.ValueIn.{value_in}
 use Rattle.sheet_model.specs.Declared.{declares}
 use Rattle.sheet_model.specs.StyleRules.{style_rules_in}
+use Rattle.sheet_model.specs.Sources.{PlacedRule, rules_of_sheets}
 
 two_rules : style_rules_in (codes "p.note, * { color: Red; display: block } i { colour: lime; clear: 3 } p > i {color: red}") ≡ record {
   selectors = subject (with_test (simple (type_selector (codes "p"))) (with_test (simple (class_selector (codes "note"))) any)) ∷ subject any ∷ [];
@@ -22,3 +26,84 @@ two_rules : style_rules_in (codes "p.note, * { color: Red; display: block } i { 
 } ∷ []
 unfolding style_rules_in rules_in tokens_in declarations_in selectors_in value_in table named_colors
 two_rules = refl
+
+-- how many selectors and how many declarations each rule has
+abbrev shape : Characters → List (ℕ × ℕ)
+shape text = map (λ rule. (length rule.selectors, length rule.declarations)) (style_rules_in text)
+
+nothing : shape (codes "") ≡ []
+unfolding style_rules_in rules_in tokens_in declarations_in selectors_in value_in table named_colors
+nothing = refl
+
+no_declarations : shape (codes "p{}") ≡ (1, 0) ∷ []
+unfolding style_rules_in rules_in tokens_in declarations_in selectors_in value_in table named_colors
+no_declarations = refl
+
+three_selectors : shape (codes "p,.a,i.b.c{color:red;display:block}") ≡ (3, 2) ∷ []
+unfolding style_rules_in rules_in tokens_in declarations_in selectors_in value_in table named_colors
+three_selectors = refl
+
+open_block : shape (codes "p{color:red") ≡ (1, 1) ∷ []
+unfolding style_rules_in rules_in tokens_in declarations_in selectors_in value_in table named_colors
+open_block = refl
+
+no_block : shape (codes "p") ≡ []
+unfolding style_rules_in rules_in tokens_in declarations_in selectors_in value_in table named_colors
+no_block = refl
+
+bad_list : shape (codes "p,{color:red}p{color:lime}") ≡ (1, 1) ∷ []
+unfolding style_rules_in rules_in tokens_in declarations_in selectors_in value_in table named_colors
+bad_list = refl
+
+no_prelude : shape (codes "{color:red}") ≡ []
+unfolding style_rules_in rules_in tokens_in declarations_in selectors_in value_in table named_colors
+no_prelude = refl
+
+unknown_names : shape (codes "p{colour:red;width:1px;clear:left}") ≡ (1, 1) ∷ []
+unfolding style_rules_in rules_in tokens_in declarations_in selectors_in value_in table named_colors
+unknown_names = refl
+
+bad_values : shape (codes "p{color:bleu;color:blue blue;color:;color}") ≡ (1, 0) ∷ []
+unfolding style_rules_in rules_in tokens_in declarations_in selectors_in value_in table named_colors
+bad_values = refl
+
+profile_keywords : shape (codes "p{color:red!important;color:inherit}") ≡ (1, 0) ∷ []
+unfolding style_rules_in rules_in tokens_in declarations_in selectors_in value_in table named_colors
+profile_keywords = refl
+
+closer_between : shape (codes "p{color:red}}i{color:red}b{clear:both}") ≡ (1, 1) ∷ (1, 1) ∷ []
+unfolding style_rules_in rules_in tokens_in declarations_in selectors_in value_in table named_colors
+closer_between = refl
+
+profile_combinator : shape (codes "p>i{color:red}*{VISIBILITY:Hidden}") ≡ (1, 1) ∷ []
+unfolding style_rules_in rules_in tokens_in declarations_in selectors_in value_in table named_colors
+profile_combinator = refl
+
+profile_layer : shape (codes "@layer a{p{color:red}}p{}") ≡ (1, 0) ∷ []
+unfolding style_rules_in rules_in tokens_in declarations_in selectors_in value_in table named_colors
+profile_layer = refl
+
+braces : shape (codes "{{{{{{") ≡ []
+unfolding style_rules_in rules_in tokens_in declarations_in selectors_in value_in table named_colors
+braces = refl
+
+-- where each rule of five sheets comes from: origin, sheet, position, first index
+abbrev given : ℕ → Origin → Bool → Characters → Sheet
+given number origin enabled text = record { number = number; origin = origin; enabled = enabled; text = text }
+
+abbrev five : List Sheet
+five =
+    given 1 author true (codes "p{color:red;clear:left}i>b{color:red}i{}b{color:lime}")
+    ∷ given 2 author false (codes "p{color:red}")
+    ∷ given 3 user true (codes "p{color:red}")
+    ∷ given 4 user_agent true []
+    ∷ given 5 user_agent true (codes "p{display:none}p{clear:both}")
+    ∷ []
+
+abbrev source : PlacedRule → ℕ × (ℕ × (ℕ × ℕ))
+source rule = (origin_rank rule.origin, (rule.sheet, (rule.position, rule.first_index)))
+
+placed_rules : map source (rules_of_sheets five)
+    ≡ (2, (1, (0, 0))) ∷ (2, (1, (0, 2))) ∷ (2, (1, (0, 2))) ∷ (1, (3, (1, 0))) ∷ (0, (5, (3, 0))) ∷ (0, (5, (3, 1))) ∷ []
+unfolding rules_of_sheets style_rules_in rules_in tokens_in declarations_in selectors_in value_in table named_colors
+placed_rules = refl

@@ -1,3 +1,4 @@
 pub mod Told
 pub mod Fronts
 pub mod Printed
+mod Examples

@@ -1,7 +1,7 @@
 -- The lines of a job, one after another.
-use Rattle.std.proofs.Common.{◌≡◌, ℕ, ◌+◌, ◌<◌, ◌≤◌, zero, suc, List, [], ◌∷◌, ◌++◌, map, length, get_or, Option, Result, Ok, Err, OnOk, OnErr, refl, sym, ap, ◌∙◌, subst, arith, append-nil}
+use Rattle.std.proofs.Common.{◌≡◌, ℕ, ◌+◌, ◌<◌, ◌≤◌, zero, suc, List, [], ◌∷◌, ◌++◌, map, length, get_or, Option, Result, Ok, Err, OnOk, OnErr, refl, sym, ap, ◌∙◌, subst, arith, append-nil, append_assoc, encode_utf8}
 use Rattle.std.specs.Prelude.{encode_utf8_all, codes}
-use Rattle.std.specs.List.{flat_map}
+use Rattle.std.specs.List.{flat_map, concat}
 use Rattle.std.specs.Io.KnownBytes.{Appends}
 use Rattle.std.proofs.lemmas.List.{length-map}
 use Rattle.scene_model.specs.Element.{Element}
@@ -66,3 +66,12 @@ whole_last (Err x) a b c first last whole e done more = tt
 pub front_of_last : {T E : Type 0} (r : Result T E) (a b c : Option (List ℕ)) (first last whole : List ℕ) → whole ≡ first ++ last → Appends a b first → OnErr r (GrewByFront b c last) → OnErr r (GrewByFront a c whole)
 front_of_last (Ok x) a b c first last whole e done more = tt
 front_of_last (Err x) a b c first last whole e done more = front_last a b c first last whole e done more
+
+encode-append : (xs ys : List ℕ) → encode_utf8_all (xs ++ ys) ≡ encode_utf8_all xs ++ encode_utf8_all ys
+encode-append [] ys = refl
+encode-append (c ∷ xs) ys = ap (λ l. encode_utf8 c ++ l) (encode-append xs ys) ∙ sym (append_assoc (encode_utf8 c) (encode_utf8_all xs) (encode_utf8_all ys))
+
+-- lines one after another in UTF-8 are the UTF-8 of all of them
+pub encoded_lines : (lines : List (List ℕ)) → flat_map encode_utf8_all lines ≡ encode_utf8_all (concat lines)
+encoded_lines [] = refl
+encoded_lines (line ∷ lines) = ap (λ l. encode_utf8_all line ++ l) (encoded_lines lines) ∙ sym (encode-append line (concat lines))
