@@ -6,15 +6,8 @@ use Rattle.syntax_model.specs.Token.{Token}
 use Rattle.syntax_model.specs.Brackets.{Bracket, closers, open_past}
 use Rattle.syntax_model.specs.Rules.{Rule, all_but_last}
 use Rattle.syntax_model.specs.RulesIn.{in_block, in_prelude, qualified, rules_in}
+use Rattle.syntax_model.proofs.OutsideLemmas.{nil_from_test}
 use Rattle.css_rules.specs.Parser.{AreInBlock, AreInPrelude, AreRead}
-
-nil_from_test : {X : Type 0} (xs : List X) → is_nil xs ≡ true → xs ≡ []
-nil_from_test [] e = refl
-nil_from_test (x ∷ xs) e = absurd (false≢true e)
-
-push_some : {X : Type 0} (xs : List X) (x : X) → xs ++ x ∷ [] ≡ [] → ⊥
-push_some [] x e = cc
-push_some (y ∷ xs) x e = cc
 
 -- nothing is read
 pub starts : AreInPrelude [] [] [] []

@@ -8,11 +8,13 @@ use Rattle.css_rules.specs.View.{rules_of}
 use Rattle.css_rules.specs.declared.rule_parser.RuleParser.{RuleParser}
 
 -- The rules so far, and those of whatever is left, are the rules of the whole. No bracket is open before a prelude.
-pub record AreInPrelude (seen : List Token) (rules : List Rule) (prelude : List Token) (pending : List Bracket) : Type 0 where
+pub record AreInPrelude (seen : List Token) (rules : List Rule) (prelude : List Token) (pending : List Bracket)
+    : Type 0 where
   pub begins : prelude ≡ [] → pending ≡ []
   pub joins : (left : List Token) → rules ++ in_prelude prelude pending left ≡ rules_in (seen ++ left)
 
-pub record AreInBlock (seen : List Token) (rules : List Rule) (prelude block : List Token) (pending : List Bracket) : Type 0 where
+pub record AreInBlock (seen : List Token) (rules : List Rule) (prelude block : List Token) (pending : List Bracket)
+    : Type 0 where
   pub joins : (left : List Token) → rules ++ in_block prelude block pending left ≡ rules_in (seen ++ left)
 
 abbrev pub AreRead : List Token → List Rule → List Token → Option (List Token) → List Bracket → Type 0
@@ -22,4 +24,5 @@ AreRead seen rules prelude (Some block) pending = AreInBlock seen rules prelude 
 -- the parser has read these tokens
 abbrev pub HasRead : RuleParser → List Token → Type 0
 HasRead parser seen =
-    AreRead seen (rules_of parser.rules.items) parser.prelude.items (option_map (λ list. list.items) parser.block) parser.pending
+    AreRead seen (rules_of parser.rules.items) parser.prelude.items
+    (option_map (λ list. list.items) parser.block) parser.pending

@@ -86,11 +86,6 @@ first_is c cs =
     (λ _. record { some = one.0; inside = one.1; piece = refl })
     Q)
 
--- the same, of a text of which one knows only that it is not empty
-pub first_of : (text : Characters) → 0 < length text → IsFirst text (kind_at text) (piece_length (kind_at text) text)
-first_of [] some = absurd (omega (arith, some))
-first_of (c ∷ cs) some = first_is c cs
-
 -- enough steps are enough
 enough : (n m start : ℕ) (text : Characters) → length text ≤ n → length text ≤ m → tokens_from n start text ≡ tokens_from m start text
 enough zero zero start text h k = refl
@@ -140,9 +135,6 @@ run_length p (c ∷ cs) rest run =
     cond-true (p c) _ _ run.all.0 ∙ omega (arith, more)
 
 -- so is the text of a token
-one_length : (piece : Characters) → length piece ≡ 1 → 1 ≡ length piece
-one_length piece e = sym e
-
 length_is : (kind : Kind) (piece rest : Characters) → IsPiece kind piece rest → piece_length kind (piece ++ rest) ≡ length piece
 length_is whitespace piece rest is = run_length is_blank piece rest is
 length_is ident piece rest is = run_length is_name_char piece rest is
@@ -150,7 +142,7 @@ length_is (hash is_id) [] rest is = absurd is
 length_is (hash is_id) (c ∷ name) rest is =
     let more : prefix_len is_name_char (name ++ rest) ≡ length name = run_length is_name_char name rest is.1 in
     omega (arith, more)
-length_is kind piece rest is = one_length piece is
+length_is kind piece rest is = sym is
 
 -- and as no others
 tokens_are : {start : ℕ} {text : Characters} {tokens : List Token} → Reads start text tokens → tokens ≡ tokens_from (length text) start text

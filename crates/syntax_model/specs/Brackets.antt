@@ -1,7 +1,8 @@
 -- Brackets, and what is outside them (css-syntax-3, section 5.4).
 use Rattle.std.specs.Prelude.{◌≡◌, ◌≢◌, ℕ, List, [], ◌∷◌, Bool, true, false, Option, Some, None, if◌then◌else◌}
 use Rattle.base_model.specs.Ascii.{right_parenthesis, right_bracket, right_brace}
-use Rattle.syntax_model.specs.Token.{Token, Kind, function, open_square, close_square, open_round, close_round, open_curly, close_curly}
+use Rattle.syntax_model.specs.Token.{Token, Kind, function, open_square, close_square, open_round, close_round}
+use Rattle.syntax_model.specs.Token.{open_curly, close_curly}
 
 pub data Bracket : Type 0 where
   square : Bracket
