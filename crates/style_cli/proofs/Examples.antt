@@ -90,28 +90,28 @@ in_utf8 doc sources lines e = ap (flat_map encode_utf8_all) e ∙ encoded_lines 
 
 -- the smallest job
 
-abbrev one_element : Job
-one_element = record {
+abbrev smallest_job : Job
+smallest_job = record {
   nodes =
       node None (codes "a") ([]) false false false
       ∷ [];
   sheets = [];
 }
 
-one_element_lines : lines_of (scene_of one_element.nodes) (sources_of (sheets_of one_element.sheets))
+smallest_job_lines : lines_of (scene_of smallest_job.nodes) (sources_of (sheets_of smallest_job.sheets))
     ≡ codes "batch 0: 0 accepted, 0 refused, 1 matched, 1 cascaded\n"
     ∷ codes "1 a{display: block}\n"
     ∷ []
 unfolding style_of ancestors winner batch_line element_line table scene_of tree_order matching rules_of_sheets
-one_element_lines = rw (digit_0, digit_1) refl
+smallest_job_lines = rw (digit_0, digit_1) refl
 
-one_element_text : text_of one_element ≡ encode_utf8_all (codes "batch 0: 0 accepted, 0 refused, 1 matched, 1 cascaded\n1 a{display: block}\n")
-one_element_text = in_utf8 (scene_of one_element.nodes) (sources_of (sheets_of one_element.sheets)) _ one_element_lines
+smallest_job_text : text_of smallest_job ≡ encode_utf8_all (codes "batch 0: 0 accepted, 0 refused, 1 matched, 1 cascaded\n1 a{display: block}\n")
+smallest_job_text = in_utf8 (scene_of smallest_job.nodes) (sources_of (sheets_of smallest_job.sheets)) _ smallest_job_lines
 
 -- examples/first.json
 
-abbrev first : Job
-first = record {
+abbrev first_job : Job
+first_job = record {
   nodes =
       node None (codes "html") ([]) false false false
       ∷ node (Some 0) (codes "p") ([]) false false false
@@ -119,21 +119,21 @@ first = record {
   sheets = [];
 }
 
-first_lines : lines_of (scene_of first.nodes) (sources_of (sheets_of first.sheets))
+first_job_lines : lines_of (scene_of first_job.nodes) (sources_of (sheets_of first_job.sheets))
     ≡ codes "batch 0: 0 accepted, 0 refused, 2 matched, 2 cascaded\n"
     ∷ codes "1 html{display: block}\n"
     ∷ codes "2 p{}\n"
     ∷ []
 unfolding style_of ancestors winner batch_line element_line table scene_of tree_order matching rules_of_sheets
-first_lines = rw (digit_0, digit_1, digit_2) refl
+first_job_lines = rw (digit_0, digit_1, digit_2) refl
 
-first_text : text_of first ≡ encode_utf8_all (codes "batch 0: 0 accepted, 0 refused, 2 matched, 2 cascaded\n1 html{display: block}\n2 p{}\n")
-first_text = in_utf8 (scene_of first.nodes) (sources_of (sheets_of first.sheets)) _ first_lines
+first_job_text : text_of first_job ≡ encode_utf8_all (codes "batch 0: 0 accepted, 0 refused, 2 matched, 2 cascaded\n1 html{display: block}\n2 p{}\n")
+first_job_text = in_utf8 (scene_of first_job.nodes) (sources_of (sheets_of first_job.sheets)) _ first_job_lines
 
 -- examples/tree-order.json
 
-abbrev tree_order : Job
-tree_order = record {
+abbrev order_job : Job
+order_job = record {
   nodes =
       node None (codes "html") ([]) false false false
       ∷ node (Some 0) (codes "p") ([]) false false false
@@ -145,7 +145,7 @@ tree_order = record {
   sheets = [];
 }
 
-tree_order_lines : lines_of (scene_of tree_order.nodes) (sources_of (sheets_of tree_order.sheets))
+order_job_lines : lines_of (scene_of order_job.nodes) (sources_of (sheets_of order_job.sheets))
     ≡ codes "batch 0: 0 accepted, 0 refused, 6 matched, 6 cascaded\n"
     ∷ codes "1 html{display: block}\n"
     ∷ codes "2 p{}\n"
@@ -155,15 +155,15 @@ tree_order_lines : lines_of (scene_of tree_order.nodes) (sources_of (sheets_of t
     ∷ (codes "5 " ++ (233 ∷ []) ++ codes "{}\n")
     ∷ []
 unfolding style_of ancestors winner batch_line element_line table scene_of tree_order matching rules_of_sheets
-tree_order_lines = rw (digit_0, digit_1, digit_2, digit_3, digit_4, digit_5, digit_6) refl
+order_job_lines = rw (digit_0, digit_1, digit_2, digit_3, digit_4, digit_5, digit_6) refl
 
-tree_order_text : text_of tree_order ≡ encode_utf8_all ((codes "batch 0: 0 accepted, 0 refused, 6 matched, 6 cascaded\n1 html{display: block}\n2 p{}\n4 i{}\n6 b{}\n3 q{}\n5 " ++ (233 ∷ []) ++ codes "{}\n"))
-tree_order_text = in_utf8 (scene_of tree_order.nodes) (sources_of (sheets_of tree_order.sheets)) _ tree_order_lines
+order_job_text : text_of order_job ≡ encode_utf8_all ((codes "batch 0: 0 accepted, 0 refused, 6 matched, 6 cascaded\n1 html{display: block}\n2 p{}\n4 i{}\n6 b{}\n3 q{}\n5 " ++ (233 ∷ []) ++ codes "{}\n"))
+order_job_text = in_utf8 (scene_of order_job.nodes) (sources_of (sheets_of order_job.sheets)) _ order_job_lines
 
 -- examples/page.json
 
-abbrev page : Job
-page = record {
+abbrev page_job : Job
+page_job = record {
   nodes =
       node None (codes "html") ((codes "lang", codes "en") ∷ []) false false false
       ∷ node (Some 0) (codes "body") ([]) false false false
@@ -174,7 +174,7 @@ page = record {
   sheets = [];
 }
 
-page_lines : lines_of (scene_of page.nodes) (sources_of (sheets_of page.sheets))
+page_job_lines : lines_of (scene_of page_job.nodes) (sources_of (sheets_of page_job.sheets))
     ≡ codes "batch 0: 0 accepted, 0 refused, 5 matched, 5 cascaded\n"
     ∷ codes "1 html{display: block}\n"
     ∷ codes "2 body{}\n"
@@ -183,15 +183,15 @@ page_lines : lines_of (scene_of page.nodes) (sources_of (sheets_of page.sheets))
     ∷ codes "5 a{}\n"
     ∷ []
 unfolding style_of ancestors winner batch_line element_line table scene_of tree_order matching rules_of_sheets
-page_lines = rw (digit_0, digit_1, digit_2, digit_3, digit_4, digit_5) refl
+page_job_lines = rw (digit_0, digit_1, digit_2, digit_3, digit_4, digit_5) refl
 
-page_text : text_of page ≡ encode_utf8_all (codes "batch 0: 0 accepted, 0 refused, 5 matched, 5 cascaded\n1 html{display: block}\n2 body{}\n3 h1{}\n4 p{}\n5 a{}\n")
-page_text = in_utf8 (scene_of page.nodes) (sources_of (sheets_of page.sheets)) _ page_lines
+page_job_text : text_of page_job ≡ encode_utf8_all (codes "batch 0: 0 accepted, 0 refused, 5 matched, 5 cascaded\n1 html{display: block}\n2 body{}\n3 h1{}\n4 p{}\n5 a{}\n")
+page_job_text = in_utf8 (scene_of page_job.nodes) (sources_of (sheets_of page_job.sheets)) _ page_job_lines
 
 -- examples/sheet.json
 
-abbrev sheet : Job
-sheet = record {
+abbrev sheet_job : Job
+sheet_job = record {
   nodes =
       node None (codes "html") ([]) false false false
       ∷ node (Some 0) (codes "p") ((codes "class", codes "note") ∷ []) false false false
@@ -201,39 +201,39 @@ sheet = record {
   sheets = sheet (codes "p { color: red; display: block } .note { color: #00f } * { visibility: hidden } i { visibility: visible; colour: lime }") ∷ [];
 }
 
-abbrev sheet_rules : List PlacedRule
-sheet_rules =
+abbrev sheet_job_rules : List PlacedRule
+sheet_job_rules =
     rule 0 (subject (with_test (simple (type_selector (codes "p"))) any) ∷ []) (declares 0 (color (opaque 255 0 0)) ∷ declares 1 (keyword (codes "block")) ∷ [])
     ∷ rule 2 (subject (with_test (simple (class_selector (codes "note"))) any) ∷ []) (declares 0 (color (opaque 0 0 255)) ∷ [])
     ∷ rule 3 (subject any ∷ []) (declares 3 (keyword (codes "hidden")) ∷ [])
     ∷ rule 4 (subject (with_test (simple (type_selector (codes "i"))) any) ∷ []) (declares 3 (keyword (codes "visible")) ∷ [])
     ∷ []
 
-sheet_read : rules_of_sheets (sheets_of sheet.sheets) ≡ sheet_rules
+sheet_job_read : rules_of_sheets (sheets_of sheet_job.sheets) ≡ sheet_job_rules
 unfolding rules_of_sheets style_rules_in rules_in tokens_in declarations_in selectors_in value_in named_colors table
-sheet_read = refl
+sheet_job_read = refl
 
-sheet_at_1 : matching (scene_of sheet.nodes) (record { rules = sheet_rules }) 1
-    ≡ applied sheet_rules 2 (record { ids = 0; classes = 0; types = 0 })
+sheet_job_at_1 : matching (scene_of sheet_job.nodes) (record { rules = sheet_job_rules }) 1
+    ≡ applied sheet_job_rules 2 (record { ids = 0; classes = 0; types = 0 })
 unfolding matching scene_of tree_order
-sheet_at_1 = simp gets
+sheet_job_at_1 = simp gets
 
-sheet_at_2 : matching (scene_of sheet.nodes) (record { rules = sheet_rules }) 2
-    ≡ applied sheet_rules 0 (record { ids = 0; classes = 0; types = 1 }) ++ (applied sheet_rules 1 (record { ids = 0; classes = 1; types = 0 }) ++ applied sheet_rules 2 (record { ids = 0; classes = 0; types = 0 }))
+sheet_job_at_2 : matching (scene_of sheet_job.nodes) (record { rules = sheet_job_rules }) 2
+    ≡ applied sheet_job_rules 0 (record { ids = 0; classes = 0; types = 1 }) ++ (applied sheet_job_rules 1 (record { ids = 0; classes = 1; types = 0 }) ++ applied sheet_job_rules 2 (record { ids = 0; classes = 0; types = 0 }))
 unfolding matching scene_of tree_order
-sheet_at_2 = simp gets
+sheet_job_at_2 = simp gets
 
-sheet_at_3 : matching (scene_of sheet.nodes) (record { rules = sheet_rules }) 3
-    ≡ applied sheet_rules 0 (record { ids = 0; classes = 0; types = 1 }) ++ applied sheet_rules 2 (record { ids = 0; classes = 0; types = 0 })
+sheet_job_at_3 : matching (scene_of sheet_job.nodes) (record { rules = sheet_job_rules }) 3
+    ≡ applied sheet_job_rules 0 (record { ids = 0; classes = 0; types = 1 }) ++ applied sheet_job_rules 2 (record { ids = 0; classes = 0; types = 0 })
 unfolding matching scene_of tree_order
-sheet_at_3 = simp gets
+sheet_job_at_3 = simp gets
 
-sheet_at_4 : matching (scene_of sheet.nodes) (record { rules = sheet_rules }) 4
-    ≡ applied sheet_rules 2 (record { ids = 0; classes = 0; types = 0 }) ++ applied sheet_rules 3 (record { ids = 0; classes = 0; types = 1 })
+sheet_job_at_4 : matching (scene_of sheet_job.nodes) (record { rules = sheet_job_rules }) 4
+    ≡ applied sheet_job_rules 2 (record { ids = 0; classes = 0; types = 0 }) ++ applied sheet_job_rules 3 (record { ids = 0; classes = 0; types = 1 })
 unfolding matching scene_of tree_order
-sheet_at_4 = simp gets
+sheet_job_at_4 = simp gets
 
-sheet_lines : lines_of (scene_of sheet.nodes) (sources_of (sheets_of sheet.sheets))
+sheet_job_lines : lines_of (scene_of sheet_job.nodes) (sources_of (sheets_of sheet_job.sheets))
     ≡ codes "batch 0: 0 accepted, 0 refused, 4 matched, 4 cascaded\n"
     ∷ codes "1 html{display: block; visibility: hidden}\n"
     ∷ codes "2 p{color: #0000ff; display: block; visibility: hidden}\n"
@@ -241,15 +241,15 @@ sheet_lines : lines_of (scene_of sheet.nodes) (sources_of (sheets_of sheet.sheet
     ∷ codes "3 p{color: #ff0000; display: block; visibility: hidden}\n"
     ∷ []
 unfolding style_of ancestors winner batch_line element_line table scene_of tree_order
-sheet_lines = rw (sheet_read, sheet_at_1, sheet_at_2, sheet_at_3, sheet_at_4, digit_0, digit_1, digit_2, digit_3, digit_4) refl
+sheet_job_lines = rw (sheet_job_read, sheet_job_at_1, sheet_job_at_2, sheet_job_at_3, sheet_job_at_4, digit_0, digit_1, digit_2, digit_3, digit_4) refl
 
-sheet_text : text_of sheet ≡ encode_utf8_all (codes "batch 0: 0 accepted, 0 refused, 4 matched, 4 cascaded\n1 html{display: block; visibility: hidden}\n2 p{color: #0000ff; display: block; visibility: hidden}\n4 i{color: #0000ff}\n3 p{color: #ff0000; display: block; visibility: hidden}\n")
-sheet_text = in_utf8 (scene_of sheet.nodes) (sources_of (sheets_of sheet.sheets)) _ sheet_lines
+sheet_job_text : text_of sheet_job ≡ encode_utf8_all (codes "batch 0: 0 accepted, 0 refused, 4 matched, 4 cascaded\n1 html{display: block; visibility: hidden}\n2 p{color: #0000ff; display: block; visibility: hidden}\n4 i{color: #0000ff}\n3 p{color: #ff0000; display: block; visibility: hidden}\n")
+sheet_job_text = in_utf8 (scene_of sheet_job.nodes) (sources_of (sheets_of sheet_job.sheets)) _ sheet_job_lines
 
 -- a class, a type and `*`, in one sheet
 
-abbrev classes : Job
-classes = record {
+abbrev classes_job : Job
+classes_job = record {
   nodes =
       node None (codes "html") ([]) false false false
       ∷ node (Some 0) (codes "p") ((codes "class", codes "a") ∷ []) false false false
@@ -258,48 +258,48 @@ classes = record {
   sheets = sheet (codes "p{color:red} .a{color:blue;display:block} *{visibility:hidden}") ∷ [];
 }
 
-abbrev classes_rules : List PlacedRule
-classes_rules =
+abbrev classes_job_rules : List PlacedRule
+classes_job_rules =
     rule 0 (subject (with_test (simple (type_selector (codes "p"))) any) ∷ []) (declares 0 (color (opaque 255 0 0)) ∷ [])
     ∷ rule 1 (subject (with_test (simple (class_selector (codes "a"))) any) ∷ []) (declares 0 (color (opaque 0 0 255)) ∷ declares 1 (keyword (codes "block")) ∷ [])
     ∷ rule 3 (subject any ∷ []) (declares 3 (keyword (codes "hidden")) ∷ [])
     ∷ []
 
-classes_read : rules_of_sheets (sheets_of classes.sheets) ≡ classes_rules
+classes_job_read : rules_of_sheets (sheets_of classes_job.sheets) ≡ classes_job_rules
 unfolding rules_of_sheets style_rules_in rules_in tokens_in declarations_in selectors_in value_in named_colors table
-classes_read = refl
+classes_job_read = refl
 
-classes_at_1 : matching (scene_of classes.nodes) (record { rules = classes_rules }) 1
-    ≡ applied classes_rules 2 (record { ids = 0; classes = 0; types = 0 })
+classes_job_at_1 : matching (scene_of classes_job.nodes) (record { rules = classes_job_rules }) 1
+    ≡ applied classes_job_rules 2 (record { ids = 0; classes = 0; types = 0 })
 unfolding matching scene_of tree_order
-classes_at_1 = simp gets
+classes_job_at_1 = simp gets
 
-classes_at_2 : matching (scene_of classes.nodes) (record { rules = classes_rules }) 2
-    ≡ applied classes_rules 0 (record { ids = 0; classes = 0; types = 1 }) ++ (applied classes_rules 1 (record { ids = 0; classes = 1; types = 0 }) ++ applied classes_rules 2 (record { ids = 0; classes = 0; types = 0 }))
+classes_job_at_2 : matching (scene_of classes_job.nodes) (record { rules = classes_job_rules }) 2
+    ≡ applied classes_job_rules 0 (record { ids = 0; classes = 0; types = 1 }) ++ (applied classes_job_rules 1 (record { ids = 0; classes = 1; types = 0 }) ++ applied classes_job_rules 2 (record { ids = 0; classes = 0; types = 0 }))
 unfolding matching scene_of tree_order
-classes_at_2 = simp gets
+classes_job_at_2 = simp gets
 
-classes_at_3 : matching (scene_of classes.nodes) (record { rules = classes_rules }) 3
-    ≡ applied classes_rules 0 (record { ids = 0; classes = 0; types = 1 }) ++ applied classes_rules 2 (record { ids = 0; classes = 0; types = 0 })
+classes_job_at_3 : matching (scene_of classes_job.nodes) (record { rules = classes_job_rules }) 3
+    ≡ applied classes_job_rules 0 (record { ids = 0; classes = 0; types = 1 }) ++ applied classes_job_rules 2 (record { ids = 0; classes = 0; types = 0 })
 unfolding matching scene_of tree_order
-classes_at_3 = simp gets
+classes_job_at_3 = simp gets
 
-classes_lines : lines_of (scene_of classes.nodes) (sources_of (sheets_of classes.sheets))
+classes_job_lines : lines_of (scene_of classes_job.nodes) (sources_of (sheets_of classes_job.sheets))
     ≡ codes "batch 0: 0 accepted, 0 refused, 3 matched, 3 cascaded\n"
     ∷ codes "1 html{display: block; visibility: hidden}\n"
     ∷ codes "2 p{color: #0000ff; display: block; visibility: hidden}\n"
     ∷ codes "3 p{color: #ff0000; visibility: hidden}\n"
     ∷ []
 unfolding style_of ancestors winner batch_line element_line table scene_of tree_order
-classes_lines = rw (classes_read, classes_at_1, classes_at_2, classes_at_3, digit_0, digit_1, digit_2, digit_3) refl
+classes_job_lines = rw (classes_job_read, classes_job_at_1, classes_job_at_2, classes_job_at_3, digit_0, digit_1, digit_2, digit_3) refl
 
-classes_text : text_of classes ≡ encode_utf8_all (codes "batch 0: 0 accepted, 0 refused, 3 matched, 3 cascaded\n1 html{display: block; visibility: hidden}\n2 p{color: #0000ff; display: block; visibility: hidden}\n3 p{color: #ff0000; visibility: hidden}\n")
-classes_text = in_utf8 (scene_of classes.nodes) (sources_of (sheets_of classes.sheets)) _ classes_lines
+classes_job_text : text_of classes_job ≡ encode_utf8_all (codes "batch 0: 0 accepted, 0 refused, 3 matched, 3 cascaded\n1 html{display: block; visibility: hidden}\n2 p{color: #0000ff; display: block; visibility: hidden}\n3 p{color: #ff0000; visibility: hidden}\n")
+classes_job_text = in_utf8 (scene_of classes_job.nodes) (sources_of (sheets_of classes_job.sheets)) _ classes_job_lines
 
 -- a rule that is dropped, and a block that the end of the text closes
 
-abbrev dropped : Job
-dropped = record {
+abbrev dropped_job : Job
+dropped_job = record {
   nodes =
       node None (codes "html") ([]) false false false
       ∷ node (Some 0) (codes "p") ([]) false false false
@@ -307,33 +307,33 @@ dropped = record {
   sheets = sheet (codes "p,{color:red} p{color:lime;colour:x;display:none") ∷ [];
 }
 
-abbrev dropped_rules : List PlacedRule
-dropped_rules =
+abbrev dropped_job_rules : List PlacedRule
+dropped_job_rules =
     rule 0 (subject (with_test (simple (type_selector (codes "p"))) any) ∷ []) (declares 0 (color (opaque 0 255 0)) ∷ declares 1 (keyword (codes "none")) ∷ [])
     ∷ []
 
-dropped_read : rules_of_sheets (sheets_of dropped.sheets) ≡ dropped_rules
+dropped_job_read : rules_of_sheets (sheets_of dropped_job.sheets) ≡ dropped_job_rules
 unfolding rules_of_sheets style_rules_in rules_in tokens_in declarations_in selectors_in value_in named_colors table
-dropped_read = refl
+dropped_job_read = refl
 
-dropped_at_1 : matching (scene_of dropped.nodes) (record { rules = dropped_rules }) 1
+dropped_job_at_1 : matching (scene_of dropped_job.nodes) (record { rules = dropped_job_rules }) 1
     ≡ []
 unfolding matching scene_of tree_order
-dropped_at_1 = refl
+dropped_job_at_1 = refl
 
-dropped_at_2 : matching (scene_of dropped.nodes) (record { rules = dropped_rules }) 2
-    ≡ applied dropped_rules 0 (record { ids = 0; classes = 0; types = 1 })
+dropped_job_at_2 : matching (scene_of dropped_job.nodes) (record { rules = dropped_job_rules }) 2
+    ≡ applied dropped_job_rules 0 (record { ids = 0; classes = 0; types = 1 })
 unfolding matching scene_of tree_order
-dropped_at_2 = refl
+dropped_job_at_2 = refl
 
-dropped_lines : lines_of (scene_of dropped.nodes) (sources_of (sheets_of dropped.sheets))
+dropped_job_lines : lines_of (scene_of dropped_job.nodes) (sources_of (sheets_of dropped_job.sheets))
     ≡ codes "batch 0: 0 accepted, 0 refused, 2 matched, 2 cascaded\n"
     ∷ codes "1 html{display: block}\n"
     ∷ codes "2 p{color: #00ff00; display: none}\n"
     ∷ []
 unfolding style_of ancestors winner batch_line element_line table scene_of tree_order
-dropped_lines = rw (dropped_read, dropped_at_1, dropped_at_2, digit_0, digit_1, digit_2) refl
+dropped_job_lines = rw (dropped_job_read, dropped_job_at_1, dropped_job_at_2, digit_0, digit_1, digit_2) refl
 
-dropped_text : text_of dropped ≡ encode_utf8_all (codes "batch 0: 0 accepted, 0 refused, 2 matched, 2 cascaded\n1 html{display: block}\n2 p{color: #00ff00; display: none}\n")
-dropped_text = in_utf8 (scene_of dropped.nodes) (sources_of (sheets_of dropped.sheets)) _ dropped_lines
+dropped_job_text : text_of dropped_job ≡ encode_utf8_all (codes "batch 0: 0 accepted, 0 refused, 2 matched, 2 cascaded\n1 html{display: block}\n2 p{color: #00ff00; display: none}\n")
+dropped_job_text = in_utf8 (scene_of dropped_job.nodes) (sources_of (sheets_of dropped_job.sheets)) _ dropped_job_lines
 
