@@ -3,7 +3,5 @@
 
 mod matching;
 mod styles;
-#[cfg(test)]
-mod tests;
 
 pub use styles::style_all;

@@ -66,7 +66,7 @@ fn add_declarations(
 ) -> Result<(), NoMemory>
     ensures { OnOk result (map matched_of list.new.items ≡ map matched_of list.old.items
         ++ all_matched (rule_of rule.now []) specificity rule.now.first_index
-            (map declared_of rule.now.declarations.items)) }
+        (map declared_of rule.now.declarations.items)) }
 {
     let mut index = rule.first_index();
     for declared in rule.declarations() {

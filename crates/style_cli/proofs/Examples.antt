@@ -336,4 +336,3 @@ dropped_job_lines = rw (dropped_job_read, dropped_job_at_1, dropped_job_at_2, di
 
 dropped_job_text : text_of dropped_job ≡ encode_utf8_all (codes "batch 0: 0 accepted, 0 refused, 2 matched, 2 cascaded\n1 html{display: block}\n2 p{color: #00ff00; display: none}\n")
 dropped_job_text = in_utf8 (scene_of dropped_job.nodes) (sources_of (sheets_of dropped_job.sheets)) _ dropped_job_lines
-

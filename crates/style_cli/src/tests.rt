@@ -34,7 +34,9 @@ const JOB: &[u8] = b"{\"version\":1,\"nodes\":[{\"tag\":\"html\"},{\"tag\":\"p\"
 /// The text of that job, and what the sink holds where its second or third write fails.
 const TEXT: &str = "batch 0: 0 accepted, 0 refused, 2 matched, 2 cascaded\n\
     1 html{display: block}\n2 p{clear: left}\n";
+
 const ONE_LINE: &str = "batch 0: 0 accepted, 0 refused, 2 matched, 2 cascaded\n";
+
 const TWO_LINES: &str =
     "batch 0: 0 accepted, 0 refused, 2 matched, 2 cascaded\n1 html{display: block}\n";
 
@@ -103,7 +105,13 @@ fn no_json(rt: HostRuntime) -> Result<(), Fail> {
 
 #[test]
 fn another_shape(rt: HostRuntime) -> Result<(), Fail> {
-    let refused = gives(&rt, &LINE, b"{\"version\":1,\"nodes\":[]}", (&[], &[1]), (4, ""))?;
+    let refused = gives(
+        &rt,
+        &LINE,
+        b"{\"version\":1,\"nodes\":[]}",
+        (&[], &[1]),
+        (4, ""),
+    )?;
     assert!(rt; refused);
     Ok(())
 }

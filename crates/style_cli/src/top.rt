@@ -9,8 +9,8 @@ ghost use Rattle.style_cli.specs.Answer.{IsReadAs, IsTooLong, IsJob, IsPrinted, 
 ghost use Rattle.base_model.specs.Limits.{element_limit, input_limit, sheet_limit};
 ghost use Rattle.style_cli.specs.Loops.{LosesAtMost, LosesFront};
 
-use crate::printing::print_job;
 use crate::input::{Stop, read_all};
+use crate::printing::print_job;
 use crate::status::Status;
 use crate::words::read_line;
 use io_edges::{Sink, SinkRefused, Source};

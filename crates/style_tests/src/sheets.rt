@@ -59,7 +59,12 @@ fn a_rule_of_the_second_sheet(rt: HostRuntime) -> Result<(), Fail> {
     };
     let sheets = Sheets::start(alloc, &[disabled, enabled])?;
     let last = match sheets.rules() {
-        [_, rule] => Some((rule.origin(), rule.sheet(), rule.position(), rule.first_index())),
+        [_, rule] => Some((
+            rule.origin(),
+            rule.sheet(),
+            rule.position(),
+            rule.first_index(),
+        )),
         _ => None,
     };
     assert_eq!(rt; last, Some((Origin::User, 2, 0, 1)));
