@@ -60,9 +60,9 @@ module _ (doc : List Element) (v : IsValid doc) (test : ℕ → Bool) where
       own y true same i = ap (parent_of doc) (sym (eqb-true x y same)) ∙ e
       own y false other i = same_parent doc v x y i ∙ e
 
-  turn : (q r : ℕ) (front : List ℕ) → q ∷ ancestors doc q ≡ front ++ r ∷ ancestors doc r → IsUnder doc q r
-  turn q r [] e = ([], cc)
-  turn q r (g ∷ front) e = (front ++ r ∷ [], tail e ∙ sym (append_assoc front (r ∷ []) (ancestors doc r)))
+  above_each : (q r : ℕ) (front : List ℕ) → q ∷ ancestors doc q ≡ front ++ r ∷ ancestors doc r → IsUnder doc q r
+  above_each q r [] e = ([], cc)
+  above_each q r (g ∷ front) e = (front ++ r ∷ [], tail e ∙ sym (append_assoc front (r ∷ []) (ancestors doc r)))
     where
       tail : q ∷ ancestors doc q ≡ g ∷ (front ++ r ∷ ancestors doc r) → ancestors doc q ≡ front ++ r ∷ ancestors doc r
       tail h = cc
@@ -70,7 +70,7 @@ module _ (doc : List Element) (v : IsValid doc) (test : ℕ → Bool) where
   parent_above : (x q y : ℕ) (o : Option ℕ) → parent_of doc x ≡ Some q → ((w : ℕ) → IsUnder doc q w → test w ≡ false) → IsUnder doc x y → parent_of doc y ≡ o → to_left child y ≡ false
   parent_above x q y None e h u f = only_parent y None f
   parent_above x q y (Some r) e h (front, u) f =
-      only_parent y (Some r) f ∙ no_or (test r) (h r (turn q r front (sym (ancestors-child doc v x q e) ∙ (u ∙ ap (λ l. front ++ l) (ancestors-child doc v y r f)))))
+      only_parent y (Some r) f ∙ no_or (test r) (h r (above_each q r front (sym (ancestors-child doc v x q e) ∙ (u ∙ ap (λ l. front ++ l) (ancestors-child doc v y r f)))))
 
   pub child_none : (x : ℕ) → parent_of doc x ≡ None → Tells doc (to_left child) x NotMatchedGlobally
   child_none x e y (front, u) = only_parent y None (root y (parent_of doc y) refl front (sym (ancestors-root doc v x e) ∙ u))

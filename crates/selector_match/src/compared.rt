@@ -21,7 +21,9 @@ pub(crate) fn compared(
     part: &str,
     case_counts: bool,
 ) -> bool
-    ensures { result ≡ model.compared (operator_of operator) (folded case_counts (chars value.now)) (folded case_counts (chars part.now)) }
+    ensures { result
+        ≡ model.compared (operator_of operator)
+        (folded case_counts (chars value.now)) (folded case_counts (chars part.now)) }
 {
     let (text, bytes) = (value.as_bytes(), part.as_bytes());
     match operator {

@@ -64,7 +64,8 @@ fn has_tag(doc: &Doc, tag: &str, x: u32) -> bool
 /// The siblings after `x`, or those before it.
 fn side_of(doc: &Doc, from_last: bool, x: u32) -> &[u32]
     requires { IsElement doc.now.elements x }
-    ensures side { result.now ≡ (if from_last then right_of x (siblings doc.now.elements x) else left_of x (siblings doc.now.elements x)) }
+    ensures side { let all = siblings doc.now.elements x in
+        result.now ≡ (if from_last then right_of x all else left_of x all) }
     ensures elements { All (IsElement doc.now.elements) result.now }
 {
     if from_last {
@@ -92,7 +93,9 @@ pub(crate) fn index_by(doc: &Doc, from_last: bool, of_type: bool, x: u32) -> usi
 /// Whether `x` is the only one of its siblings, or the only one of its type.
 pub(crate) fn is_only(doc: &Doc, of_type: bool, x: u32) -> bool
     requires { IsElement doc.now.elements x }
-    ensures { result ≡ ((model_index_by doc.now.elements false of_type x == 1) && (model_index_by doc.now.elements true of_type x == 1)) }
+    ensures { result
+        ≡ ((model_index_by doc.now.elements false of_type x == 1)
+        && (model_index_by doc.now.elements true of_type x == 1)) }
 {
     index_by(doc, false, of_type, x) == 1 && index_by(doc, true, of_type, x) == 1
 }

@@ -12,7 +12,7 @@ use Rattle.scene_model.proofs.Found.{is_element-numbers}
 use Rattle.scene_model.proofs.Numbers.{is_in, each_is_in}
 use Rattle.scene_model.proofs.Siblings.{each_left_sibling, last_split}
 use Rattle.selector_model.specs.Selector.{Combinator, descendant, child, next_sibling, later_sibling, Selector, combined, Compound}
-use Rattle.selector_model.specs.Holds.{nearest, leftwards, stands, holds, meets}
+use Rattle.selector_model.specs.Holds.{nearest, leftwards, is_in_relation, holds, meets}
 
 module _ (doc : List Element) (v : IsValid doc) where
   each_there : (P : ℕ → Type 0) (o : Option ℕ) → ((p : ℕ) → o ≡ Some p → P p) → AllByRecursion P (option_to_list o)
@@ -31,20 +31,20 @@ module _ (doc : List Element) (v : IsValid doc) where
   left_each later_sibling x = each_left_sibling doc v x
 
   -- there is an element in the relation that passes a test where one to the left passes it
-  pub left_same : (k : Combinator) (test : ℕ → Bool) (x : ℕ) → list_any (λ y. stands doc k y x && test y) (numbers doc) ≡ list_any test (leftwards doc k x)
-  left_same k test x = both_ways (list_any (λ y. stands doc k y x && test y) (numbers doc)) (list_any test (leftwards doc k x)) there back
+  pub left_same : (k : Combinator) (test : ℕ → Bool) (x : ℕ) → list_any (λ y. is_in_relation doc k y x && test y) (numbers doc) ≡ list_any test (leftwards doc k x)
+  left_same k test x = both_ways (list_any (λ y. is_in_relation doc k y x && test y) (numbers doc)) (list_any test (leftwards doc k x)) there back
     where
-      there : list_any (λ y. stands doc k y x && test y) (numbers doc) ≡ true → list_any test (leftwards doc k x) ≡ true
+      there : list_any (λ y. is_in_relation doc k y x && test y) (numbers doc) ≡ true → list_any test (leftwards doc k x) ≡ true
       there h =
-          let (y, (i, t)) = any_in (λ y. stands doc k y x && test y) (numbers doc) h in
-          let parts = and_parts (stands doc k y x) (test y) t in
+          let (y, (i, t)) = any_in (λ y. is_in_relation doc k y x && test y) (numbers doc) h in
+          let parts = and_parts (is_in_relation doc k y x) (test y) t in
           in_any test y (leftwards doc k x) parts.0 parts.1
 
-      back : list_any test (leftwards doc k x) ≡ true → list_any (λ y. stands doc k y x && test y) (numbers doc) ≡ true
+      back : list_any test (leftwards doc k x) ≡ true → list_any (λ y. is_in_relation doc k y x && test y) (numbers doc) ≡ true
       back h =
           let (y, (i, t)) = any_in test (leftwards doc k x) h in
           let element : IsElement doc y = each_is_in (IsElement doc) y (leftwards doc k x) (left_each k x) i in
-          in_any (λ y. stands doc k y x && test y) y (numbers doc) (sym (is_element-numbers doc y) ∙ element) (and_from (stands doc k y x) (test y) i t)
+          in_any (λ y. is_in_relation doc k y x && test y) y (numbers doc) (sym (is_element-numbers doc y) ∙ element) (and_from (is_in_relation doc k y x) (test y) i t)
 
   -- a selector with another to the left of it
   pub holds-combined : (c : Compound) (k : Combinator) (r : Selector) (x : ℕ) → holds doc (combined c k r) x ≡ (meets doc c x && list_any (holds doc r) (leftwards doc k x))

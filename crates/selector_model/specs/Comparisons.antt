@@ -1,5 +1,4 @@
--- How an attribute's value is compared (selectors-4, section 6), and which indexes An+B names (css-syntax-3,
--- section 6).
+-- How an attribute's value is compared (selectors-4, section 6), and the indexes of An+B (css-syntax-3, section 6).
 use Rattle.std.specs.Prelude.{ℕ, ◌+◌, ◌-◌, nat_le, ℤ, pos, ◌*ℤ◌, ◌+ℤ◌, nat_abs, int_le}
 use Rattle.std.specs.Prelude.{[], ◌∷◌, ◌++◌, length, take, drop, Bool, not, ◌&&◌, ◌||◌, if◌then◌else◌}
 use Rattle.std.specs.List.{list_any, range_with_len}

@@ -28,8 +28,8 @@ leftwards doc next_sibling x = option_to_list (nearest (left_of x (siblings doc 
 leftwards doc later_sibling x = left_of x (siblings doc x)
 
 -- y is in that relation to x
-abbrev pub stands : List Element → Combinator → ℕ → ℕ → Bool
-stands doc combinator y x = list_any (λ z. z == y) (leftwards doc combinator x)
+abbrev pub is_in_relation : List Element → Combinator → ℕ → ℕ → Bool
+is_in_relation doc combinator y x = list_any (λ z. z == y) (leftwards doc combinator x)
 
 -- what comes after x in a list of numbers
 abbrev pub right_of : ℕ → List ℕ → List ℕ
@@ -72,7 +72,8 @@ abbrev mutual
   pub holds : List Element → Selector → ℕ → Bool
   holds doc (subject compound) x = meets doc compound x
   holds doc (combined compound combinator rest) x =
-      meets doc compound x && list_any (λ y. stands doc combinator y x && holds doc rest y) (numbers doc)
+      meets doc compound x
+      && list_any (λ y. is_in_relation doc combinator y x && holds doc rest y) (numbers doc)
 
   pub meets : List Element → Compound → ℕ → Bool
   meets doc any x = true

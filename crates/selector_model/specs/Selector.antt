@@ -3,7 +3,7 @@ use Rattle.std.specs.Prelude.{ℤ, Bool}
 use Rattle.base_model.specs.Text.{Characters}
 use Rattle.scene_model.specs.Element.{State}
 
--- how two compounds stand to each other (selectors-4, section 15)
+-- how two compounds are related (selectors-4, section 15)
 pub data Combinator : Type 0 where
   descendant : Combinator
   child : Combinator

@@ -11,7 +11,8 @@ use stylo_base::NoMemory;
 
 /// Reads the tokens as a compound, and gives its tests. None: they are none.
 pub fn compound(alloc: Global, tokens: &[Token]) -> Result<Option<Vec<Test>>, NoMemory>
-    ensures { IfOk result (λ found. option_map (λ tests. tested (map test_of tests.items)) found ≡ compound_in tokens.now) }
+    ensures { IfOk result (λ found.
+        option_map (λ tests. tested (map test_of tests.items)) found ≡ compound_in tokens.now) }
 {
     let mut cursor = Cursor::new(tokens);
     if cursor.is_at_end() {

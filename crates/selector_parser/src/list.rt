@@ -12,7 +12,8 @@ use stylo_base::NoMemory;
 
 /// Reads the tokens as a list of selectors with commas between them. None: they are no such list.
 pub fn selector_list(alloc: Global, tokens: &[Token]) -> Result<Option<Vec<Selector>>, NoMemory>
-    ensures { IfOk result (λ found. option_map (λ list. map selector_of list.items) found ≡ selectors_in tokens.now) }
+    ensures { IfOk result (λ found.
+        option_map (λ list. map selector_of list.items) found ≡ selectors_in tokens.now) }
 {
     let mut cursor = Cursor::new(tokens);
     let mut list = Vec::new(alloc);

@@ -63,25 +63,29 @@ fn no_list(rt: HostRuntime) -> Result<(), Fail> {
     Ok(())
 }
 
-/// `#n > :is(p, .a)`
+/// A compound of one test.
+fn alone(alloc: Global, test: Test) -> Result<Complex, NoMemory> {
+    Ok(Complex::alone(vec![in alloc; test]?))
+}
+
+/// `:is(.a)`
+fn listed(alloc: Global) -> Result<Test, NoMemory> {
+    let class = Simple::Class(Text::of_str(alloc, "a")?);
+    let member = alone(alloc, Test::Simple(class))?;
+    Ok(Test::Is(vec![in alloc; member]?))
+}
+
+/// `#n > :is(.a)`
 fn nested(alloc: Global) -> Result<Selector, NoMemory> {
-    let tag = Test::Simple(Simple::Type(Text::of_str(alloc, "p")?));
-    let class = Test::Simple(Simple::Class(Text::of_str(alloc, "a")?));
-    let members = vec![in alloc;
-        Complex::alone(vec![in alloc; tag]?),
-        Complex::alone(vec![in alloc; class]?),
-    ]?;
-    let id = Test::Simple(Simple::Id(Text::of_str(alloc, "n")?));
-    let left = Complex::alone(vec![in alloc; id]?);
-    let tests = vec![in alloc; Test::Is(members)]?;
-    Selector::new(
-        alloc,
-        Complex::combined(alloc, tests, Combinator::Child, left)?,
-    )
+    let id = Simple::Id(Text::of_str(alloc, "n")?);
+    let left = alone(alloc, Test::Simple(id))?;
+    let tests = vec![in alloc; listed(alloc)?]?;
+    let complex = Complex::combined(alloc, tests, Combinator::Child, left)?;
+    Selector::new(alloc, complex)
 }
 
 #[test]
-fn most_specific_member(rt: HostRuntime) -> Result<(), Fail> {
+fn of_a_list(rt: HostRuntime) -> Result<(), Fail> {
     let text = told(rt.alloc(), &nested(rt.alloc())?)?;
     assert_eq!(rt; text.as_str(), "1 1 0 * ");
     Ok(())

@@ -52,16 +52,20 @@ abbrev pub left_step : Left-F model.Test model.Selector model.Compound Leftward 
 left_step l = record { combinator = combinator_of l.combinator; rest = l.rest }
 
 abbrev pub test_of : Test → model.Test
-test_of = fold-Test model.Test model.Selector model.Compound Leftward test_step complex_step compound_step left_step
+test_of =
+    fold-Test model.Test model.Selector model.Compound Leftward test_step complex_step compound_step left_step
 
 abbrev pub complex_of : Complex → model.Selector
-complex_of = fold-Complex model.Test model.Selector model.Compound Leftward test_step complex_step compound_step left_step
+complex_of =
+    fold-Complex model.Test model.Selector model.Compound Leftward test_step complex_step compound_step left_step
 
 abbrev pub compound_of : Compound → model.Compound
-compound_of = fold-Compound model.Test model.Selector model.Compound Leftward test_step complex_step compound_step left_step
+compound_of =
+    fold-Compound model.Test model.Selector model.Compound Leftward test_step complex_step compound_step left_step
 
 abbrev pub left_of : Left → Leftward
-left_of = fold-Left model.Test model.Selector model.Compound Leftward test_step complex_step compound_step left_step
+left_of =
+    fold-Left model.Test model.Selector model.Compound Leftward test_step complex_step compound_step left_step
 
 abbrev pub complexes_of : List Complex → model.Selectors
 complexes_of selectors = listed (map complex_of selectors)
