@@ -48,7 +48,6 @@ fn texts(alloc: Global, text: &str) -> Result<String, Fail> {
     Ok(texts)
 }
 
-/// The last member of a name counts.
 #[test]
 fn sheet_text(rt: HostRuntime) -> Result<(), Fail> {
     let texts = texts(
@@ -70,6 +69,16 @@ fn no_sheets(rt: HostRuntime) -> Result<(), Fail> {
 fn other_shape(rt: HostRuntime) {
     let answer = answer_to(rt.alloc(), br#"{"version":1,"nodes":[]}"#);
     assert_eq!(rt; answer, Answer::Shape);
+}
+
+/// Of members with the same name the last counts.
+#[test]
+fn last_member_counts(rt: HostRuntime) {
+    let answer = answer_to(
+        rt.alloc(),
+        br#" {"version":2,"nodes":7,"version":1,"nodes":[{"tag":"","tag":"p"}]} "#,
+    );
+    assert_eq!(rt; answer, Answer::Good);
 }
 
 #[test]

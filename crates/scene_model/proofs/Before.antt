@@ -1,13 +1,13 @@
 -- In a subtree each parent is before its children.
 use Rattle.std.proofs.Common.{◌≡◌, ℕ, zero, suc, ◌+◌, ◌<◌, ◌==◌, ◌⊎◌, nat_eq, List, [], ◌∷◌, ◌++◌, flat_map, Bool, true, false, cond, not, ◌||◌, Some, None, refl, sym, ap, subst, ◌∙◌, inl, inr, arith}
-use Rattle.std.specs.List.{AllByRecursion, IsDistinct, position_or_len}
+use Rattle.std.specs.List.{AllByRecursion, IsDistinct}
 use Rattle.std.proofs.lemmas.Bool.{eqb-true}
 use Rattle.std.proofs.lemmas.Option.{same_Some, none-some}
 use Rattle.scene_model.specs.Element.{Element}
 use Rattle.scene_model.specs.Lookups.{numbers, parent_of, children}
 use Rattle.scene_model.specs.Nodes.{subtree}
 use Rattle.scene_model.proofs.Lists.{each_weaker}
-use Rattle.scene_model.proofs.Numbers.{is_in, same_number}
+use Rattle.scene_model.proofs.Numbers.{is_in, index_in, same_number}
 use Rattle.scene_model.proofs.Found.{each_child-parent}
 
 -- each number's parent is before it, or is among those seen
@@ -44,27 +44,23 @@ first_in_subtree es seen zero x d h = tt
 first_in_subtree es seen (suc l) x d h =
     (h, first-flat_map es (x ∷ seen) (children es x) (subtree es l) (each_weaker (λ y. parent_of es y ≡ Some x) (λ y. ParentsFirst es (x ∷ seen) (subtree es l y)) (λ y e. first_in_subtree es (x ∷ seen) l y d (λ p f. just_seen x p seen (same_Some x p (sym e ∙ f)))) (children es x) (each_child-parent es x d)))
 
--- where a number is first
-abbrev pub place_in : List ℕ → ℕ → ℕ
-place_in xs x = position_or_len (λ y. y == x) xs
-
-onward : (p : ℕ) (seen ys : List ℕ) (b : Bool) (n : ℕ) → ((b || is_in p seen) ≡ true) ⊎ (place_in ys p < n) → (is_in p seen ≡ true) ⊎ (cond (not b) (1 + place_in ys p) 0 < 1 + n)
+onward : (p : ℕ) (seen ys : List ℕ) (b : Bool) (n : ℕ) → ((b || is_in p seen) ≡ true) ⊎ (index_in ys p < n) → (is_in p seen ≡ true) ⊎ (cond (not b) (1 + index_in ys p) 0 < 1 + n)
 onward p seen ys true n h = inr (omega arith)
 onward p seen ys false n (inl k) = inl k
 onward p seen ys false n (inr l) = inr (omega arith)
 
-step : (es : List Element) (x p y : ℕ) (seen ys : List ℕ) (b : Bool) → (y == x) ≡ b → ((q : ℕ) → parent_of es y ≡ Some q → is_in q seen ≡ true) → parent_of es x ≡ Some p → (b || is_in x ys) ≡ true → (is_in x ys ≡ true → (is_in p (y ∷ seen) ≡ true) ⊎ (place_in ys p < place_in ys x)) → (is_in p seen ≡ true) ⊎ (place_in (y ∷ ys) p < cond (not b) (1 + place_in ys x) 0)
+step : (es : List Element) (x p y : ℕ) (seen ys : List ℕ) (b : Bool) → (y == x) ≡ b → ((q : ℕ) → parent_of es y ≡ Some q → is_in q seen ≡ true) → parent_of es x ≡ Some p → (b || is_in x ys) ≡ true → (is_in x ys ≡ true → (is_in p (y ∷ seen) ≡ true) ⊎ (index_in ys p < index_in ys x)) → (is_in p seen ≡ true) ⊎ (index_in (y ∷ ys) p < cond (not b) (1 + index_in ys x) 0)
 step es x p y seen ys true e first f h r = inl (first p (ap (parent_of es) (eqb-true y x e) ∙ f))
-step es x p y seen ys false e first f h r = onward p seen ys (y == p) (place_in ys x) (r h)
+step es x p y seen ys false e first f h r = onward p seen ys (y == p) (index_in ys x) (r h)
 
-before_or_seen : (es : List Element) (seen xs : List ℕ) (x p : ℕ) → ParentsFirst es seen xs → is_in x xs ≡ true → parent_of es x ≡ Some p → (is_in p seen ≡ true) ⊎ (place_in xs p < place_in xs x)
+before_or_seen : (es : List Element) (seen xs : List ℕ) (x p : ℕ) → ParentsFirst es seen xs → is_in x xs ≡ true → parent_of es x ≡ Some p → (is_in p seen ≡ true) ⊎ (index_in xs p < index_in xs x)
 before_or_seen es seen [] x p d h e = absurd (cc)
 before_or_seen es seen (y ∷ ys) x p d h e = step es x p y seen ys (y == x) refl d.0 e h (λ k. before_or_seen es (y ∷ seen) ys x p d.1 k e)
 
 -- below a top with no parent each parent is before its child
-pub parent_placed : (es : List Element) (l x y p : ℕ) → IsDistinct nat_eq (numbers es) → parent_of es x ≡ None → is_in y (subtree es l x) ≡ true → parent_of es y ≡ Some p → place_in (subtree es l x) p < place_in (subtree es l x) y
-parent_placed es l x y p d n h e = settled (before_or_seen es [] (subtree es l x) y p (first_in_subtree es [] l x d (λ q f. absurd (none-some q (sym n ∙ f)))) h e)
+pub parent_earlier : (es : List Element) (l x y p : ℕ) → IsDistinct nat_eq (numbers es) → parent_of es x ≡ None → is_in y (subtree es l x) ≡ true → parent_of es y ≡ Some p → index_in (subtree es l x) p < index_in (subtree es l x) y
+parent_earlier es l x y p d n h e = settled (before_or_seen es [] (subtree es l x) y p (first_in_subtree es [] l x d (λ q f. absurd (none-some q (sym n ∙ f)))) h e)
   where
-    settled : (is_in p [] ≡ true) ⊎ (place_in (subtree es l x) p < place_in (subtree es l x) y) → place_in (subtree es l x) p < place_in (subtree es l x) y
+    settled : (is_in p [] ≡ true) ⊎ (index_in (subtree es l x) p < index_in (subtree es l x) y) → index_in (subtree es l x) p < index_in (subtree es l x) y
     settled (inl k) = absurd (cc)
     settled (inr k) = k

@@ -16,7 +16,7 @@ nothing_up : (f : ℕ → List ℕ) (o : Option ℕ) → ((p : ℕ) → o ≡ So
 nothing_up f None h = refl
 nothing_up f (Some p) h = let l : p < 0 = h p refl in absurd (omega arith)
 
-up_each : (P : ℕ → Type 0) (f : ℕ → List ℕ) (o : Option ℕ) → ((p : ℕ) → o ≡ Some p → P p × AllByRecursion P (f p)) → AllByRecursion P (up f o)
+pub up_each : (P : ℕ → Type 0) (f : ℕ → List ℕ) (o : Option ℕ) → ((p : ℕ) → o ≡ Some p → P p × AllByRecursion P (f p)) → AllByRecursion P (up f o)
 up_each P f None h = tt
 up_each P f (Some p) h = h p refl
 

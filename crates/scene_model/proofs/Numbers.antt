@@ -1,6 +1,6 @@
 -- Lemmas on lists of numbers: which are in them, and how often.
 use Rattle.std.proofs.Common.{◌≡◌, ◌≢◌, ℕ, zero, suc, ◌+◌, ◌<◌, ◌≤◌, ◌==◌, nat_eq, List, [], ◌∷◌, ◌++◌, filter, flat_map, length, take, Bool, true, false, cond, not, ◌||◌, refl, sym, ap, ◌∙◌, subst, one-add, arith}
-use Rattle.std.specs.List.{AllByRecursion, list_any, IsDistinct, range_with_len, prefix_len}
+use Rattle.std.specs.List.{AllByRecursion, list_any, IsDistinct, range_with_len, prefix_len, position_or_len}
 use Rattle.std.proofs.lemmas.Bool.Decides.{nat_tests}
 use Rattle.std.proofs.lemmas.Bool.{cond-true, eq-eqb, ne_eqb, eqb-true, false_from_ne_true, false≢true}
 use Rattle.std.proofs.lemmas.List.Folds.{list_any-append}
@@ -11,6 +11,10 @@ use Rattle.scene_model.proofs.Lists.{filter_nothing, filter-filter, each_weaker,
 -- whether a number is in a list
 abbrev pub is_in : ℕ → List ℕ → Bool
 is_in x xs = list_any (λ y. y == x) xs
+
+-- where a number is first, or the length
+abbrev pub index_in : List ℕ → ℕ → ℕ
+index_in xs x = position_or_len (λ y. y == x) xs
 
 -- the number as often as it is in the list
 abbrev pub copies : ℕ → List ℕ → List ℕ

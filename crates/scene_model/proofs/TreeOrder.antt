@@ -13,10 +13,10 @@ use Rattle.scene_model.specs.Ancestors.{position_of, ancestors}
 use Rattle.scene_model.specs.Valid.{IsValid}
 use Rattle.scene_model.specs.Nodes.{Node, IsNodeList, listed, subtree, tree_order, scene_of}
 use Rattle.scene_model.proofs.Lists.{each_weaker}
-use Rattle.scene_model.proofs.Numbers.{is_in, in_copied, each_is_in, differs, same_number, length_from_copies, distinct_from_copies}
+use Rattle.scene_model.proofs.Numbers.{is_in, index_in, in_copied, each_is_in, differs, same_number, length_from_copies, distinct_from_copies}
 use Rattle.scene_model.proofs.Found.{hangs_on, element_at-filter_map, numbers-filter_map, children-hangs, is_element-at, position_of-numbers, cond_none}
 use Rattle.scene_model.proofs.Listed.{distinct-listed, parent-below, parent-listed, root-listed, each_child, is_element-listed, within-listed, element_at-listed_none, parent-element, only_root-listed, siblings-listed, left_of-listed, place_of-listed, place_of-listed_root}
-use Rattle.scene_model.proofs.Before.{place_in, parent_placed}
+use Rattle.scene_model.proofs.Before.{parent_earlier}
 use Rattle.scene_model.proofs.Subtrees.{IsTree, subtree-law, each_below, copies-whole, copies-whole_none, hangs_on-whole, each_whole, run-whole, in_subtree-parent}
 use Rattle.scene_model.proofs.Climbing.{ancestors-root, ancestors-child}
 
@@ -142,8 +142,8 @@ module _ (nodes : List Node) (v : IsNodeList nodes) where
   pub decides-scene_of : (x : ℕ) → Decides (is_element (scene_of nodes) x) ((0 < x) × (x ≤ length nodes))
   decides-scene_of x = (within-scene_of x, λ h. IsElement-scene_of x h.0 h.1)
 
-  place_in_scene : (x : ℕ) → position_of (scene_of nodes) x ≡ place_in (tree_order nodes) x
-  place_in_scene x = position_of-numbers (scene_of nodes) x ∙ ap (λ l. place_in l x) numbers-scene_of
+  index_in_scene : (x : ℕ) → position_of (scene_of nodes) x ≡ index_in (tree_order nodes) x
+  index_in_scene x = position_of-numbers (scene_of nodes) x ∙ ap (λ l. index_in l x) numbers-scene_of
 
   pub position_of-parent : (x p : ℕ) → parent_of (scene_of nodes) x ≡ Some p → position_of (scene_of nodes) p < position_of (scene_of nodes) x
   unfolding tree_order
@@ -151,16 +151,16 @@ module _ (nodes : List Node) (v : IsNodeList nodes) where
       let e : parent_of (listed nodes) x ≡ Some p = sym (parent_of-scene_of x) ∙ h in
       let b = parent-below nodes v x p e in
       let there : is_in x (tree_order nodes) ≡ true = in_copied x (tree_order nodes) [] (once_in_order x (omega arith) b.2) in
-      let l : place_in (tree_order nodes) p < place_in (tree_order nodes) x =
-      parent_placed (listed nodes) (length nodes) 1 x p (distinct-listed nodes) (root-listed nodes v) there e in
-      rw (place_in_scene p, place_in_scene x) l
+      let l : index_in (tree_order nodes) p < index_in (tree_order nodes) x =
+      parent_earlier (listed nodes) (length nodes) 1 x p (distinct-listed nodes) (root-listed nodes v) there e in
+      rw (index_in_scene p, index_in_scene x) l
 
-  first_in_order : place_in (tree_order nodes) 1 ≡ 0
+  first_in_order : index_in (tree_order nodes) 1 ≡ 0
   unfolding tree_order
-  first_in_order = ap (λ l. place_in l 1) (subtree-listed 1 (omega arith) v.some)
+  first_in_order = ap (λ l. index_in l 1) (subtree-listed 1 (omega arith) v.some)
 
   pub position_of-root : position_of (scene_of nodes) 1 ≡ 0
-  position_of-root = place_in_scene 1 ∙ first_in_order
+  position_of-root = index_in_scene 1 ∙ first_in_order
 
   pub IsValid-scene_of : IsValid (scene_of nodes)
   IsValid-scene_of =

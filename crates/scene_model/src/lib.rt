@@ -1,3 +1,3 @@
 //! The definitions of the document: characters, elements, the list of a job's nodes, the scene and
-//! its look-ups. They stand in specs/; there is no code here.
+//! its look-ups. They are in specs/; there is no code here.
 #![tactic(auto)]

@@ -1,6 +1,8 @@
+-- The words of limits.
 use Rattle.std.specs.Prelude.{ℕ, List, codes}
 use Rattle.stylo_base.specs.declared.refusal.Kind.{Kind}
-use Rattle.stylo_base.specs.declared.refusal.Kind.TheVariants.{Input, Elements, Numbers, Depth, Attributes, Value, Sheets, Text, Batches}
+use Rattle.stylo_base.specs.declared.refusal.Kind.TheVariants.{Input, Elements, Numbers, Depth, Attributes}
+use Rattle.stylo_base.specs.declared.refusal.Kind.TheVariants.{Value, Sheets, Text, Batches}
 
 -- the word by which a kind of limit is printed
 abbrev pub name_of : Kind → List ℕ
