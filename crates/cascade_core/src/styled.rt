@@ -16,8 +16,9 @@ use stylo_base::{Fixed, NoMemory};
 
 /// The style of an element, from the declarations of the rules that match it, those of its `style`
 /// attribute, and the style of its parent (css-cascade-5, sections 6 and 7): for each property what
-/// its declarations come to, computed over the parent's value, and then the adjustments. At the root `parent` is the style of all initial values. `root_size` is the root's
-/// font size in pixels, which nothing asks for until there are lengths.
+/// its declarations come to, computed over the parent's value, and then the adjustments. At the root
+/// `parent` is the style of all initial values. `root_size` is the root's font size in pixels, which
+/// nothing asks for until there are lengths.
 pub fn cascade(
     alloc: Global,
     matched: &[Matched],

@@ -49,7 +49,8 @@ fn name_node(
     parent: Option<u32>,
     input: &NodeInput,
 ) -> Result<Node, NoMemory>
-    ensures element { IfOk result (λ node. (number : ℕ) → element_of names.new number node ≡ input_element number parent input.now) }
+    ensures element { IfOk result (λ node. (number : ℕ)
+        → element_of names.new number node ≡ input_element number parent input.now) }
     ensures named { IfOk result (λ node. IsNamed names.new node) }
     ensures kept { OnOk result (KeepsTexts names.old names.new) }
 {
@@ -102,8 +103,10 @@ pub(crate) fn link_nodes(alloc: Global, list: &NodeList) -> Result<Vec<Link>, No
 fn append_child(links: &mut Vec<Link>, parent: usize, child: u32) -> Result<u32, NoMemory>
     requires there { parent < length links.old.items }
     requires few { IfSome (slice_get links.old.items parent) (λ link. length link.children < 2 ^ 32) }
-    ensures place { IfOk result (λ place. IfSome (slice_get links.old.items parent) (λ link. place ≡ length link.children)) }
-    ensures links { OnOk result (IfSome (slice_get links.old.items parent) (λ link. links.new.items ≡ slice_set links.old.items parent (record link { children = link.children ++ child ∷ [] }))) }
+    ensures place { IfOk result (λ place.
+        IfSome (slice_get links.old.items parent) (λ link. place ≡ length link.children)) }
+    ensures links { OnOk result (IfSome (slice_get links.old.items parent) (λ link. links.new.items
+        ≡ slice_set links.old.items parent (record link { children = link.children ++ child ∷ [] }))) }
 {
     let link = &mut links[parent];
     let place = link.children.len() as u32;
