@@ -7,3 +7,4 @@ pub mod Thousandths
 pub mod Specificity
 pub mod Origin
 pub mod Sheet
+pub mod State

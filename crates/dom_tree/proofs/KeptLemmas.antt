@@ -27,7 +27,7 @@ use Rattle.dom_tree.specs.declared.node.Node.{Node}
 use Rattle.dom_tree.specs.declared.node.Link.{Link}
 use Rattle.base_model.proofs.Lists.{slice_get_some}
 use Rattle.dom_tree.proofs.Places.{each_at}
-use Rattle.dom_tree.specs.View.{state_seen}
+use Rattle.stylo_base.specs.StateView.{state_seen}
 use Rattle.dom_tree.specs.Kept.{text_of, named_pair, element_of, elements_from, elements_of, in_order, document, IsNamed, IsWhole}
 
 -- the element of a node

@@ -3,8 +3,6 @@ use Rattle.std.specs.Prelude.{ℕ, List, Option, map}
 use Rattle.std.specs.FinMap as finmap
 use Rattle.scene_model.specs.Element as model
 use Rattle.scene_model.specs.Nodes.{Node}
-use Rattle.stylo_base.specs.declared.state.State.{State}
-use Rattle.stylo_base.specs.declared.state.State.TheVariants.{Hover, Active, Focus}
 use Rattle.dom_tree.specs.declared.nodes.States.{States}
 use Rattle.dom_tree.specs.declared.nodes.Attr.{Attr}
 use Rattle.dom_tree.specs.declared.nodes.NodeInput.{NodeInput}
@@ -26,12 +24,6 @@ node_of parent input =
 
 abbrev pub row_node : Row → Node
 row_node row = node_of row.parent row.input
-
--- a state by its word in the model
-abbrev pub state_seen : State → model.State
-state_seen Hover = model.hover_state
-state_seen Active = model.active_state
-state_seen Focus = model.focus_state
 
 -- the element that a node becomes, with the number of its parent
 abbrev pub input_element : ℕ → Option ℕ → NodeInput → model.Element

@@ -6,7 +6,7 @@ ghost use Rattle.base_model.specs.Limits.{element_limit};
 ghost use Rattle.scene_model.specs.Lookups.{IsElement, attribute_of, children, has_class, is_element, numbers, parent_of, place_of, state_of, tag_of};
 ghost use Rattle.scene_model.specs.Document.{document_of};
 ghost use Rattle.scene_model.specs.Valid.{IsValid};
-ghost use Rattle.dom_tree.specs.View.{state_seen};
+ghost use Rattle.stylo_base.specs.StateView.{state_seen};
 
 use crate::node::{Link, Node};
 use crate::nodes::NodeList;

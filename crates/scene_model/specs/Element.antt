@@ -4,6 +4,7 @@ use Rattle.std.specs.Ordering.{nat_cmp}
 use Rattle.std.specs.Cmp.Lexicographic.{slice_cmp}
 use Rattle.std.specs.FinMap as map
 use Rattle.std.specs.Coded.{Coded, code_by, coded×, coded_ℕ, coded_list, coded_option, coded_bool}
+pub use Rattle.base_model.specs.State.{State, hover_state, active_state, focus_state}
 pub use Rattle.base_model.specs.Text.{Characters}
 
 -- a finite map from names to values: the order in which they were written makes no difference
@@ -15,11 +16,6 @@ pub record States : Type 0 where
   pub hover : Bool
   pub active : Bool
   pub focus : Bool
-
-pub data State : Type 0 where
-  hover_state : State
-  active_state : State
-  focus_state : State
 
 abbrev pub has_state : States → State → Bool
 has_state s hover_state = s.hover

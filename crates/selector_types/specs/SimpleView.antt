@@ -1,9 +1,7 @@
 -- The views of simple tests and of keys.
-use Rattle.scene_model.specs.Element as scene
 use Rattle.selector_model.specs.Selector as model
 use Rattle.selector_model.specs.Key as keys
-use Rattle.stylo_base.specs.declared.state.State.{State}
-use Rattle.stylo_base.specs.declared.state.State.TheVariants.{Hover, Active, Focus}
+use Rattle.stylo_base.specs.StateView.{state_seen}
 use Rattle.selector_types.specs.declared.simple.AttributeOperator.{AttributeOperator}
 use Rattle.selector_types.specs.declared.simple.AttributeOperator.TheVariants.{Equals, Includes, DashMatch, Prefix, Suffix, Substring}
 use Rattle.selector_types.specs.declared.simple.AnB.{AnB}
@@ -12,11 +10,6 @@ use Rattle.selector_types.specs.declared.simple.Simple.{Simple}
 use Rattle.selector_types.specs.declared.simple.Simple.TheVariants as simples
 use Rattle.selector_types.specs.declared.keys.Key.{Key}
 use Rattle.selector_types.specs.declared.keys.Key.TheVariants as variants
-
-abbrev pub state_of : State → scene.State
-state_of Hover = scene.hover_state
-state_of Active = scene.active_state
-state_of Focus = scene.focus_state
 
 abbrev pub operator_of : AttributeOperator → model.AttributeOperator
 operator_of Equals = model.equals
@@ -43,7 +36,7 @@ simple_of simples.Root = model.root
 simple_of simples.Empty = model.empty
 simple_of (simples.Nth n) = model.nth (nth_of n)
 simple_of (simples.Only of_type) = model.only of_type
-simple_of (simples.State state) = model.in_state (state_of state)
+simple_of (simples.State state) = model.in_state (state_seen state)
 
 abbrev pub key_seen : Key → keys.Key
 key_seen (variants.Id name) = keys.id_key name

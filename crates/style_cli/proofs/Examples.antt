@@ -1,5 +1,5 @@
 -- The definitions computed on whole jobs, from the texts of their sheets to the text that they are answered with.
-use Rattle.std.proofs.Common.{◌≡◌, ℕ, ◌+◌, Bool, false, true, List, [], ◌∷◌, ◌++◌, map, Option, Some, None, refl, ap, sym, ◌∙◌, lit<}
+use Rattle.std.proofs.Common.{◌≡◌, ℕ, Bool, false, true, List, [], ◌∷◌, ◌++◌, Option, Some, None, refl, ap, ◌∙◌, lit<}
 use Rattle.std.specs.Prelude.{codes, decimal, flat_map, encode_utf8_all, slice_get}
 use Rattle.std.specs.List.{concat}
 use Rattle.std.specs.FinMap as finmap

@@ -1,3 +1,4 @@
 pub mod Ascii
 pub mod KindName
 pub mod NameList
+pub mod StateView
