@@ -77,21 +77,23 @@ fn std_source(rt: HostRuntime) {
 #[test]
 fn std_sink(rt: HostRuntime) -> Result<(), Fail> {
     let mut held = Vec::new(rt.alloc());
-    let mut sink = StdSink::new(&mut held);
-    let counts = (sink.write(b"ab"), sink.write(b""));
+    let mut sink = StdSink::new(rt.alloc(), &mut held)?;
+    let counts = (sink.write(b"ab"), sink.write(b""), sink.finish());
+    drop(sink);
     assert_eq!(rt;
         (counts, held.as_slice()),
-        ((Ok(2), Ok(0)), b"ab".as_slice())
+        ((Ok(2), Ok(0), Ok(())), b"ab".as_slice())
     );
     Ok(())
 }
 
 #[test]
-fn std_sink_with_little_room(rt: HostRuntime) {
+fn std_sink_with_little_room(rt: HostRuntime) -> Result<(), Fail> {
     let mut room = [0u8; 1];
-    let mut sink = StdSink::new(room.as_mut_slice());
-    let counts = (sink.write(b"ab"), sink.write(b"b"));
-    assert_eq!(rt; counts, (Ok(1), Err(SinkRefused::Failed)));
+    let mut sink = StdSink::new(rt.alloc(), room.as_mut_slice())?;
+    let answers = (sink.write(b"ab"), sink.finish());
+    assert_eq!(rt; answers, (Ok(2), Err(Failed)));
+    Ok(())
 }
 
 /// It fails at each read, and takes all that is written and fails at each flush.
@@ -121,6 +123,9 @@ fn broken_reader(rt: HostRuntime) {
 }
 
 #[test]
-fn broken_writer(rt: HostRuntime) {
-    assert_eq!(rt; StdSink::new(Broken).write(b"a"), Err(SinkRefused::Failed));
+fn broken_writer(rt: HostRuntime) -> Result<(), Fail> {
+    let mut sink = StdSink::new(rt.alloc(), Broken)?;
+    let answers = (sink.write(b"a"), sink.finish());
+    assert_eq!(rt; answers, (Ok(1), Err(Failed)));
+    Ok(())
 }

@@ -1,6 +1,6 @@
 -- What the program answers, and what it writes.
 use Rattle.std.specs.Prelude.{◌≡◌, ℕ, ◌+◌, ◌≤◌, nat_le, ◌⊎◌, List, [], length}
-use Rattle.std.specs.Prelude.{Option, Some, None, option_map, IfSome, IsSomeAnd, if◌then◌else◌}
+use Rattle.std.specs.Prelude.{Bool, Option, Some, None, option_map, IfSome, IsSomeAnd, if◌then◌else◌}
 use Rattle.std.specs.Io.KnownBytes.{Appends}
 use Rattle.base_model.specs.Limits.{input_limit}
 use Rattle.job_json.specs.declared.Job.{Job}
@@ -115,3 +115,8 @@ exit_number (NotAJob path) = 4
 exit_number (Limit kind number) = 5
 exit_number WriteFault = 6
 exit_number NoMemory = 7
+
+-- the status once all that the output gathered was written, or was not
+abbrev pub after_the_end : Bool → Status → Status
+after_the_end is_written Done = if is_written then Done else WriteFault
+after_the_end is_written status = status

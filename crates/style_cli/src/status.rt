@@ -1,7 +1,7 @@
 //! What the program answers.
 
 ghost use Rattle.std.specs.Prelude.{◌≡◌};
-ghost use Rattle.style_cli.specs.Answer.{exit_number};
+ghost use Rattle.style_cli.specs.Answer.{after_the_end, exit_number};
 
 use std::io;
 use stylo_base::{Kind, PathText};
@@ -41,6 +41,17 @@ impl Status {
             Status::Limit(_, _) => 5,
             Status::WriteFault => 6,
             Status::NoMemory => 7,
+        }
+    }
+
+    /// The status once all that the output gathered was written, or was not: then Done is a fault of
+    /// writing, and every other status stays.
+    pub(crate) fn after_the_end(self, is_written: bool) -> Status
+        ensures { result ≡ after_the_end is_written self }
+    {
+        match self {
+            Status::Done if !is_written => Status::WriteFault,
+            status => status,
         }
     }
 
