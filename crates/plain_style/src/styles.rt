@@ -1,6 +1,6 @@
 //! The style of every element, from the root down.
 
-ghost use Rattle.std.specs.Prelude.{◌≡◌, IfOk, map, nat_eq, option_map};
+ghost use Rattle.std.specs.Prelude.{◌≡◌, pos, IfOk, map, nat_eq, option_map};
 ghost use Rattle.std.specs.HashMap.{get};
 ghost use Rattle.std.specs.Arc.{arc_value};
 ghost use Rattle.scene_model.specs.Lookups.{IsElement, numbers};
@@ -62,6 +62,8 @@ fn style_over(
 }
 
 /// The initial `font-size`: 16 pixels, in thousandths of a pixel.
-fn initial_size() -> Fixed {
+fn initial_size() -> Fixed
+    ensures { result ≡ pos 16000 }
+{
     Fixed::clamp(16_000)
 }
