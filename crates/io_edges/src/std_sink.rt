@@ -54,15 +54,8 @@ impl<W: Write + Drop> StdSink<W> {
         if self.writer.flush().is_ok() {
             return Ok(());
         }
-        self.count_fault();
+        self.faults = one_more(self.faults);
         Err(Failed)
-    }
-
-    // One fault more.
-    fn count_fault(&mut self)
-        ensures { self.new ≡ record self.old { faults = next_count self.old.faults } }
-    {
-        self.faults = self.faults.saturating_add(1);
     }
 }
 
@@ -90,7 +83,14 @@ impl<W: Write + Drop> Sink for StdSink<W> {
         {
             return Ok(count);
         }
-        self.count_fault();
+        self.faults = one_more(self.faults);
         Err(SinkRefused::Failed)
     }
+}
+
+// One more, as far as 64 bits can count.
+fn one_more(faults: u64) -> u64
+    ensures { result ≡ next_count faults }
+{
+    faults.saturating_add(1)
 }
