@@ -17,25 +17,25 @@ use std::process::ExitCode;
 use std::{env, io};
 pub use top::run;
 
-/// Runs over the real ends. Says on standard error what went wrong.
+/// Makes the real ends, runs over them, and then writes what the output has gathered. Says on
+/// standard error what went wrong.
 fn main(rt: HostRuntime) -> ExitCode {
     let status = match arguments(&rt) {
-        Ok(words) => run_over_standard_ends(&rt, words),
+        Ok(words) => {
+            let mut source = StdSource::new(rt.stdin());
+            match StdSink::new(rt.alloc(), rt.stdout()) {
+                Ok(mut sink) => {
+                    let status = run(&rt, rt.alloc(), words, &mut source, &mut sink);
+                    let is_written = sink.finish().is_ok();
+                    status.after_the_end(is_written)
+                }
+                Err(_) => Status::NoMemory,
+            }
+        }
         Err(status) => status,
     };
     let _ = status.report(&rt);
     ExitCode::from(status.number())
-}
-
-/// Runs over standard input and output, and then writes what the output has gathered.
-fn run_over_standard_ends(rt: &HostRuntime, words: Vec<String>) -> Status {
-    let mut source = StdSource::new(rt.stdin());
-    let Ok(mut sink) = StdSink::new(rt.alloc(), rt.stdout()) else {
-        return Status::NoMemory;
-    };
-    let status = run(rt, rt.alloc(), words, &mut source, &mut sink);
-    let is_written = sink.finish().is_ok();
-    status.after_the_end(is_written)
 }
 
 /// The words of the command line. Words that are not UTF-8 are none.
