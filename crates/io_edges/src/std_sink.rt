@@ -30,7 +30,11 @@ impl<W: Write + Drop> Model for StdSink<W> {
 
     ghost Value = { StdOutput };
 
-    ghost view = { λ s. record { bytes = writer_contents W.contents s.writer; gathered = writer_buffer s.writer; faults = s.faults } };
+    ghost view = { λ s. record {
+      bytes = writer_contents W.contents s.writer;
+      gathered = writer_buffer s.writer;
+      faults = s.faults;
+    } };
 }
 
 impl<W: Write + Drop> StdSink<W> {
