@@ -14,10 +14,10 @@ use Rattle.cascade_core.specs.declared.ending.Ending.TheVariants.{Unsets, EndsAt
 
 abbrev pub matched_of : Matched → model.Matched
 matched_of d = record {
-  target = longhand (property_of d.property);
-  given = exactly (value_of d.value);
+  target = longhand (property_of d.declared.now.property);
+  given = exactly (value_of d.declared.now.value);
   origin = origin_of d.origin;
-  important = d.important;
+  important = d.declared.now.important;
   attached = d.attached;
   layer = d.layer;
   specificity = d.specificity;

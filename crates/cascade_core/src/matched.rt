@@ -5,21 +5,20 @@ ghost use Rattle.cascade_model.specs.Key.{band, key_cmp, layer_cmp};
 ghost use Rattle.cascade_core.specs.View.{matched_of};
 
 use layer_order::Origin;
-use property_table::{PropId, Value};
+use property_table::Declared;
 use std::cmp::Ordering;
 use stylo_base::Specificity;
 
-/// One declaration that applies to an element, with what the cascade compares.
+/// One declaration that applies to an element, with what the cascade compares. It borrows the
+/// declaration from what it was read into: for a rule that is the sheet, and for a `style` attribute
+/// the list that was read from it. An entry that is kept for longer than that list is to own its
+/// declaration: then `declared` becomes an enum of the two.
 #[derive(Clone, Copy, Debug)]
-pub struct Matched {
-    /// The property that is declared.
-    pub property: PropId,
-    /// What it is declared to be.
-    pub value: Value,
+pub struct Matched<'a> {
+    /// The property, what it is declared to be, and whether that is `!important`.
+    pub declared: &'a Declared,
     /// Where its sheet comes from.
     pub origin: Origin,
-    /// Whether it is `!important`.
-    pub important: bool,
     /// Whether it is of the `style` attribute.
     pub attached: bool,
     /// The rank of its cascade layer, which is higher for what comes later.
@@ -35,7 +34,7 @@ pub struct Matched {
 }
 
 /// Which of two declarations of one property wins: the greater one (css-cascade-5, section 6.1).
-pub(crate) fn compare(a: &Matched, b: &Matched) -> Ordering
+pub(crate) fn compare(a: &Matched<'_>, b: &Matched<'_>) -> Ordering
     ensures { result ≡ key_cmp (matched_of a.now) (matched_of b.now) }
 {
     band(a)
@@ -49,10 +48,10 @@ pub(crate) fn compare(a: &Matched, b: &Matched) -> Ordering
 
 /// Important declarations of the user agent are highest, normal ones of it lowest
 /// (css-cascade-5, section 6.1).
-fn band(d: &Matched) -> u32
-    ensures { result ≡ band (matched_of d.now).origin d.now.important }
+fn band(d: &Matched<'_>) -> u32
+    ensures { result ≡ band (matched_of d.now).origin d.now.declared.now.important }
 {
-    match (d.important, d.origin) {
+    match (d.declared.important, d.origin) {
         (true, Origin::UserAgent) => 5,
         (true, Origin::User) => 4,
         (true, Origin::Author) => 3,
@@ -64,10 +63,10 @@ fn band(d: &Matched) -> u32
 
 /// The later layer wins, and among important declarations the earlier one (css-cascade-5, section
 /// 6.4).
-fn compare_layers(a: &Matched, b: &Matched) -> Ordering
-    ensures { result ≡ layer_cmp a.now.important a.now.layer b.now.layer }
+fn compare_layers(a: &Matched<'_>, b: &Matched<'_>) -> Ordering
+    ensures { result ≡ layer_cmp a.now.declared.now.important a.now.layer b.now.layer }
 {
-    if a.important {
+    if a.declared.important {
         b.layer.cmp(&a.layer)
     } else {
         a.layer.cmp(&b.layer)

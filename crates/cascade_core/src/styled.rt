@@ -11,7 +11,7 @@ use crate::ending::Ending;
 use crate::winners::Winners;
 use property_table::{Keyword, PropId, Row, Value};
 use std::alloc::Global;
-use style_value::Style;
+use style_value::{Style, StyleDraft};
 use stylo_base::{Fixed, NoMemory};
 
 /// The style of an element, from the declarations of the rules that match it, those of its `style`
@@ -21,8 +21,8 @@ use stylo_base::{Fixed, NoMemory};
 /// nothing asks for until there are lengths.
 pub fn cascade(
     alloc: Global,
-    matched: &[Matched],
-    attached: &[Matched],
+    matched: &[Matched<'_>],
+    attached: &[Matched<'_>],
     parent: &Style,
     _root_size: Fixed,
     is_root: bool,
@@ -30,31 +30,26 @@ pub fn cascade(
     ensures { IfOk result (λ style. style ≡ cascaded is_root parent.now
         (map matched_of (matched.now ++ attached.now))) }
 {
-    let mut style = values(alloc, matched, attached, parent)?;
+    let mut draft = values(matched, attached, parent);
     if is_root {
-        style.blockify();
+        draft.blockify();
     }
-    Ok(style)
+    draft.finish(alloc)
 }
 
 /// The style before the adjustments.
-fn values(
-    alloc: Global,
-    matched: &[Matched],
-    attached: &[Matched],
-    parent: &Style,
-) -> Result<Style, NoMemory>
+fn values(matched: &[Matched<'_>], attached: &[Matched<'_>], parent: &Style) -> StyleDraft
     ensures { let ds = map matched_of (matched.now ++ attached.now) in
-        IfOk result (λ style. style ≡ record { values = values_from ds 0 table parent.now.values }) }
+        result ≡ record { values = values_from ds 0 table parent.now.values } }
 {
     let winners = Winners::among(matched, attached);
-    let mut style = parent.inherited_part(alloc)?;
+    let mut draft = StyleDraft::inheriting(parent);
     for row in Row::all() {
         if let Ending::EndsAt(value) = winners.ending(row.id) {
-            style.set(row.id, computed_of(row.id, value, parent));
+            draft.set(row.id, computed_of(row.id, value, parent));
         }
     }
-    Ok(style)
+    draft
 }
 
 /// What a value is computed to. In `color` the keyword `currentcolor` acts as

@@ -16,7 +16,7 @@ use std::marker::Model;
 /// For each property the declaration that wins among those that were added, if there is one.
 #[derive(Drop)]
 pub(crate) struct Winners<'a> {
-    best: [Option<&'a Matched>; COUNT],
+    best: [Option<&'a Matched<'a>>; COUNT],
 }
 
 impl<'a> Model for Winners<'a> {
@@ -32,7 +32,7 @@ impl<'a> Model for Winners<'a> {
 impl<'a> Winners<'a> {
     /// The winners among these declarations, of which the earlier one wins where two compare as
     /// equal.
-    pub(crate) fn among(matched: &'a [Matched], attached: &'a [Matched]) -> Winners<'a>
+    pub(crate) fn among(matched: &'a [Matched<'a>], attached: &'a [Matched<'a>]) -> Winners<'a>
         ensures { result ≡ winners_of (map matched_of (matched.now ++ attached.now)) }
     {
         let mut winners = Winners::none();
@@ -51,13 +51,13 @@ impl<'a> Winners<'a> {
             → ending_seen result ≡ ending (property_of id) ds }
     {
         match self.of(id) {
-            Some(d) => Ending::EndsAt(d.value),
+            Some(d) => Ending::EndsAt(d.declared.value),
             None => Ending::Unsets,
         }
     }
 
     /// The one that wins for a property.
-    fn of(&self, id: PropId) -> Option<&'a Matched>
+    fn of(&self, id: PropId) -> Option<&'a Matched<'a>>
         ensures { slice_get self.now (property_of id)
             ≡ Some (option_map matched_of (option_copied result)) }
     {
@@ -73,19 +73,19 @@ impl<'a> Winners<'a> {
         }
     }
 
-    fn add(&mut self, d: &'a Matched)
+    fn add(&mut self, d: &'a Matched<'a>)
         ensures { (ds : List Declaration) → self.old ≡ winners_of ds
             → self.new ≡ winners_of (ds ++ matched_of d.now ∷ []) }
     {
         let best = &mut self.best[..];
-        let row = d.property.row();
+        let row = d.declared.property.row();
         best[row] = Some(better_of(best[row], d));
     }
 }
 
 /// The winner of a property once this declaration comes after those in which `best` wins.
-fn better_of<'a>(best: Option<&'a Matched>, d: &'a Matched) -> &'a Matched
-    ensures { (ds : List Declaration) → let property = property_of d.now.property in
+fn better_of<'a>(best: Option<&'a Matched<'a>>, d: &'a Matched<'a>) -> &'a Matched<'a>
+    ensures { (ds : List Declaration) → let property = property_of d.now.declared.now.property in
         winner (declares_longhand property) ds ≡ option_map matched_of (option_copied best.entry)
         → winner (declares_longhand property) (ds ++ matched_of d.now ∷ [])
         ≡ Some (matched_of result.now) }

@@ -2,19 +2,26 @@
 
 use cascade_core::{Matched, cascade};
 use layer_order::Origin;
-use property_table::{Keyword, PropId, Value};
+use property_table::{Declared, Keyword, PropId, Value};
 use std::alloc::Global;
 use std::test::Fail;
 use style_value::Style;
 use stylo_base::{Fixed, NoMemory, Specificity};
 
-// a declaration of `display` in an author's sheet, in a rule with the selector `*`
-fn display(keyword: Keyword, index: u64) -> Matched {
-    Matched {
+// a declaration of `display`
+fn display(keyword: Keyword) -> Declared {
+    Declared {
         property: PropId::Display,
         value: Value::Keyword(keyword),
-        origin: Origin::Author,
         important: false,
+    }
+}
+
+// what a rule with the selector `*` in an author's sheet declares
+fn by_rule(declared: &Declared, index: u64) -> Matched<'_> {
+    Matched {
+        declared,
+        origin: Origin::Author,
         attached: false,
         layer: 0,
         specificity: Specificity::new(0, 0, 0),
@@ -26,18 +33,19 @@ fn display(keyword: Keyword, index: u64) -> Matched {
 
 fn styled(
     alloc: Global,
-    matched: &[Matched],
-    attached: &[Matched],
+    matched: &[Matched<'_>],
+    attached: &[Matched<'_>],
     is_root: bool,
 ) -> Result<Value, NoMemory> {
-    let parent = Style::initial();
+    let parent = Style::initial(alloc)?;
     let style = cascade(alloc, matched, attached, &parent, Fixed::zero(), is_root)?;
     Ok(style.value(PropId::Display))
 }
 
 #[test]
 fn the_later_one(rt: HostRuntime) -> Result<(), Fail> {
-    let matched = [display(Keyword::None, 1), display(Keyword::Flex, 0)];
+    let (none, flex) = (display(Keyword::None), display(Keyword::Flex));
+    let matched = [by_rule(&none, 1), by_rule(&flex, 0)];
     let found = styled(rt.alloc(), &matched, &[], false)?;
     assert_eq!(rt; found, Value::Keyword(Keyword::None));
     Ok(())
@@ -45,11 +53,12 @@ fn the_later_one(rt: HostRuntime) -> Result<(), Fail> {
 
 #[test]
 fn the_attribute(rt: HostRuntime) -> Result<(), Fail> {
+    let (none, flex) = (display(Keyword::None), display(Keyword::Flex));
     let attached = Matched {
         attached: true,
-        ..display(Keyword::Flex, 0)
+        ..by_rule(&flex, 0)
     };
-    let found = styled(rt.alloc(), &[display(Keyword::None, 1)], &[attached], false)?;
+    let found = styled(rt.alloc(), &[by_rule(&none, 1)], &[attached], false)?;
     assert_eq!(rt; found, Value::Keyword(Keyword::Flex));
     Ok(())
 }

@@ -1,45 +1,55 @@
 //! Styles.
 
 use property_table::{Keyword, PropId, Value};
+use std::alloc::Global;
 use std::test::Fail;
-use style_value::{Style, blockified};
+use style_value::{Style, StyleDraft, blockified};
+use stylo_base::NoMemory;
 
 const NONE: Value = Value::Keyword(Keyword::None);
 
 const HIDDEN: Value = Value::Keyword(Keyword::Hidden);
 
-#[test]
-fn values(rt: HostRuntime) {
-    let mut style = Style::initial();
-    let before = style.value(PropId::Display);
-    style.set(PropId::Display, NONE);
-    let seen = (before, style.value(PropId::Display));
-    assert_eq!(rt; seen, (Value::Keyword(Keyword::Inline), NONE));
+// a style with initial values but for one
+fn with(alloc: Global, id: PropId, value: Value) -> Result<Style, NoMemory> {
+    let mut draft = StyleDraft::inheriting(&Style::initial(alloc)?);
+    draft.set(id, value);
+    draft.finish(alloc)
 }
 
 #[test]
-fn same_styles(rt: HostRuntime) {
-    let mut style = Style::initial();
-    let before = style.is_same(&Style::initial());
-    style.set(PropId::Clear, Value::Keyword(Keyword::Both));
-    assert_eq!(rt; (before, style.is_same(&Style::initial())), (true, false));
+fn values(rt: HostRuntime) -> Result<(), Fail> {
+    let style = with(rt.alloc(), PropId::Display, NONE)?;
+    let seen = (style.value(PropId::Display), style.value(PropId::Clear));
+    assert_eq!(rt; seen, (NONE, NONE));
+    Ok(())
+}
+
+#[test]
+fn same_styles(rt: HostRuntime) -> Result<(), Fail> {
+    let style = with(rt.alloc(), PropId::Visibility, HIDDEN)?;
+    let same = style.is_same(&with(rt.alloc(), PropId::Visibility, HIDDEN)?);
+    let initial = style.is_same(&Style::initial(rt.alloc())?);
+    assert_eq!(rt; (same, initial), (true, false));
+    Ok(())
 }
 
 #[test]
 fn inherited_part(rt: HostRuntime) -> Result<(), Fail> {
-    let mut style = Style::initial();
-    style.set(PropId::Display, NONE);
-    style.set(PropId::Visibility, HIDDEN);
-    let part = style.inherited_part(rt.alloc())?;
+    let mut draft = StyleDraft::inheriting(&Style::initial(rt.alloc())?);
+    draft.set(PropId::Display, NONE);
+    draft.set(PropId::Visibility, HIDDEN);
+    let part = draft.finish(rt.alloc())?.inherited_part(rt.alloc())?;
     let seen = (part.value(PropId::Display), part.value(PropId::Visibility));
     assert_eq!(rt; seen, (Value::Keyword(Keyword::Inline), HIDDEN));
     Ok(())
 }
 
 #[test]
-fn blocks(rt: HostRuntime) {
-    let mut style = Style::initial();
-    style.blockify();
-    let seen = (style.value(PropId::Display), blockified(NONE));
+fn blocks(rt: HostRuntime) -> Result<(), Fail> {
+    let mut draft = StyleDraft::inheriting(&Style::initial(rt.alloc())?);
+    draft.blockify();
+    let seen = (draft.value(PropId::Display), blockified(NONE));
     assert_eq!(rt; seen, (Value::Keyword(Keyword::Block), NONE));
+    Ok(())
 }

@@ -1,27 +1,26 @@
 //! Lists of nodes, and documents.
 
-use dom_tree::{Attr, Attrs, Doc, NodeInput, NodeList, States, has_word};
+use dom_tree::{Attr, Doc, NodeInput, NodeList, States, has_word};
 use std::alloc::Global;
 use std::process::Abort;
 use std::test::Fail;
-use stylo_base::{State, Text};
+use stylo_base::{Atom, State, Text};
 
-/// A node with a tag, in no state.
-fn node(alloc: Global, tag: &str, attrs: Attrs) -> Result<NodeInput, Fail> {
-    let tag = Text::of_str(alloc, tag)?;
-    Ok(NodeInput {
+/// A node with a tag alone.
+fn node(tag: &str) -> NodeInput<'_> {
+    NodeInput {
         tag,
-        attrs,
+        attrs: &[],
         states: States::default(),
-    })
+    }
 }
 
 /// A root, and one node more for each parent's index.
 fn list(rt: &impl Abort, alloc: Global, parents: &[u32]) -> Result<NodeList, Fail> {
-    let mut list = NodeList::of_root(alloc, node(alloc, "a", Attrs::new(alloc))?)?;
+    let mut list = NodeList::of_root(alloc, node("a"))?;
     for parent in parents {
         assert!(rt; (*parent as usize) < list.len());
-        list.push(*parent, node(alloc, "b", Attrs::new(alloc))?)?;
+        list.push(*parent, node("b"))?;
     }
     Ok(list)
 }
@@ -86,23 +85,33 @@ fn depths(rt: HostRuntime) -> Result<(), Fail> {
     Ok(())
 }
 
-fn attr(alloc: Global, name: &str, value: &str) -> Result<Attr, Fail> {
-    let name = Text::of_str(alloc, name)?;
-    let value = Text::of_str(alloc, value)?;
-    Ok(Attr { name, value })
-}
-
-/// An element alone, active, with two attributes of one name and a class.
+/// An element alone, active, with two attributes of one name, and a class that is there twice.
 fn alone(rt: &impl Abort, alloc: Global) -> Result<Doc, Fail> {
-    let mut attrs = Vec::new(alloc);
-    attrs.push(attr(alloc, "id", "first")?)?;
-    attrs.push(attr(alloc, "class", "\ta b ")?)?;
-    attrs.push(attr(alloc, "id", "second")?)?;
-    let mut root = node(alloc, "html", Attrs::of_list(attrs))?;
-    root.states.active = true;
+    let attrs = [
+        Attr {
+            name: "id",
+            value: "first",
+        },
+        Attr {
+            name: "class",
+            value: "\ta b a",
+        },
+        Attr {
+            name: "id",
+            value: "second",
+        },
+    ];
+    let root = NodeInput {
+        tag: "html",
+        attrs: &attrs,
+        states: States {
+            active: true,
+            ..States::default()
+        },
+    };
     let list = NodeList::of_root(alloc, root)?;
     assert!(rt; list.len() == 1);
-    Ok(Doc::start(alloc, &list)?)
+    Ok(Doc::of_list(alloc, list)?)
 }
 
 #[test]
@@ -126,6 +135,51 @@ fn classes(rt: HostRuntime) -> Result<(), Fail> {
         doc.has_class(1, "a b"),
     );
     assert_eq!(rt; seen, (true, false, false));
+    Ok(())
+}
+
+#[test]
+fn each_class_once(rt: HostRuntime) -> Result<(), Fail> {
+    let doc = alone(&rt, rt.alloc())?;
+    assert!(rt; doc.contains(1));
+    let classes = doc.class_names(1);
+    assert!(rt; classes.len() == 2);
+    assert_eq!(rt; (classes.text(0), classes.text(1)), ("a", "b"));
+    Ok(())
+}
+
+/// Whether the element has this id, class and tag by atoms, and an attribute of that name.
+fn has(doc: &Doc, alloc: Global, text: &str) -> Result<(bool, bool, bool, bool), Fail> {
+    let atom = Atom::of_text(Text::of_str(alloc, text)?);
+    if !doc.contains(1) {
+        return Ok((false, false, false, false));
+    }
+    Ok((
+        doc.has_id_atom(1, &atom),
+        doc.has_class_atom(1, &atom),
+        doc.has_tag(1, &atom),
+        doc.attribute_atom(1, &atom).is_some(),
+    ))
+}
+
+#[test]
+fn by_atoms(rt: HostRuntime) -> Result<(), Fail> {
+    let doc = alone(&rt, rt.alloc())?;
+    let seen = (
+        has(&doc, rt.alloc(), "first")?,
+        has(&doc, rt.alloc(), "b")?,
+        has(&doc, rt.alloc(), "html")?,
+        has(&doc, rt.alloc(), "id")?,
+    );
+    assert_eq!(rt;
+        seen,
+        (
+            (true, false, false, false),
+            (false, true, false, false),
+            (false, false, true, false),
+            (false, false, false, true)
+        )
+    );
     Ok(())
 }
 

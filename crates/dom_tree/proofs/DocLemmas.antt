@@ -1,35 +1,32 @@
 -- What was made of a list of nodes is whole, and is its document.
 use Rattle.std.proofs.Common.{◌≡◌, ℕ, ◌<◌, ◌≤◌, ◌&&◌, nat_lt, nat_le, List, length, Some, sym, ap, ◌∙◌, subst, arith, ltb-true, lt-ltb, le-leb, leb-true}
 use Rattle.std.specs.Bool.{Decides}
-use Rattle.std.specs.List.{AllByRecursion, filter_map}
+use Rattle.std.specs.List.{filter_map}
 use Rattle.std.proofs.lemmas.Bool.{and_from, and_parts}
 use Rattle.std.proofs.lemmas.Bool.Decides.{same_from_decides}
+use Rattle.stylo_base.specs.NameList.{StandOnce}
+use Rattle.base_model.specs.Limits.{element_limit}
 use Rattle.scene_model.specs.Element.{Characters}
 use Rattle.scene_model.specs.Lookups.{is_element, element_at, numbers}
-use Rattle.scene_model.specs.Nodes as model
-use Rattle.scene_model.specs.Nodes.{IsNodeList, listed, tree_order, scene_of}
+use Rattle.scene_model.specs.Nodes.{Node, IsNodeList, listed, tree_order, scene_of}
 use Rattle.scene_model.specs.Document.{document_of}
 use Rattle.scene_model.specs.Valid.{IsValid}
 use Rattle.scene_model.proofs.Listed.{length-listed}
 use Rattle.scene_model.proofs.TreeOrder.{IsValid-scene_of, numbers-scene_of, length-tree_order, length-scene_of, decides-scene_of, children-scene_of, place_of-scene_of}
-use Rattle.dom_tree.proofs.NamingLemmas.{length-elements_from}
-use Rattle.dom_tree.specs.declared.node.Link.{Link}
-use Rattle.dom_tree.specs.declared.node.Node.{Node}
-use Rattle.dom_tree.specs.Kept.{elements_of, in_order, document, AreLinks, IsNamed, IsWhole}
+use Rattle.dom_tree.specs.declared.labels.Label.{Label}
+use Rattle.dom_tree.specs.declared.links.Link.{Link}
+use Rattle.dom_tree.specs.Kept.{Table}
+use Rattle.dom_tree.specs.Labels.{AreLabels}
+use Rattle.dom_tree.specs.Links.{AreLinks}
+use Rattle.dom_tree.specs.Whole.{in_order, document, IsWhole}
 
-in_order_of_list : (list : List model.Node) (names : List Characters) (nodes : List Node) (order : List ℕ) → elements_of names nodes ≡ listed list → order ≡ tree_order list → in_order names nodes order ≡ scene_of list
+in_order_of_list : (list : List Node) (order : List ℕ) → order ≡ tree_order list → in_order list order ≡ scene_of list
 unfolding in_order scene_of
-in_order_of_list list names nodes order e f =
-    ap (λ es. filter_map (element_at es) order) e ∙ ap (λ o. filter_map (element_at (listed list)) o) f
+in_order_of_list list order e = ap (λ o. filter_map (element_at (listed list)) o) e
 
-so_many_nodes : (list : List model.Node) (names : List Characters) (nodes : List Node) → elements_of names nodes ≡ listed list → length nodes ≡ length list
-so_many_nodes list names nodes e = sym (length-elements_from names 0 nodes) ∙ (ap length e ∙ length-listed list)
-
-pub document_of_list : (list : List model.Node) (names : List Characters) (nodes : List Node) (order : List ℕ) → elements_of names nodes ≡ listed list → order ≡ tree_order list → document names nodes order ≡ document_of list
-document_of_list list names nodes order e f = λ i. record {
-  elements = in_order_of_list list names nodes order e f i;
-  last = so_many_nodes list names nodes e i;
-}
+pub document_of_list : (list : List Node) (table : Table) (order : List ℕ) → table.nodes ≡ list → order ≡ tree_order list → document table order ≡ document_of list
+document_of_list list table order same e =
+    λ i. record { elements = (ap (λ l. in_order l order) same ∙ in_order_of_list list order e) i; last = length (same i) }
 
 within-Decides : (x n : ℕ) → Decides (nat_lt 0 x && nat_le x n) ((0 < x) × (x ≤ n))
 within-Decides x n = (
@@ -37,7 +34,7 @@ within-Decides x n = (
   λ h. and_from (nat_lt 0 x) (nat_le x n) (lt-ltb 0 x h.0) (le-leb x n h.1),
 )
 
-module _ (list : List model.Node) (v : IsNodeList list) where
+module _ (list : List Node) (v : IsNodeList list) where
   links_in_tree : (links : List Link) → AreLinks (listed list) links → AreLinks (scene_of list) links
   links_in_tree links are =
       let so_many : length (listed list) ≡ length (scene_of list) = length-listed list ∙ sym (length-scene_of list v) in
@@ -46,15 +43,18 @@ module _ (list : List model.Node) (v : IsNodeList list) where
         each = λ x l h. are.each x l (omega (arith, so_many)) ∙ (λ i. Some (record { children = sym (children-scene_of list v x) i; place = sym (place_of-scene_of list v x) i }));
       }
 
-  pub whole_of_list : (names : List Characters) (nodes : List Node) (links : List Link) (order : List ℕ) → elements_of names nodes ≡ listed list → AllByRecursion (IsNamed names) nodes → AreLinks (listed list) links → order ≡ tree_order list → IsWhole names nodes links order
-  whole_of_list names nodes links order e named are f =
-      let same : in_order names nodes order ≡ scene_of list = in_order_of_list list names nodes order e f in
-      let so_many : length nodes ≡ length list = so_many_nodes list names nodes e in
+  pub whole_of_list : (table : Table) (links : List Link) (labels : List Label) (lists : List (List Characters)) (order : List ℕ) → table.nodes ≡ list → length list ≤ element_limit → AreLinks (listed list) links → StandOnce table.names → AreLabels table lists labels → order ≡ tree_order list → IsWhole table links labels lists order
+  whole_of_list table links labels lists order nodes few are once labelled f =
+      let same : in_order table.nodes order ≡ scene_of list = ap (λ l. in_order l order) nodes ∙ in_order_of_list list order f in
+      let so_many : length list ≡ length table.nodes = ap length (sym nodes) in
       record {
+        few = subst (λ l. length l ≤ element_limit) (sym nodes) few;
+        shape = subst IsNodeList (sym nodes) v;
         valid = subst IsValid (sym same) (IsValid-scene_of list v);
         listed = ap numbers same ∙ (numbers-scene_of list v ∙ sym f);
-        known = λ x. ap (λ doc. is_element doc x) same ∙ (same_from_decides _ _ (decides-scene_of list v x) (within-Decides x (length list)) ∙ ap (λ n. nat_lt 0 x && nat_le x n) (sym so_many));
+        known = λ x. ap (λ doc. is_element doc x) same ∙ (same_from_decides _ _ (decides-scene_of list v x) (within-Decides x (length list)) ∙ ap (λ n. nat_lt 0 x && nat_le x n) so_many);
         links_of = subst (λ doc. AreLinks doc links) (sym same) (links_in_tree links are);
-        count = ap length f ∙ (length-tree_order list v ∙ sym so_many);
-        named = named;
+        count = ap length f ∙ (length-tree_order list v ∙ so_many);
+        once = once;
+        labels_of = labelled;
       }

@@ -1,142 +1,153 @@
--- What the kept nodes of a document answer.
-use Rattle.std.proofs.Common.{◌≡◌, ℕ, zero, suc, ◌+◌, ◌-◌, ◌<◌, ◌≤◌, ◌==◌, ◌&&◌, Bool, true, false, cond, nat_lt, nat_le, List, [], ◌∷◌, map, find, length, Option, Some, None, option_map, option_and_then, is_some, slice_get, codes, unwrap_or, sym, ap, ◌∙◌, refl, arith, ltb-true}
-use Rattle.std.specs.Bool.{Decides}
-use Rattle.std.specs.Cmp.Lexicographic.{slice_cmp}
+-- What is kept answers what is asked of an element.
+use Rattle.std.proofs.Common.{◌≡◌, ℕ, ◌+◌, ◌-◌, ◌<◌, ◌≤◌, ◌&&◌, Bool, true, false, cond, not, nat_lt, nat_le, List, [], length, codes, Option, Some, None, IfSome, option_map, option_and_then, is_some, unwrap_or, slice_get, get_or, Fits, w32, sym, ap, ◌∙◌, subst, refl, arith, ltb-true}
 use Rattle.std.specs.FinMap as finmap
-use Rattle.std.specs.List.{AllByRecursion}
 use Rattle.std.specs.Option.{option_map_or}
-use Rattle.std.specs.Ordering.{nat_cmp, is_eq, eq_by_cmp}
-use Rattle.std.specs.Str.{bytes_eq, chars}
-use Rattle.std.proofs.lemmas.Bool.{cond-true, cond-false, eq-eqb, eqb-true, ne_eqb, leb-true, and_parts, false≢true, false_from_ne_true}
-use Rattle.std.proofs.lemmas.Bool.Decides.{nat_tests, same_from_decides}
-use Rattle.std.proofs.lemmas.Cmp.{nat_list_cmp_total, same_from_slice_cmp}
-use Rattle.std.proofs.lemmas.Option.{slice_get-get_or, get_or_from_slice_get, unwrap_or-slice_get}
-use Rattle.std.proofs.lemmas.Slice.Eq.{bytes_eq-Decides}
-use Rattle.stylo_base.specs.NameList.{StandOnce, is_among}
+use Rattle.std.specs.Str.{chars}
+use Rattle.std.proofs.lemmas.Bool.{leb-true, and_parts}
+use Rattle.std.proofs.lemmas.List.{length-map}
+use Rattle.std.proofs.lemmas.Option.{slice_get_read, same_Some}
+use Rattle.base_model.specs.Text.{is_empty_text, same_text}
 use Rattle.stylo_base.proofs.TextLemmas.{chars-ascii}
-use Rattle.stylo_base.proofs.NameLemmas.{is_among-Decides}
-use Rattle.stylo_base.specs.declared.state.State.{State}
-use Rattle.scene_model.specs.Element.{Element, Characters, has_state}
 use Rattle.scene_model.specs.Document.{Document}
-use Rattle.scene_model.specs.Lookups.{element_at, is_element, IsElement, state_of, attribute_of, has_class}
-use Rattle.scene_model.specs.Words.{has_word}
+use Rattle.scene_model.specs.Element.{Element, Characters, State, States, has_state}
+use Rattle.scene_model.specs.Lookups.{attribute_of, children, element_at, is_element, IsElement, parent_of, place_of, state_of, tag_of}
+use Rattle.scene_model.specs.Nodes.{Node, listed}
 use Rattle.scene_model.proofs.Found.{is_element-at, element_at-filter_map}
+use Rattle.scene_model.specs.Nodes.{IsParentAt}
+use Rattle.scene_model.proofs.Listed.{parent_at, numbered, element_at-listed_some}
 use Rattle.scene_model.proofs.Numbers.{is_in}
-use Rattle.dom_tree.specs.declared.node.NamedAttr.{NamedAttr}
-use Rattle.dom_tree.specs.declared.node.Node.{Node}
-use Rattle.dom_tree.specs.declared.node.Link.{Link}
-use Rattle.base_model.proofs.Lists.{slice_get_some}
-use Rattle.dom_tree.proofs.Places.{each_at}
-use Rattle.stylo_base.specs.StateView.{state_seen}
-use Rattle.dom_tree.specs.Kept.{text_of, named_pair, element_of, elements_from, elements_of, in_order, document, IsNamed, IsWhole}
-
--- the element of a node
-
-found_from : (names : List Characters) (k : ℕ) (nodes : List Node) (i j : ℕ) (node : Node) → j ≡ k + i + 1 → slice_get nodes i ≡ Some node → element_at (elements_from names k nodes) j ≡ Some (element_of names j node)
-found_from names k [] i j node e h = absurd (cc)
-found_from names k (first ∷ nodes) zero j node e h =
-    let same : k + 1 ≡ j = omega arith in
-    cond-true (k + 1 == j) (Some (element_of names (k + 1) first)) (element_at (elements_from names (k + 1) nodes) j) (eq-eqb (k + 1) j same) ∙ (ap (λ n. Some (element_of names n first)) same ∙ ap (option_map (element_of names j)) h)
-found_from names k (first ∷ nodes) (suc i) j node e h =
-    cond-false (k + 1 == j) (Some (element_of names (k + 1) first)) (element_at (elements_from names (k + 1) nodes) j) (ne_eqb (k + 1) j (λ f. omega arith)) ∙ found_from names (k + 1) nodes i j node (omega arith) h
-
-pub element_at-elements_of : (names : List Characters) (nodes : List Node) (x : ℕ) (node : Node) → 0 < x → slice_get nodes (x - 1) ≡ Some node → element_at (elements_of names nodes) x ≡ Some (element_of names x node)
-element_at-elements_of names nodes x node l h = found_from names 0 nodes (x - 1) x node (omega arith) h
+use Rattle.dom_tree.specs.declared.labels.Label.{Label}
+use Rattle.dom_tree.specs.declared.links.Link.{Link}
+use Rattle.dom_tree.specs.Classes.{list_of}
+use Rattle.dom_tree.specs.Kept.{Table, text_of}
+use Rattle.dom_tree.specs.Labels.{IsLabel, class_words, id_text}
+use Rattle.dom_tree.specs.Links.{link_of}
+use Rattle.dom_tree.specs.Whole.{document, in_order, IsWhole}
+use Rattle.dom_tree.proofs.Places.{item_at}
 
 kept_some : {X : Type 0} (b : Bool) (o : Option X) → is_some (cond b o None) ≡ true → cond b o None ≡ o
 kept_some true o h = refl
 kept_some false o h = absurd (cc)
 
-element_at-in_order : (names : List Characters) (nodes : List Node) (order : List ℕ) (x : ℕ) → IsElement (in_order names nodes order) x → element_at (in_order names nodes order) x ≡ element_at (elements_of names nodes) x
+element_at-in_order : (nodes : List Node) (order : List ℕ) (x : ℕ) → IsElement (in_order nodes order) x → element_at (in_order nodes order) x ≡ element_at (listed nodes) x
 unfolding in_order
-element_at-in_order names nodes order x h =
-    let at = element_at-filter_map (elements_of names nodes) order x in
-    let some : is_some (cond (is_in x order) (element_at (elements_of names nodes) x) None) ≡ true = ap is_some (sym at) ∙ (sym (is_element-at (in_order names nodes order) x) ∙ h) in
-    at ∙ kept_some (is_in x order) (element_at (elements_of names nodes) x) some
+element_at-in_order nodes order x h =
+    let at = element_at-filter_map (listed nodes) order x in
+    let some : is_some (cond (is_in x order) (element_at (listed nodes) x) None) ≡ true = ap is_some (sym at) ∙ (sym (is_element-at (in_order nodes order) x) ∙ h) in
+    at ∙ kept_some (is_in x order) (element_at (listed nodes) x) some
 
--- the numbers of the elements
-pub within : (names : List Characters) (nodes : List Node) (links : List Link) (order : List ℕ) (now : Document) (x : ℕ) → IsWhole names nodes links order → document names nodes order ≡ now → IsElement now.elements x → (0 < x) × (x ≤ length nodes)
-within names nodes links order now x whole view is =
-    let there : IsElement (in_order names nodes order) x = ap (λ (d : Document). is_element d.elements x) view ∙ is in
-    let known : (nat_lt 0 x && nat_le x (length nodes)) ≡ true = sym (whole.known x) ∙ there in
-    let parts = and_parts (nat_lt 0 x) (nat_le x (length nodes)) known in
-    (ltb-true 0 x parts.0, leb-true x (length nodes) parts.1)
+module _ (table : Table) (links : List Link) (labels : List Label) (lists : List (List Characters)) (order : List ℕ) (now : Document) (x : ℕ) (whole : IsWhole table links labels lists order) (view : document table order ≡ now) (is : IsElement now.elements x) where
+  there : IsElement (in_order table.nodes order) x
+  there = ap (λ (d : Document). is_element d.elements x) view ∙ is
 
--- the one look-up that the others ask
-pub found : (names : List Characters) (nodes shown : List Node) (links : List Link) (order : List ℕ) (now : Document) (x : ℕ) (node : Node) → IsWhole names nodes links order → document names nodes order ≡ now → IsElement now.elements x → shown ≡ nodes → slice_get shown (x - 1) ≡ Some node → element_at now.elements x ≡ Some (element_of names x node)
-found names nodes shown links order now x node whole view is same h =
-    let there : IsElement (in_order names nodes order) x = ap (λ (d : Document). is_element d.elements x) view ∙ is in
-    let above : 0 < x = (within names nodes links order now x whole view is).0 in
-    ap (λ (d : Document). element_at d.elements x) (sym view) ∙ (element_at-in_order names nodes order x there ∙ element_at-elements_of names nodes x node above (ap (λ l. slice_get l (x - 1)) (sym same) ∙ h))
+  -- the number of an element
+  pub within : (0 < x) × (x ≤ length table.nodes)
+  within =
+      let parts = and_parts (nat_lt 0 x) (nat_le x (length table.nodes)) (sym (whole.known x) ∙ there) in
+      (ltb-true 0 x parts.0, leb-true x (length table.nodes) parts.1)
 
--- states
+  found : (node : Node) → slice_get table.nodes (x - 1) ≡ Some node → element_at now.elements x ≡ Some (numbered (x - 1) node)
+  found node h =
+      let back : x - 1 + 1 ≡ x = omega (arith, within.0) in
+      ap (λ (d : Document). element_at d.elements x) (sym view)
+      ∙ (element_at-in_order table.nodes order x there
+      ∙ (ap (element_at (listed table.nodes)) (sym back) ∙ element_at-listed_some table.nodes (x - 1) node h))
 
-pub state_found : (now : Document) (x : ℕ) (e : Element) (s t : State) → element_at now.elements x ≡ Some e → s ≡ t → has_state e.states (state_seen t) ≡ state_of now.elements x (state_seen s)
-state_found now x e s t f h =
-    sym (ap (λ o. option_map_or (λ (e : Element). has_state e.states (state_seen s)) o false) f ∙ ap (λ s. has_state e.states (state_seen s)) h)
+  -- the node of the element, and what is known of it
+  item : (P : Node → Type 0) → IfSome (slice_get table.nodes (x - 1)) P → (node : Node) × (slice_get table.nodes (x - 1) ≡ Some node) × P node
+  item P h = item_at table.nodes (x - 1) P (omega (arith, within.0, within.1)) h
 
--- attributes
+  pub tag_is : (text : Characters) → IfSome (slice_get table.nodes (x - 1)) (λ node. text ≡ node.tag) → text ≡ tag_of now.elements x
+  tag_is text h =
+      let (node, at, e) = item (λ node. text ≡ node.tag) h in
+      e ∙ sym (ap (λ o. unwrap_or (option_map (λ (e : Element). e.tag) o) []) (found node at))
 
-text_at : (names : List Characters) (name : ℕ) → name < length names → slice_get names name ≡ Some (text_of names name)
-text_at names name l = slice_get-get_or names name [] l ∙ ap Some (sym (unwrap_or-slice_get names name []))
+  pub parent_is : (parent : Option ℕ) → IfSome (slice_get table.nodes (x - 1)) (λ node. parent ≡ node.parent) → option_map (λ p. p + 1) parent ≡ parent_of now.elements x
+  parent_is parent h =
+      let (node, at, e) = item (λ node. parent ≡ node.parent) h in
+      ap (option_map (λ p. p + 1)) e ∙ sym (ap (option_and_then (λ (e : Element). e.parent)) (found node at))
 
--- two texts tie where they are equal
-tied : (a b : Characters) → eq_by_cmp (slice_cmp nat_cmp) a b ≡ bytes_eq a b
-tied a b =
-    same_from_slice_cmp nat_cmp is_eq bytes_eq refl (λ _ _. refl) (λ _ _. refl) (λ x y xs ys o h. grind (arith, nat_tests)) a b _ refl
+  -- it is an element's, so a number follows it
+  pub parent_fits : (parent : ℕ) → IfSome (slice_get table.nodes (x - 1)) (λ node. Some parent ≡ node.parent) → Fits w32 (parent + 1)
+  parent_fits parent h =
+      let (node, at, e) = item (λ node. Some parent ≡ node.parent) h in
+      let before : parent < x - 1 = subst (IsParentAt (x - 1)) (sym e) (parent_at table.nodes (x - 1) node whole.shape at) in
+      omega (arith, before, whole.few, within.1)
 
-tied-Decides : (a b : Characters) → Decides (eq_by_cmp (slice_cmp nat_cmp) a b) (a ≡ b)
-tied-Decides a b = let d = bytes_eq-Decides a b in (λ e. d.0 (sym (tied a b) ∙ e), λ e. tied a b ∙ d.1 e)
+  pub state_is : (states : States) (state : State) → IfSome (slice_get table.nodes (x - 1)) (λ node. states ≡ node.states) → has_state states state ≡ state_of now.elements x state
+  state_is states state h =
+      let (node, at, e) = item (λ node. states ≡ node.states) h in
+      ap (λ s. has_state s state) e ∙ sym (ap (λ o. option_map_or (λ (e : Element). has_state e.states state) o false) (found node at))
 
--- a text ties with that of a name where the name is its own
-tied-name : (names : List Characters) (name other : ℕ) (text : Characters) → StandOnce names → slice_get names name ≡ Some text → other < length names → eq_by_cmp (slice_cmp nat_cmp) text (text_of names other) ≡ (other == name)
-tied-name names name other text once h l =
-    let d = tied-Decides text (text_of names other) in
-    let at : slice_get names other ≡ Some (text_of names other) = text_at names other l in
-    let own : other ≡ name → text ≡ text_of names other = λ e. sym (ap (text_of names) e ∙ ap (λ o. unwrap_or o []) h) in
-    same_from_decides _ _ d (λ e. own (eqb-true other name e), λ e. eq-eqb other name (once other name text (at ∙ ap Some (sym e)) h))
+  pub attribute_is : (name : Characters) (value : Option Characters) → IfSome (slice_get table.nodes (x - 1)) (λ node. value ≡ finmap.get node.attrs name) → value ≡ attribute_of now.elements x name
+  attribute_is name value h =
+      let (node, at, e) = item (λ node. value ≡ finmap.get node.attrs name) h in
+      e ∙ sym (ap (option_and_then (λ (e : Element). finmap.get e.attrs name)) (found node at))
 
--- the value of the first attribute with a name
-keyed : (names : List Characters) (attrs : List NamedAttr) (name : ℕ) (text : Characters) → StandOnce names → slice_get names name ≡ Some text → AllByRecursion (λ attr. attr.name < length names) attrs → finmap.find (slice_cmp nat_cmp) text (map (named_pair names) attrs) ≡ option_map (λ attr. attr.value) (find (λ attr. attr.name == name) attrs)
-keyed names [] name text once h k = refl
-keyed names (attr ∷ attrs) name text once h k =
-    ap (λ b. cond b (Some attr.value) (finmap.find (slice_cmp nat_cmp) text (map (named_pair names) attrs))) (tied-name names name attr.name text once h k.0)
-    ∙ kept_value (attr.name == name) attr (find (λ attr. attr.name == name) attrs) (finmap.find (slice_cmp nat_cmp) text (map (named_pair names) attrs)) (keyed names attrs name text once h k.1)
+  -- links
+
+  so_many : length links ≡ length table.nodes
+  so_many = whole.links_of.count ∙ (sym (length-map (in_order table.nodes order) (λ e. e.number)) ∙ (ap length whole.listed ∙ whole.count))
+
+  pub link_within : x ≤ length links
+  link_within = omega (arith, within.1, so_many)
+
+  linked : slice_get links (x - 1) ≡ Some (link_of now.elements x)
+  linked =
+      whole.links_of.each x within.0 (omega (arith, link_within, whole.links_of.count)) ∙ ap (λ (d : Document). Some (link_of d.elements x)) view
+
+  pub children_are : (shown : List ℕ) → IfSome (slice_get links (x - 1)) (λ link. shown ≡ link.children) → shown ≡ children now.elements x
+  children_are shown h = subst (λ o. IfSome o (λ (link : Link). shown ≡ link.children)) linked h
+
+  pub place_is : (place : ℕ) → IfSome (slice_get links (x - 1)) (λ link. place ≡ link.place) → place ≡ place_of now.elements x
+  place_is place h = subst (λ o. IfSome o (λ (link : Link). place ≡ link.place)) linked h
+
+  -- labels
+
+  pub label_within : x ≤ length labels
+  label_within = omega (arith, within.1, whole.labels_of.count)
+
+  module _ (label : Label) (read : label ≡ get_or labels (x - 1) label) where
+    label_at : slice_get labels (x - 1) ≡ Some label
+    label_at = slice_get_read labels (length labels) (x - 1) label refl (omega (arith, within.0, label_within)) read
+
+    labelled : (node : Node) × (slice_get table.nodes (x - 1) ≡ Some node) × IsLabel table.names lists node label
+    labelled =
+        item (λ node. IsLabel table.names lists node label)
+        (subst (λ o. IfSome o (λ label. IfSome (slice_get table.nodes (x - 1)) (λ node. IsLabel table.names lists node label))) label_at
+        (whole.labels_of.each (x - 1) (omega (arith, within.0, label_within))))
+
+    pub classes_are : list_of lists label.classes ≡ class_words (attribute_of now.elements x (chars (codes "class")))
+    classes_are =
+        let (node, at, is_label) = labelled in
+        is_label.classes ∙ sym (ap (λ o. class_words (option_and_then (λ (e : Element). finmap.get e.attrs (chars (codes "class"))) o)) (found node at))
+
+    pub listed_within : IfSome label.classes (λ k. k < length lists)
+    listed_within = let (node, at, is_label) = labelled in is_label.listed
+
+    pub id_within : IfSome label.id (λ name. name < length table.names)
+    id_within = let (node, at, is_label) = labelled in is_label.named
+
+    pub id_is : option_map (text_of table.names) label.id ≡ option_and_then id_text (attribute_of now.elements x (codes "id"))
+    id_is =
+        let (node, at, is_label) = labelled in
+        is_label.id ∙ (sym (ap (λ o. option_and_then id_text (option_and_then (λ (e : Element). finmap.get e.attrs (chars (codes "id"))) o)) (found node at))
+        ∙ ap (λ t. option_and_then id_text (attribute_of now.elements x t)) (chars-ascii (codes "id") refl))
+
+-- an id among the labels, and among the attributes
+
+pub no_id : (value : Option Characters) (id : Characters) → None ≡ option_and_then id_text value → false ≡ option_map_or (λ value. not (is_empty_text value) && same_text value id) value false
+no_id None id h = refl
+no_id (Some value) id h = by (is_empty_text value) h
   where
-    kept_value : (b : Bool) (attr : NamedAttr) (o : Option NamedAttr) (v : Option Characters) → v ≡ option_map (λ a. a.value) o → cond b (Some attr.value) v ≡ option_map (λ a. a.value) (cond b (Some attr) o)
-    kept_value true attr o v e = refl
-    kept_value false attr o v e = e
+    by : (b : Bool) → None ≡ cond b None (Some value) → false ≡ (not b && same_text value id)
+    by true h = refl
+    by false h = absurd (cc)
 
--- a text without a name is no attribute's
-unkeyed : (names : List Characters) (attrs : List NamedAttr) (text : Characters) → is_among text names ≡ false → AllByRecursion (λ attr. attr.name < length names) attrs → finmap.find (slice_cmp nat_cmp) text (map (named_pair names) attrs) ≡ None
-unkeyed names [] text none k = refl
-unkeyed names (attr ∷ attrs) text none k =
-    cond-false (eq_by_cmp (slice_cmp nat_cmp) text (text_of names attr.name)) (Some attr.value) (finmap.find (slice_cmp nat_cmp) text (map (named_pair names) attrs)) (false_from_ne_true _ other) ∙ unkeyed names attrs text none k.1
+pub some_id : (value : Option Characters) (text id : Characters) → Some text ≡ option_and_then id_text value → same_text text id ≡ option_map_or (λ value. not (is_empty_text value) && same_text value id) value false
+some_id None text id h = absurd (cc)
+some_id (Some value) text id h = by (is_empty_text value) h
   where
-    other : eq_by_cmp (slice_cmp nat_cmp) text (text_of names attr.name) ≡ true → ⊥
-    other e =
-        let same : text ≡ text_of names attr.name = (tied-Decides text (text_of names attr.name)).0 e in
-        let at : slice_get names attr.name ≡ Some text = text_at names attr.name k.0 ∙ ap Some (sym same) in
-        false≢true (sym none ∙ (is_among-Decides text names).1 (attr.name, k.0, get_or_from_slice_get names attr.name text text at))
-
-attribute_found : (names : List Characters) (now : Document) (x : ℕ) (node : Node) (text : Characters) → element_at now.elements x ≡ Some (element_of names x node) → attribute_of now.elements x text ≡ finmap.find (slice_cmp nat_cmp) text (map (named_pair names) node.attrs)
-attribute_found names now x node text f =
-    ap (option_and_then (λ (e : Element). finmap.get e.attrs text)) f ∙ finmap.get-from_entries nat_list_cmp_total (map (named_pair names) node.attrs) text
-
-module _ (names : List Characters) (nodes shown : List Node) (links : List Link) (order : List ℕ) (now : Document) (x : ℕ) (whole : IsWhole names nodes links order) (view : document names nodes order ≡ now) (is : IsElement now.elements x) where
-  pub attribute_known : (node : Node) (name : ℕ) (text : Characters) (value : Option Characters) → shown ≡ nodes → slice_get shown (x - 1) ≡ Some node → StandOnce names → slice_get names name ≡ Some text → value ≡ option_map (λ attr. attr.value) (find (λ attr. attr.name == name) node.attrs) → value ≡ attribute_of now.elements x text
-  attribute_known node name text value same h once n v =
-      let named : IsNamed names node = each_at (IsNamed names) nodes (x - 1) node whole.named (ap (λ l. slice_get l (x - 1)) (sym same) ∙ h) in
-      v ∙ sym (attribute_found names now x node text (found names nodes shown links order now x node whole view is same h) ∙ keyed names node.attrs name text once n named.attrs)
-
-  pub attribute_unknown : (text : Characters) → is_among text names ≡ false → None ≡ attribute_of now.elements x text
-  attribute_unknown text none =
-      let w = within names nodes links order now x whole view is in
-      let (node, h) = slice_get_some nodes (x - 1) (omega arith) in
-      let named : IsNamed names node = each_at (IsNamed names) nodes (x - 1) node whole.named h in
-      sym (attribute_found names now x node text (found names nodes nodes links order now x node whole view is refl h) ∙ unkeyed names node.attrs text none named.attrs)
-
--- the class attribute
-pub class_asked : (now : Document) (x : ℕ) (word : Characters) (value : Option Characters) → value ≡ attribute_of now.elements x (chars (codes "class")) → option_map_or (has_word word) value false ≡ has_class now.elements x word
-class_asked now x word value v =
-    ap (λ o. option_map_or (has_word word) o false) (v ∙ ap (attribute_of now.elements x) (chars-ascii (codes "class") refl))
+    by : (b : Bool) → Some text ≡ cond b None (Some value) → same_text text id ≡ (not b && same_text value id)
+    by true h = absurd (cc)
+    by false h = ap (λ t. same_text t id) (same_Some text value h)

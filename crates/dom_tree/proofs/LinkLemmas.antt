@@ -12,8 +12,8 @@ use Rattle.scene_model.specs.Lookups.{children, place_of, is_child_of}
 use Rattle.scene_model.specs.Nodes.{Node, IsNodeList, IsParentAt, listed}
 use Rattle.scene_model.proofs.Listed.{length-listed, parent_at, each_child, children_push_below, children_push_other, children_push_root, place_of-listed, place_of-listed_root, IsNodeList-take}
 use Rattle.dom_tree.specs.declared.numbers.Numbers.{Numbers}
-use Rattle.dom_tree.specs.declared.node.Link.{Link}
-use Rattle.dom_tree.specs.Kept.{AreLinks, link_of}
+use Rattle.dom_tree.specs.declared.links.Link.{Link}
+use Rattle.dom_tree.specs.Links.{AreLinks, link_of}
 use Rattle.dom_tree.proofs.Places.{item_at, get_set_same, get_set_other, taken}
 
 -- the children so far, and the sibling index for good

@@ -1,10 +1,10 @@
--- A list of nodes, seen from its rows, after one more.
-use Rattle.std.proofs.Common.{◌≡◌, ◌<◌, ℕ, List, [], ◌∷◌, ◌++◌, length, map, Some, subst, sym}
-use Rattle.std.proofs.lemmas.List.{map-append}
+-- A list of nodes after one more, or after a failure to append it.
+use Rattle.std.proofs.Common.{◌≡◌, ◌<◌, ℕ, List, [], ◌∷◌, ◌++◌, length, Result, Ok, Err, OnOk, OnErr, Some, subst, sym, ap, arith}
 use Rattle.scene_model.specs.Nodes.{Node, IsParentAt, IsNodeList}
 use Rattle.scene_model.proofs.Listed.{IsNodeList-push}
 
-pub IsNodeList-push_row : {R : Type 0} (f : R → Node) (rows new : List R) (row : R) (p : ℕ) → new ≡ rows ++ row ∷ [] → IsNodeList (map f rows) → (f row).parent ≡ Some p → p < length (map f rows) → IsNodeList (map f new)
-IsNodeList-push_row f rows new row p e list parent below =
-    let last : IsParentAt (length (map f rows)) (f row).parent = subst (IsParentAt (length (map f rows))) (sym parent) below in
-    subst (λ l. IsNodeList (map f l)) (sym e) (rw map-append (IsNodeList-push (map f rows) (f row) list last))
+pub pushed_list : {T E : Type 0} (r : Result T E) (old new now : List Node) (node : Node) (p : ℕ) → OnOk r (new ≡ old ++ node ∷ []) → OnErr r (new ≡ old) → IsNodeList old → node.parent ≡ Some p → old ≡ now → p < length now → IsNodeList new
+pushed_list (Ok x) old new now node p longer same list parent view below =
+    let here : p < length old = omega (arith, ap length view) in
+    subst IsNodeList (sym longer) (IsNodeList-push old node list (subst (IsParentAt (length old)) (sym parent) here))
+pushed_list (Err e) old new now node p longer same list parent view below = subst IsNodeList (sym same) list

@@ -1,16 +1,15 @@
 -- The walk of a list of nodes: the numbers so far, and what is ahead of it, the next one last.
-use Rattle.std.proofs.Common.{◌≡◌, ℕ, ◌+◌, ◌-◌, ◌<◌, ◌≤◌, List, [], ◌∷◌, ◌++◌, flat_map, length, reverse, Some, slice_get, get_or, sym, ap, ◌∙◌, subst, arith, append_assoc, append-nil, length-append}
+use Rattle.std.proofs.Common.{◌≡◌, ℕ, ◌+◌, ◌-◌, ◌<◌, ◌≤◌, List, [], ◌∷◌, ◌++◌, flat_map, length, reverse, IfSome, slice_get, sym, ap, ◌∙◌, subst, arith, append_assoc, append-nil, length-append}
 use Rattle.std.specs.List.{AllByRecursion}
 use Rattle.std.proofs.lemmas.List.{reverse-append, reverse-reverse}
 use Rattle.std.proofs.lemmas.List.Concat.{flat_map-append}
-use Rattle.std.proofs.lemmas.Option.{same_Some, slice_get-get_or}
 use Rattle.scene_model.specs.Lookups.{children}
 use Rattle.scene_model.specs.Nodes.{Node, IsNodeList, listed, subtree, tree_order}
 use Rattle.scene_model.proofs.Lists.{each_weaker, each-append}
 use Rattle.scene_model.proofs.Listed.{length-listed, each_child}
 use Rattle.scene_model.proofs.TreeOrder.{subtree-listed}
-use Rattle.dom_tree.specs.declared.node.Link.{Link}
-use Rattle.dom_tree.specs.Kept.{AreLinks, link_of}
+use Rattle.dom_tree.specs.declared.links.Link.{Link}
+use Rattle.dom_tree.specs.Links.{AreLinks}
 
 -- the subtrees of what is ahead
 abbrev pub still : List Node → List ℕ → List ℕ
@@ -65,7 +64,6 @@ walk_ends list order ahead walk e =
     sym (append-nil order) ∙ (ap (λ l. order ++ still list l) (sym e) ∙ walk.whole)
 
 -- the children that the links have
-pub linked_children : (list : List Node) (links : List Link) (x : ℕ) (link : Link) (shown : List ℕ) → AreLinks (listed list) links → (0 < x) × (x ≤ length list) → shown ≡ (get_or links (x - 1) link).children → shown ≡ children (listed list) x
-linked_children list links x link shown are inside is =
-    let here : slice_get links (x - 1) ≡ Some (get_or links (x - 1) link) = slice_get-get_or links (x - 1) link (omega (arith, are.count, length-listed list)) in
-    is ∙ ap (λ (l : Link). l.children) (same_Some (get_or links (x - 1) link) (link_of (listed list) x) (sym here ∙ are.each x inside.0 (omega (arith, length-listed list))))
+pub linked_children : (list : List Node) (links : List Link) (x : ℕ) (shown : List ℕ) → AreLinks (listed list) links → (0 < x) × (x ≤ length list) → IfSome (slice_get links (x - 1)) (λ link. shown ≡ link.children) → shown ≡ children (listed list) x
+linked_children list links x shown are inside is =
+    subst (λ o. IfSome o (λ (link : Link). shown ≡ link.children)) (are.each x inside.0 (omega (arith, length-listed list, inside.1))) is

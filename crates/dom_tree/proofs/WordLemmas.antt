@@ -135,7 +135,7 @@ word_off bs x rest gap sep u l n e g s =
     }
 
 -- a text of whitespace alone has no words
-no_words : (bs : List ℕ) → AllPass is_ascii_whitespace bs → words (chars bs) ≡ []
+pub no_words : (bs : List ℕ) → AllPass is_ascii_whitespace bs → words (chars bs) ≡ []
 no_words bs h =
     let spaces : AreSpaces bs = recursion_from_All (λ c. is_ascii_whitespace c ≡ true) bs h in
     ap words (chars-IsAscii bs (spaces-ascii bs spaces)) ∙ (sym (ap words (append-nil bs)) ∙ words_spaces bs [] spaces)

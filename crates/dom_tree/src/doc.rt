@@ -1,32 +1,41 @@
 //! The document: its elements in tree order, and what is asked of one of them.
 
-ghost use Rattle.std.specs.Prelude.{◌≡◌, ◌<◌, ◌≤◌, ◌-◌, IfOk, Some, length, option_map, slice_get};
+ghost use Rattle.std.specs.Prelude.{◌≡◌, ◌<◌, ◌≤◌, ℕ, IfOk, codes, false, length, not, ◌&&◌, option_map};
+ghost use Rattle.std.specs.Option.{option_map_or};
 ghost use Rattle.std.specs.Str.{chars};
 ghost use Rattle.base_model.specs.Limits.{element_limit};
+ghost use Rattle.base_model.specs.Text.{is_empty_text, same_text};
 ghost use Rattle.scene_model.specs.Lookups.{IsElement, attribute_of, children, has_class, is_element, numbers, parent_of, place_of, state_of, tag_of};
 ghost use Rattle.scene_model.specs.Document.{document_of};
 ghost use Rattle.scene_model.specs.Valid.{IsValid};
 ghost use Rattle.stylo_base.specs.StateView.{state_seen};
+ghost use Rattle.dom_tree.specs.Labels.{class_words};
 
-use crate::node::{Link, Node};
+use crate::class_lists::ClassLists;
+use crate::class_names::ClassNames;
+use crate::columns::Columns;
+use crate::labels::{Label, label_nodes};
+use crate::links::Links;
 use crate::nodes::NodeList;
-use crate::{start, words};
+use crate::start::walk;
 use std::alloc::Global;
 use std::marker::Model;
-use stylo_base::{Names, NoMemory, State};
+use stylo_base::{Atom, NoMemory, State};
 
 /// A document. Contracts see its elements in tree order, and the last number that was given to one.
 /// An element goes by its number, from 1; a look-up of one takes no longer in a larger document.
 #[derive(Drop)]
 pub struct Doc {
     /// By number, from 1.
-    nodes: Vec<Node>,
+    columns: Columns,
     /// By number, from 1.
-    links: Vec<Link>,
+    links: Links,
+    /// By number, from 1.
+    labels: Vec<Label>,
+    /// The class lists that the labels name.
+    lists: ClassLists,
     /// The numbers in tree order.
     order: Vec<u32>,
-    /// Of tags and attributes.
-    names: Names,
 }
 
 impl Model for Doc {
@@ -36,11 +45,11 @@ impl Model for Doc {
 
     ghost coded = { document_code };
 
-    ghost use Rattle.dom_tree.specs.Kept.{document, IsWhole};
+    ghost use Rattle.dom_tree.specs.Whole.{document, IsWhole};
 
-    ghost view = { λ d. document d.names d.nodes.items d.order.items };
+    ghost view = { λ d. document d.columns d.order.items };
 
-    ghost invariant = { λ d. IsWhole d.names d.nodes.items d.links.items d.order.items };
+    ghost invariant = { λ d. IsWhole d.columns d.links d.labels.items d.lists d.order.items };
 }
 
 impl Doc {
@@ -49,15 +58,26 @@ impl Doc {
         requires { length list.now ≤ element_limit }
         ensures { IfOk result (λ doc. doc ≡ document_of list.now) }
     {
-        let mut names = Names::new(alloc);
-        let nodes = start::name_nodes(alloc, &mut names, list)?;
-        let links = start::link_nodes(alloc, list)?;
-        let order = start::walk(alloc, list, links.as_slice())?;
+        Doc::of_list(alloc, list.copy(alloc)?)
+    }
+
+    /// The document of a list of nodes, which it takes over: no text is copied. The only error is that
+    /// memory ran out.
+    pub fn of_list(alloc: Global, list: NodeList) -> Result<Doc, NoMemory>
+        requires { length list ≤ element_limit }
+        ensures { IfOk result (λ doc. doc ≡ document_of list) }
+    {
+        let links = Links::of_list(alloc, &list)?;
+        let order = walk(alloc, &list, &links)?;
+        let columns = list.into_columns();
+        let mut lists = ClassLists::new(alloc);
+        let labels = label_nodes(alloc, &columns, &mut lists)?;
         Ok(Doc {
-            nodes,
+            columns,
             links,
+            labels,
+            lists,
             order,
-            names,
         })
     }
 
@@ -68,19 +88,35 @@ impl Doc {
         self.order.len()
     }
 
+    /// The last number that was given to an element: each element's number is from 1 to it.
+    pub fn last(&self) -> usize
+        ensures last { result ≡ self.now.last }
+        ensures numbered { (x : ℕ) → IsElement self.now.elements x → (0 < x) × (x ≤ result) }
+    {
+        self.columns.len()
+    }
+
     /// The numbers of the elements in tree order.
     pub fn tree_order(&self, alloc: Global) -> Result<Vec<u32>, NoMemory>
         ensures order { IfOk result (λ v. v.items ≡ numbers self.now.elements) }
         ensures valid { IsValid self.now.elements }
     {
-        Ok(Vec::from_slice(alloc, self.order.as_slice())?)
+        Ok(Vec::from_slice(alloc, self.in_tree_order())?)
+    }
+
+    /// The numbers of the elements in tree order, which are lent.
+    pub fn in_tree_order(&self) -> &[u32]
+        ensures order { result.now ≡ numbers self.now.elements }
+        ensures valid { IsValid self.now.elements }
+    {
+        self.order.as_slice()
     }
 
     /// Whether an element has the number `n`.
     pub fn contains(&self, n: u32) -> bool
         ensures { result ≡ is_element self.now.elements n }
     {
-        0 < n && n as usize <= self.nodes.len()
+        0 < n && n as usize <= self.columns.len()
     }
 
     /// The number of the parent of `x`. None: it is the root.
@@ -89,7 +125,10 @@ impl Doc {
         ensures parent { result ≡ parent_of self.now.elements x }
         ensures valid { IsValid self.now.elements }
     {
-        node_at(self.nodes.as_slice(), x).parent
+        match self.columns.parent(x as usize - 1) {
+            Some(parent) => Some(parent + 1),
+            None => None,
+        }
     }
 
     /// The numbers of the children of `x`, in tree order.
@@ -98,7 +137,7 @@ impl Doc {
         ensures children { result.now ≡ children self.now.elements x }
         ensures valid { IsValid self.now.elements }
     {
-        link_at(self.links.as_slice(), x).children.as_slice()
+        self.links.children(x)
     }
 
     /// The sibling index of `x`: how many siblings are before it.
@@ -107,7 +146,7 @@ impl Doc {
         ensures place { result ≡ place_of self.now.elements x }
         ensures valid { IsValid self.now.elements }
     {
-        link_at(self.links.as_slice(), x).place
+        self.links.place(x)
     }
 
     /// The tag of `x`.
@@ -115,7 +154,28 @@ impl Doc {
         requires { IsElement self.now.elements x }
         ensures { chars result.now ≡ tag_of self.now.elements x }
     {
-        self.names.text(node_at(self.nodes.as_slice(), x).tag)
+        self.columns.names().text(self.columns.tag(x as usize - 1))
+    }
+
+    /// Whether `x` has this tag.
+    #[inline]
+    pub fn has_tag(&self, x: u32, tag: &Atom) -> bool
+        requires { IsElement self.now.elements x }
+        ensures { result ≡ same_text (tag_of self.now.elements x) tag.now }
+    {
+        self.columns
+            .names()
+            .is_atom(self.columns.tag(x as usize - 1), tag)
+    }
+
+    /// Whether `x` and `y` have the same tag.
+    #[inline]
+    pub fn same_tag(&self, x: u32, y: u32) -> bool
+        requires first { IsElement self.now.elements x }
+        requires second { IsElement self.now.elements y }
+        ensures { result ≡ same_text (tag_of self.now.elements x) (tag_of self.now.elements y) }
+    {
+        self.columns.tag(x as usize - 1) == self.columns.tag(y as usize - 1)
     }
 
     /// Whether `class` is one of the words of the `class` attribute of `x`.
@@ -123,8 +183,48 @@ impl Doc {
         requires { IsElement self.now.elements x }
         ensures { result ≡ has_class self.now.elements x (chars class.now) }
     {
-        match self.attribute(x, "class") {
-            Some(value) => words::has_word(class, value),
+        self.class_names(x).has_text(class)
+    }
+
+    /// Whether this class is one of the words of the `class` attribute of `x`.
+    #[inline]
+    pub fn has_class_atom(&self, x: u32, class: &Atom) -> bool
+        requires { IsElement self.now.elements x }
+        ensures { result ≡ has_class self.now.elements x class.now }
+    {
+        self.class_names(x).has(class)
+    }
+
+    /// The words of the `class` attribute of `x`, each once.
+    #[inline]
+    pub fn class_names(&self, x: u32) -> ClassNames<'_>
+        requires { IsElement self.now.elements x }
+        ensures { result ≡ class_words (attribute_of self.now.elements x (chars (codes "class"))) }
+    {
+        self.lists.of(self.labels[x as usize - 1].classes)
+    }
+
+    /// Whether `x` has this id. An empty one is none.
+    pub fn has_id(&self, x: u32, id: &str) -> bool
+        requires { IsElement self.now.elements x }
+        ensures { result ≡ option_map_or (λ value. not (is_empty_text value) && same_text value (chars id.now))
+            (attribute_of self.now.elements x (codes "id")) false }
+    {
+        match self.labels[x as usize - 1].id {
+            Some(name) => self.columns.names().text(name) == id,
+            None => false,
+        }
+    }
+
+    /// Whether `x` has the id that this atom is. An empty one is none.
+    #[inline]
+    pub fn has_id_atom(&self, x: u32, id: &Atom) -> bool
+        requires { IsElement self.now.elements x }
+        ensures { result ≡ option_map_or (λ value. not (is_empty_text value) && same_text value id.now)
+            (attribute_of self.now.elements x (codes "id")) false }
+    {
+        match self.labels[x as usize - 1].id {
+            Some(name) => self.columns.names().is_atom(name, id),
             None => false,
         }
     }
@@ -134,9 +234,17 @@ impl Doc {
         requires { IsElement self.now.elements x }
         ensures { option_map (λ value. chars value.now) result ≡ attribute_of self.now.elements x (chars name.now) }
     {
-        let name = self.names.find(name)?;
-        let value = node_at(self.nodes.as_slice(), x).attrs.get(name)?;
-        Some(value.as_str())
+        let names = self.columns.names();
+        let value = self.columns.value(x as usize - 1, names.find(name))?;
+        Some(names.text(value))
+    }
+
+    /// The value of the attribute of `x` that this atom names, if it has that attribute.
+    pub fn attribute_atom(&self, x: u32, name: &Atom) -> Option<&str>
+        requires { IsElement self.now.elements x }
+        ensures { option_map (λ value. chars value.now) result ≡ attribute_of self.now.elements x name.now }
+    {
+        self.columns.text_by_atom(x as usize - 1, name)
     }
 
     /// Whether `x` is in a state.
@@ -144,29 +252,11 @@ impl Doc {
         requires { IsElement self.now.elements x }
         ensures { result ≡ state_of self.now.elements x (state_seen state) }
     {
-        let states = node_at(self.nodes.as_slice(), x).states;
+        let states = self.columns.states(x as usize - 1);
         match state {
             State::Hover => states.hover,
             State::Active => states.active,
             State::Focus => states.focus,
         }
     }
-}
-
-/// The node of the element `x`.
-fn node_at(nodes: &[Node], x: u32) -> &Node
-    requires low { 0 < x }
-    requires high { x ≤ length nodes.now }
-    ensures { slice_get nodes.now (x - 1) ≡ Some result.now }
-{
-    &nodes[x as usize - 1]
-}
-
-/// The links of the element `x`.
-fn link_at(links: &[Link], x: u32) -> &Link
-    requires low { 0 < x }
-    requires high { x ≤ length links.now }
-    ensures { slice_get links.now (x - 1) ≡ Some result.now }
-{
-    &links[x as usize - 1]
 }

@@ -1,14 +1,21 @@
 //! The document: the list of nodes that it is made of, and its elements with their look-ups.
 #![tactic(auto)]
 
+mod class_lists;
+mod class_names;
+mod columns;
 mod depths;
 mod doc;
-mod node;
+mod labels;
+mod links;
+mod naming;
 mod nodes;
 mod numbers;
+mod span;
 mod start;
 mod words;
 
+pub use class_names::ClassNames;
 pub use doc::Doc;
-pub use nodes::{Attr, Attrs, NodeInput, NodeList, States};
+pub use nodes::{Attr, NodeInput, NodeList, States};
 pub use words::has_word;

@@ -1,13 +1,13 @@
 //! The list of nodes of a job or an insertion, each after its parent.
 
-ghost use Rattle.std.specs.Prelude.{◌≡◌, ◌<◌, ◌≤◌, ◌++◌, ◌∷◌, [], ℕ, Some, None, IfSome, length, IfOk, OnOk, OnErr, slice_get, vec_len};
-ghost use Rattle.std.specs.FinMap as finmap;
+ghost use Rattle.std.specs.Prelude.{◌≡◌, ◌<◌, ◌++◌, ◌∷◌, [], Some, None, IfSome, length, IfOk, OnOk, OnErr, slice_get};
 ghost use Rattle.scene_model.specs.Nodes.{IsNodeList};
-ghost use Rattle.dom_tree.specs.View.{attributes_of, node_of};
+ghost use Rattle.dom_tree.specs.View.{node_of};
 
+use crate::columns::Columns;
 use std::alloc::Global;
 use std::marker::Model;
-use stylo_base::{NoMemory, Text};
+use stylo_base::NoMemory;
 
 /// The state bits of an element.
 #[derive(Clone, Copy, Debug, Default, PartialEq, Eq)]
@@ -17,120 +17,58 @@ pub struct States {
     pub focus: bool,
 }
 
-/// An attribute.
-#[derive(Debug, Drop)]
-pub struct Attr {
-    pub name: Text,
-    pub value: Text,
+/// An attribute, which is lent.
+#[derive(Clone, Copy, Debug)]
+pub struct Attr<'a> {
+    pub name: &'a str,
+    pub value: &'a str,
 }
 
-/// The attributes of a node. Contracts see a finite map from names to values.
-#[derive(Debug, Drop)]
-pub struct Attrs {
-    list: Vec<Attr>,
-}
-
-impl Model for Attrs {
-    ghost use Rattle.scene_model.specs.Element.{Attributes, attributes_code};
-
-    ghost Value = { Attributes };
-
-    ghost coded = { attributes_code };
-
-    ghost use Rattle.dom_tree.specs.View.{attributes_of};
-
-    ghost view = { λ a. attributes_of a.list.items };
-}
-
-impl Attrs {
-    /// No attributes.
-    pub fn new(alloc: Global) -> Attrs
-        ensures { result ≡ finmap.empty }
-    {
-        Attrs {
-            list: Vec::new(alloc),
-        }
-    }
-
-    /// The attributes of a list. Of attributes with the same name the first counts. It takes no memory.
-    pub fn of_list(list: Vec<Attr>) -> Attrs
-        ensures { result ≡ attributes_of list.items }
-    {
-        Attrs { list }
-    }
-
-    /// The attributes, in their order.
-    pub(crate) fn as_slice(&self) -> &[Attr]
-        ensures { attributes_of result.now ≡ self.now }
-    {
-        self.list.as_slice()
-    }
-}
-
-/// A node without its parent.
-#[derive(Debug, Drop)]
-pub struct NodeInput {
-    pub tag: Text,
-    pub attrs: Attrs,
+/// A node without its parent, which is lent. Of attributes with the same name the first counts.
+#[derive(Clone, Copy, Debug)]
+pub struct NodeInput<'a> {
+    pub tag: &'a str,
+    pub attrs: &'a [Attr<'a>],
     pub states: States,
-}
-
-/// A node with the index of its parent.
-#[derive(Debug, Drop)]
-pub(crate) struct Row {
-    pub parent: Option<u32>,
-    pub input: NodeInput,
 }
 
 /// A list of nodes that is not empty: the first is the root, and each other one is after its
 /// parent. Contracts see the list of its nodes.
-#[derive(Debug, Drop)]
+#[derive(Drop)]
 pub struct NodeList {
-    rows: Vec<Row>,
+    columns: Columns,
 }
 
 impl Model for NodeList {
-    ghost use Rattle.std.specs.Prelude.{List, map as mapped};
+    ghost use Rattle.std.specs.Prelude.{List};
     ghost use Rattle.scene_model.specs.Nodes.{Node, nodes_code, IsNodeList};
 
     ghost Value = { List Node };
 
     ghost coded = { nodes_code };
 
-    ghost use Rattle.dom_tree.specs.View.{row_node};
+    ghost view = { λ l. l.columns.nodes };
 
-    ghost view = { λ l. mapped row_node l.rows.items };
-
-    ghost invariant = { λ l. IsNodeList (mapped row_node l.rows.items) };
+    ghost invariant = { λ l. IsNodeList l.columns.nodes };
 }
 
 impl NodeList {
-    ghost use Rattle.std.specs.Prelude.{map as mapped};
-    ghost use Rattle.dom_tree.specs.View.{row_node};
-
     /// The list of a root alone.
     pub fn of_root(alloc: Global, root: NodeInput) -> Result<NodeList, NoMemory>
-        ensures { IfOk result (λ list. list ≡ node_of None root ∷ []) }
+        ensures { IfOk result (λ list. list ≡ node_of None root.entry ∷ []) }
     {
-        let mut rows = Vec::new(alloc);
-        rows.push(Row {
-            parent: None,
-            input: root,
-        })?;
-        Ok(NodeList { rows })
+        let mut columns = Columns::new(alloc);
+        columns.push(None, root)?;
+        Ok(NodeList { columns })
     }
 
     /// Appends a node to the list, as a child of the node at the index `parent`.
     pub fn push(&mut self, parent: u32, node: NodeInput) -> Result<(), NoMemory>
         requires { parent < length self.old }
-        ensures ok { OnOk result (self.new ≡ self.old ++ node_of (Some parent) node ∷ []) }
+        ensures ok { OnOk result (self.new ≡ self.old ++ node_of (Some parent) node.entry ∷ []) }
         ensures err { OnErr result (self.new ≡ self.old) }
     {
-        self.rows.push(Row {
-            parent: Some(parent),
-            input: node,
-        })?;
-        Ok(())
+        self.columns.push(Some(parent), node)
     }
 
     /// How many nodes there are, from 1.
@@ -138,7 +76,7 @@ impl NodeList {
         ensures count { result ≡ length self.now }
         ensures shape { IsNodeList self.now }
     {
-        self.rows.len()
+        self.columns.len()
     }
 
     /// The index of a node's parent. None: it is the root.
@@ -146,14 +84,24 @@ impl NodeList {
         requires { index < length self.now }
         ensures { IfSome (slice_get self.now index) (λ node. result ≡ node.parent) }
     {
-        self.rows[index].parent
+        self.columns.parent(index)
     }
 
-    /// The nodes with their parents.
-    pub(crate) fn rows(&self) -> &[Row]
-        ensures rows { mapped row_node result.now ≡ self.now }
-        ensures shape { IsNodeList self.now }
+    /// Another list of the same nodes.
+    pub(crate) fn copy(&self, alloc: Global) -> Result<NodeList, NoMemory>
+        ensures { IfOk result (λ list. list ≡ self.now) }
     {
-        self.rows.as_slice()
+        Ok(NodeList {
+            columns: self.columns.copy(alloc)?,
+        })
+    }
+
+    /// What is kept of the nodes.
+    pub(crate) fn into_columns(self) -> Columns
+        ensures nodes { result.nodes ≡ self }
+        ensures shape { IsNodeList self }
+    {
+        let NodeList { columns } = self;
+        columns
     }
 }

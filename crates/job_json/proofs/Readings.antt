@@ -1,17 +1,47 @@
--- When bytes have a reading.
-use Rattle.std.proofs.Common.{◌≡◌, ℕ, List, Bool, true, false, cond, Option, Some, None, refl}
+-- What is said of bytes that have a reading, and of those that have none.
+use Rattle.std.proofs.Common.{◌≡◌, ℕ, List, [], ◌∷◌, Bool, true, false, cond, Option, Some, None, refl, ap, ◌∙◌}
+use Rattle.std.specs.Prelude.{is_some}
 use Rattle.std.specs.Str.{IsUtf8, is_utf8}
 use Rattle.std.proofs.lemmas.Str.{IsUtf8-from_is_utf8, is_utf8-from_IsUtf8}
+use Rattle.json.specs.Token as spec
+use Rattle.json.specs.Reads.{token_of, Yields}
+use Rattle.json.specs.declared.token.Token.{Token}
 use Rattle.serde_json.specs.Data.{Data}
 use Rattle.serde_json.specs.Read.{read}
-use Rattle.job_json.specs.JobOf.{reading}
+use Rattle.job_json.specs.declared.Job.{Job}
+use Rattle.job_json.specs.JobOf.{reading, verdict_of, verdict_from, verdict_on, not_json, bad_shape, good, job_within}
 
-pub reading_of : (bytes : List ℕ) (value : Data) → IsUtf8 bytes → read bytes ≡ Some value → reading bytes ≡ Some value
+reading_of : (bytes : List ℕ) (value : Option Data) → IsUtf8 bytes → read bytes ≡ value → reading bytes ≡ value
 reading_of bytes value utf8 is = rw (is_utf8-from_IsUtf8 bytes utf8) is
 
-unread : (b : Bool) (o : Option Data) → (b ≡ true → o ≡ None) → cond b o None ≡ None
-unread true o h = h refl
+unread : (b : Bool) (o : Option Data) → (b ≡ true → ⊥) → cond b o None ≡ None
+unread true o h = absurd (h refl)
 unread false o h = refl
 
-pub no_reading : (bytes : List ℕ) → (IsUtf8 bytes → read bytes ≡ None) → reading bytes ≡ None
-no_reading bytes h = unread (is_utf8 bytes) (read bytes) (λ utf8. h (IsUtf8-from_is_utf8 bytes utf8))
+module _ (bytes : List ℕ) where
+  pub no_text : (IsUtf8 bytes → ⊥) → verdict_of bytes ≡ not_json
+  unfolding verdict_of
+  no_text h = ap verdict_from (unread (is_utf8 bytes) (read bytes) (λ utf8. h (IsUtf8-from_is_utf8 bytes utf8)))
+
+  pub no_json : IsUtf8 bytes → read bytes ≡ None → verdict_of bytes ≡ not_json
+  unfolding verdict_of
+  no_json utf8 is = ap verdict_from (reading_of bytes None utf8 is)
+
+  module _ (d : Data) (utf8 : IsUtf8 bytes) (is : read bytes ≡ Some d) where
+    pub no_job_in : job_within d ≡ None → verdict_of bytes ≡ bad_shape []
+    unfolding verdict_of
+    no_job_in e = ap verdict_from (reading_of bytes (Some d) utf8 is) ∙ ap verdict_on e
+
+    pub job_in_is : (job : Job) → job_within d ≡ Some job → verdict_of bytes ≡ good job
+    unfolding verdict_of
+    job_in_is job e = ap verdict_from (reading_of bytes (Some d) utf8 is) ∙ ap verdict_on e
+
+-- ---- what comes after a value
+
+pub next_some : (o : Option Token) (old new : List spec.Token) → is_some o ≡ true → Yields old o new → (t : spec.Token) × (old ≡ t ∷ new)
+next_some None old new e y = absurd (cc)
+next_some (Some t) old new e y = (token_of t, y)
+
+pub next_none : (o : Option Token) (old new : List spec.Token) → is_some o ≡ false → Yields old o new → old ≡ []
+next_none None old new e y = y.0
+next_none (Some t) old new e y = absurd (cc)

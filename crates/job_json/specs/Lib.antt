@@ -2,5 +2,6 @@ pub mod Sheets
 pub mod Shape
 pub mod Limits
 pub mod JobOf
-pub mod Reads
-pub mod View
+pub mod Within
+pub mod Slots
+pub mod Kept

@@ -3,35 +3,36 @@
 
 mod attributes;
 mod document;
-mod fault;
 mod limits;
 mod name;
 mod node;
 mod node_list;
 mod outline;
-mod parent;
 mod sheet;
 mod sheet_list;
 mod sheets;
 mod states;
 
 ghost use Rattle.std.specs.Prelude.{◌≡◌, ◌≢◌, ◌≤◌, List, ℕ, Ok, Err, IfOk, length};
-ghost use Rattle.serde_json.specs.View.{view};
+ghost use Rattle.serde_json.specs.Data.{Data};
+ghost use Rattle.serde_json.specs.Read.{read as read_json};
 ghost use Rattle.stylo_base.specs.declared.refusal.Kind.{Kind};
 ghost use Rattle.base_model.specs.Limits.{input_limit, element_limit, sheet_limit};
-ghost use Rattle.job_json.specs.JobOf.{verdict_of, not_json, bad_shape, good, reading, IsDue};
-ghost use Rattle.job_json.specs.Reads.{ReadsAs};
+ghost use Rattle.job_json.specs.JobOf.{verdict_of, job_within, not_json, bad_shape, good, IsDue};
 
-use crate::document::job_of;
-use crate::fault::Fault;
+use crate::document::take_job;
 use dom_tree::NodeList;
-use serde_json::Value;
+use json::{Reader, Scratch};
+use json_reader::Stop;
 pub use sheet_list::SheetList;
 use std::alloc::Global;
 use stylo_base::{Kind, PathText};
 
+/// How deep arrays and objects may nest in a job, as in every value that `serde_json` reads.
+const MAX_DEPTH: usize = 127;
+
 /// A job.
-#[derive(Debug, Drop)]
+#[derive(Drop)]
 pub struct Job {
     /// The document before any edit.
     pub nodes: NodeList,
@@ -66,29 +67,28 @@ pub fn read(alloc: Global, bytes: &[u8]) -> Result<Job, JobFault>
     ensures fits { IfOk result (λ job. length job.nodes ≤ element_limit) }
     ensures few { IfOk result (λ job. length job.sheets ≤ sheet_limit) }
 {
-    let value = match parse(alloc, bytes) {
-        Ok(value) => value,
-        Err(Fault::Unreadable) => return Err(JobFault::NotJson),
-        Err(Fault::NoMemory) => return Err(JobFault::NoMemory),
+    let Ok(text) = str::from_utf8(bytes) else {
+        return Err(JobFault::NotJson);
     };
-    match job_of(alloc, &value) {
-        Ok(job) => Ok(job),
-        Err(Fault::Unreadable) => Err(JobFault::Shape(PathText::empty(alloc))),
-        Err(Fault::NoMemory) => Err(JobFault::NoMemory),
+    match job_in(alloc, text) {
+        Ok(Some(job)) => Ok(job),
+        Ok(None) => Err(JobFault::Shape(PathText::empty(alloc))),
+        Err(Stop::NotJson) => Err(JobFault::NotJson),
+        Err(Stop::NoMemory) => Err(JobFault::NoMemory),
     }
 }
 
-/// The JSON value that the bytes spell.
-fn parse(alloc: Global, bytes: &[u8]) -> Result<Value, Fault>
-    ensures { ReadsAs view (reading bytes.now) result }
+/// The job that a text says. None: its value says none.
+fn job_in(alloc: Global, text: &str) -> Result<Option<Job>, Stop>
+    ensures ok { IfOk result (λ job. (d : Data) × (read_json text.now ≡ Some d)
+        × (job_within d ≡ job)) }
+    ensures err { result ≡ Err Stop.NotJson → read_json text.now ≡ None }
 {
-    let error = match Value::from_slice(alloc, bytes) {
-        Ok(value) => return Ok(value),
-        Err(error) => error,
-    };
-    if error.is_memory() {
-        Err(Fault::NoMemory)
-    } else {
-        Err(Fault::Unreadable)
+    let mut scratch = Scratch::new(alloc);
+    let mut reader = Reader::new(text, &mut scratch)?;
+    let job = take_job(alloc, &mut reader, MAX_DEPTH)?;
+    if reader.next().is_some() {
+        return Err(Stop::NotJson);
     }
+    Ok(job)
 }

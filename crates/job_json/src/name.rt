@@ -1,29 +1,20 @@
 //! Names: tags and the keys of attributes.
 
-ghost use Rattle.std.specs.Prelude.{◌≡◌, option_and_then, codes};
+ghost use Rattle.std.specs.Prelude.{◌≡◌, option_map, option_and_then};
 ghost use Rattle.std.specs.List.{list_all};
-ghost use Rattle.serde_json.specs.Find.{get};
-ghost use Rattle.serde_json.specs.View.{view};
-ghost use Rattle.job_json.specs.Shape.{is_visible, is_name, name_of};
-ghost use Rattle.job_json.specs.Reads.{Reads};
+ghost use Rattle.std.specs.Str.{chars};
+ghost use Rattle.job_json.specs.Shape.{is_visible, is_name};
+ghost use Rattle.job_json.specs.Within.{name_said};
 
-use crate::fault::Fault;
-use serde_json::Value;
-use std::alloc::Global;
-use stylo_base::Text;
 use stylo_base::limits::NAME_LIMIT;
 
-/// The tag of a node.
-pub fn tag_of(alloc: Global, node: &Value) -> Result<Text, Fault>
-    ensures { Reads (option_and_then name_of (get (codes "tag") (view node.now))) result }
+/// The text where it is a name.
+pub fn name_in<'a>(text: Option<&'a str>) -> Option<&'a str>
+    ensures { option_map (λ t. chars t.now) result
+        ≡ option_and_then name_said (option_map (λ t. t.now) text.entry) }
 {
-    let Some(text) = node.get("tag").and_then(Value::as_str) else {
-        return Err(Fault::Unreadable);
-    };
-    if !is_name(text) {
-        return Err(Fault::Unreadable);
-    }
-    Ok(Text::of_str(alloc, text)?)
+    let text = text?;
+    if is_name(text) { Some(text) } else { None }
 }
 
 /// Whether the text is a name.

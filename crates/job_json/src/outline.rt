@@ -1,39 +1,46 @@
 //! The members of a job other than its nodes and sheets.
 
-ghost use Rattle.std.specs.Prelude.{◌≡◌, codes};
-ghost use Rattle.serde_json.specs.Find.{get};
-ghost use Rattle.serde_json.specs.View.{view};
-ghost use Rattle.job_json.specs.Shape.{is_version, is_empty_list, is_empty_array};
+ghost use Rattle.std.specs.Prelude.{◌≡◌, ◌<◌, length, None, IfOk, OnOk};
+ghost use Rattle.json_reader.specs.Taken.{taken, Says};
+ghost use Rattle.job_json.specs.Shape.{is_one, is_empty_array};
 
-use serde_json::Value;
+use json::Reader;
+use json_reader::{KeepItems, Stop, array, pass};
 
-/// Whether `version` is there and is 1.
-pub fn is_version(job: &Value) -> bool
-    ensures { result ≡ is_version (view job.now) }
+/// Whether the version is there and is 1.
+pub fn is_one(version: Option<u64>) -> bool
+    ensures { result ≡ is_one version }
 {
-    let Some(version) = job.get("version").and_then(Value::as_u64) else {
-        return false;
-    };
-    version == 1
+    match version {
+        Some(version) => version == 1,
+        None => false,
+    }
 }
 
-/// Whether `batches` is absent or an empty list.
-pub fn has_no_batches(job: &Value) -> bool
-    ensures { result ≡ is_empty_list (get (codes "batches") (view job.now)) }
-{
-    let Some(batches) = job.get("batches") else {
-        return true;
-    };
-    is_empty_array(batches)
+/// Whether a list has nothing in it.
+#[derive(Drop)]
+struct Nothing {
+    is_empty: bool,
 }
 
-/// Whether the value is a list with nothing in it.
-#[tactic(auto, using(crate::proofs::Counts::has_no_items_view))]
-fn is_empty_array(value: &Value) -> bool
-    ensures { result ≡ is_empty_array (view value.now) }
+impl<'a> KeepItems<'a> for Nothing {
+    ghost use Rattle.job_json.specs.Kept.{IsNothingOf};
+
+    ghost keeps = { IsNothingOf };
+
+    fn item(&mut self, reader: &mut Reader<'a>, depth: usize) -> Result<(), Stop> {
+        self.is_empty = false;
+        Ok(pass(reader, depth)?)
+    }
+}
+
+/// Takes a value: whether it is a list with nothing in it.
+pub fn take_empty_array(reader: &mut Reader<'_>, depth: usize) -> Result<bool, Stop>
+    ensures ok { IfOk result (λ is. Says is_empty_array is (taken depth reader.old) reader.new) }
+    ensures shorter { OnOk result (length reader.new < length reader.old) }
+    ensures err { result ≡ Err Stop.NotJson → taken depth reader.old ≡ None }
 {
-    let Some(items) = value.as_array() else {
-        return false;
-    };
-    items.is_empty()
+    let mut items = Nothing { is_empty: true };
+    let is_array = array(reader, depth, &mut items)?;
+    Ok(is_array && items.is_empty)
 }

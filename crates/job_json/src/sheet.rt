@@ -1,42 +1,78 @@
 //! One style sheet of a job.
 
-ghost use Rattle.std.specs.Prelude.{◌≡◌, codes};
-ghost use Rattle.serde_json.specs.Find.{get};
-ghost use Rattle.serde_json.specs.View.{view};
-ghost use Rattle.job_json.specs.Sheets.{origin_named, origin_from, enabled_from, sheet_from};
-ghost use Rattle.job_json.specs.Reads.{Reads};
+ghost use Rattle.std.specs.Prelude.{◌≡◌, ◌<◌, length, Some, None, option_map, option_and_then, IfOk, OnOk};
+ghost use Rattle.json_reader.specs.Taken.{taken, Says};
+ghost use Rattle.job_json.specs.Sheets.{origin_named, enabled_as, sheet_from};
 
-use crate::fault::Fault;
+use json::Reader;
+use json_reader::{KeepMembers, Stop, boolean, object, pass, text};
 use layer_order::{Origin, SheetInput};
-use serde_json::Value;
 use std::alloc::Global;
 use stylo_base::Text;
 
-/// The sheet that a value says.
-pub fn sheet_of(alloc: Global, sheet: &Value) -> Result<SheetInput, Fault>
-    ensures { Reads (sheet_from (view sheet.now)) result }
+/// What is kept of the members of a sheet. None: it is not what it must be.
+#[derive(Drop)]
+struct SheetParts<'a> {
+    origin: Option<Origin>,
+    enabled: Option<bool>,
+    text: Option<&'a str>,
+}
+
+impl<'a> KeepMembers<'a> for SheetParts<'a> {
+    ghost use Rattle.job_json.specs.Kept.{IsSheetOf};
+
+    ghost keeps = { IsSheetOf };
+
+    fn member(&mut self, key: &'a str, reader: &mut Reader<'a>, depth: usize) -> Result<(), Stop> {
+        match key {
+            "origin" => self.origin = origin_in(text(reader, depth)?),
+            "enabled" => self.enabled = enabled_in(boolean(reader, depth)?),
+            "text" => self.text = text(reader, depth)?,
+            _ => pass(reader, depth)?,
+        }
+        Ok(())
+    }
+}
+
+/// Takes a sheet. None: the value is none.
+pub fn take_sheet(
+    alloc: Global,
+    reader: &mut Reader<'_>,
+    depth: usize,
+) -> Result<Option<SheetInput>, Stop>
+    ensures ok { IfOk result (λ sheet. Says sheet_from sheet (taken depth reader.old) reader.new) }
+    ensures shorter { OnOk result (length reader.new < length reader.old) }
+    ensures err { result ≡ Err Stop.NotJson → taken depth reader.old ≡ None }
 {
-    let Some(origin) = origin_of(sheet) else {
-        return Err(Fault::Unreadable);
+    let mut parts = SheetParts {
+        origin: None,
+        enabled: Some(true),
+        text: None,
     };
-    let Some(enabled) = enabled_of(sheet) else {
-        return Err(Fault::Unreadable);
+    if !object(reader, depth, &mut parts)? {
+        return Ok(None);
+    }
+    let Some(origin) = parts.origin else {
+        return Ok(None);
     };
-    let Some(text) = sheet.get("text").and_then(Value::as_str) else {
-        return Err(Fault::Unreadable);
+    let Some(enabled) = parts.enabled else {
+        return Ok(None);
     };
-    Ok(SheetInput {
+    let Some(text) = parts.text else {
+        return Ok(None);
+    };
+    Ok(Some(SheetInput {
         origin,
         enabled,
         text: Text::of_str(alloc, text)?,
-    })
+    }))
 }
 
-/// The origin of a sheet. None: it names none.
-fn origin_of(sheet: &Value) -> Option<Origin>
-    ensures { result ≡ origin_from (get (codes "origin") (view sheet.now)) }
+/// The origin that a word names.
+fn origin_in(word: Option<&str>) -> Option<Origin>
+    ensures { result ≡ option_and_then origin_named (option_map (λ t. t.now) word.entry) }
 {
-    origin_named(sheet.get("origin")?.as_str()?)
+    origin_named(word?)
 }
 
 fn origin_named(word: &str) -> Option<Origin>
@@ -48,13 +84,9 @@ fn origin_named(word: &str) -> Option<Origin>
     }
 }
 
-/// Whether a sheet is enabled, as it is where it says nothing of that. None: it says anything but
-/// `true`.
-fn enabled_of(sheet: &Value) -> Option<bool>
-    ensures { result ≡ enabled_from (get (codes "enabled") (view sheet.now)) }
+/// In this profile each sheet is enabled.
+fn enabled_in(enabled: Option<bool>) -> Option<bool>
+    ensures { result ≡ option_and_then enabled_as enabled }
 {
-    let Some(value) = sheet.get("enabled") else {
-        return Some(true);
-    };
-    if value.as_bool()? { Some(true) } else { None }
+    if enabled? { Some(true) } else { None }
 }

@@ -1,37 +1,70 @@
 //! The style sheets of a job.
 
-ghost use Rattle.std.specs.Prelude.{codes};
-ghost use Rattle.serde_json.specs.Find.{get};
-ghost use Rattle.serde_json.specs.View.{view, items_view};
-ghost use Rattle.job_json.specs.Sheets.{sheets_from, sheets_in};
-ghost use Rattle.job_json.specs.Reads.{Reads, ReadsAs};
+ghost use Rattle.std.specs.Prelude.{◌≡◌, ◌<◌, length, Some, None, IfOk, OnOk};
+ghost use Rattle.json_reader.specs.Taken.{taken, Says};
+ghost use Rattle.job_json.specs.JobOf.{sheets_within};
 
-use crate::fault::Fault;
-use crate::sheet::sheet_of;
+use crate::limits::{PROFILE_SHEETS, is_text_within};
+use crate::sheet::take_sheet;
 use crate::sheet_list::SheetList;
+use json::Reader;
+use json_reader::{KeepItems, Stop, array, pass};
 use layer_order::SheetInput;
-use serde_json::Value;
 use std::alloc::Global;
 
-/// The sheets of a job, which are none where it has no list of them.
-pub fn sheets_of(alloc: Global, job: &Value) -> Result<SheetList, Fault>
-    ensures { Reads (sheets_from (get (codes "sheets") (view job.now))) result }
-{
-    let Some(value) = job.get("sheets") else {
-        return Ok(SheetList::new(alloc));
-    };
-    let Some(items) = value.as_array() else {
-        return Err(Fault::Unreadable);
-    };
-    Ok(SheetList::of_vec(sheets_in(alloc, items)?))
+/// What is kept of the items of a list of sheets.
+#[derive(Drop)]
+struct Sheets {
+    alloc: Global,
+    /// Whether each item so far is a sheet within its limit, and there are not too many.
+    is_good: bool,
+    list: Vec<SheetInput>,
 }
 
-fn sheets_in(alloc: Global, items: &[Value]) -> Result<Vec<SheetInput>, Fault>
-    ensures { ReadsAs (λ list. list.items) (sheets_in (items_view items.now)) result }
-{
-    let mut list = Vec::new(alloc);
-    for item in items {
-        list.push(sheet_of(alloc, item)?)?;
+impl<'a> KeepItems<'a> for Sheets {
+    ghost use Rattle.job_json.specs.Kept.{AreSheetsOf};
+
+    ghost keeps = { AreSheetsOf };
+
+    fn item(&mut self, reader: &mut Reader<'a>, depth: usize) -> Result<(), Stop> {
+        if !self.is_good || self.list.len() >= PROFILE_SHEETS {
+            self.is_good = false;
+            pass(reader, depth)?;
+            return Ok(());
+        }
+        match take_sheet(self.alloc, reader, depth)? {
+            Some(sheet) => {
+                self.is_good = is_text_within(&sheet);
+                self.list.push(sheet)?;
+            }
+            None => self.is_good = false,
+        }
+        Ok(())
     }
-    Ok(list)
+}
+
+/// Takes the list of the sheets of a job, within their limits. None: it is none.
+pub fn take_sheets(
+    alloc: Global,
+    reader: &mut Reader<'_>,
+    depth: usize,
+) -> Result<Option<SheetList>, Stop>
+    ensures ok { IfOk result (λ sheets. Says (λ d. sheets_within (Some d)) sheets
+        (taken depth reader.old) reader.new) }
+    ensures shorter { OnOk result (length reader.new < length reader.old) }
+    ensures err { result ≡ Err Stop.NotJson → taken depth reader.old ≡ None }
+{
+    let mut sheets = Sheets {
+        alloc,
+        is_good: true,
+        list: Vec::new(alloc),
+    };
+    if !array(reader, depth, &mut sheets)? {
+        return Ok(None);
+    }
+    let Sheets { is_good, list, .. } = sheets;
+    if !is_good {
+        return Ok(None);
+    }
+    Ok(Some(SheetList::of_vec(list)))
 }

@@ -1,33 +1,55 @@
 //! The states of a node.
 
-ghost use Rattle.std.specs.Prelude.{◌≡◌, option_map, codes};
-ghost use Rattle.serde_json.specs.Find.{get};
-ghost use Rattle.serde_json.specs.View.{view, items_view};
+ghost use Rattle.std.specs.Prelude.{◌≡◌, ◌<◌, length, Some, None, option_map, option_and_then, IfOk, OnOk};
+ghost use Rattle.json_reader.specs.Taken.{taken, Says};
 ghost use Rattle.dom_tree.specs.View.{states_of};
-ghost use Rattle.job_json.specs.Shape.{no_states, with_state, states_with, states_from};
+ghost use Rattle.job_json.specs.Shape.{no_states, with_state, states_from};
 
 use dom_tree::States;
-use serde_json::Value;
+use json::{Invalid, Reader};
+use json_reader::{KeepItems, Stop, array, text};
 
-/// The states of a node, of which none is set where it has no list of them.
-pub fn states_of(node: &Value) -> Option<States>
-    ensures { option_map states_of result ≡ states_from (get (codes "states") (view node.now)) }
-{
-    let Some(words) = node.get("states") else {
-        return Some(States::default());
-    };
-    states_in(words.as_array()?)
+/// The states that the words of a list name. None: a value is no such word.
+#[derive(Drop)]
+struct StateWords {
+    states: Option<States>,
 }
 
-/// The states that the words name. None: a value is no such word.
-fn states_in(words: &[Value]) -> Option<States>
-    ensures { option_map states_of result ≡ states_with no_states (items_view words.now) }
-{
-    let mut states = States::default();
-    for word in words {
-        states = with_state(states, word.as_str()?)?;
+impl<'a> KeepItems<'a> for StateWords {
+    ghost use Rattle.job_json.specs.Kept.{AreStatesOf};
+
+    ghost keeps = { AreStatesOf };
+
+    fn item(&mut self, reader: &mut Reader<'a>, depth: usize) -> Result<(), Stop> {
+        let word = text(reader, depth)?;
+        self.states = with_word(self.states, word);
+        Ok(())
     }
-    Some(states)
+}
+
+/// Takes the list of the states of a node. None: it is none.
+pub fn take_states(reader: &mut Reader<'_>, depth: usize) -> Result<Option<States>, Stop>
+    ensures ok { IfOk result (λ s. Says (λ d. states_from (Some d)) (option_map states_of s)
+        (taken depth reader.old) reader.new) }
+    ensures shorter { OnOk result (length reader.new < length reader.old) }
+    ensures err { result ≡ Err Stop.NotJson → taken depth reader.old ≡ None }
+{
+    let mut words = StateWords {
+        states: Some(States::default()),
+    };
+    if array(reader, depth, &mut words)? {
+        Ok(words.states)
+    } else {
+        Ok(None)
+    }
+}
+
+fn with_word(states: Option<States>, word: Option<&str>) -> Option<States>
+    ensures { option_map states_of result ≡ option_and_then
+        (λ s. option_and_then (with_state s) (option_map (λ t. t.now) word.entry))
+        (option_map states_of states) }
+{
+    with_state(states?, word?)
 }
 
 /// The states with the one that `word` names. None: it names none.

@@ -24,14 +24,11 @@ over_none value items doc sources x first (Err e) valid none initial matched mad
 over_none value items doc sources x first (Ok style) valid none initial matched made =
     made ∙ ap (λ s. cascaded true s (map value (items ++ []))) initial ∙ ap (λ l. cascaded true initial_style (map value l)) (append-nil items) ∙ ap (cascaded true initial_style) matched ∙ sym (style_of-root doc sources valid x none)
 
-same_in : (a b : Style) → ◌≡◌ {A = Option Style} (Some a) (Some b) → a ≡ b
-same_in a b e = cc
-
-pub over_parent : {A E : Type 0} (value : A → Matched) (items : List A) (doc : List Element) (sources : Sources) (x p : ℕ) (known : Option Style) (over : Style) (result : Result Style E) → IsValid doc → parent_of doc x ≡ Some p
-    → known ≡ Some (style_of doc sources p) → known ≡ Some over → map value items ≡ matching doc sources x → IfOk result (λ style. style ≡ cascaded false over (map value (items ++ []))) → IfOk result (λ style. style ≡ style_of doc sources x)
-over_parent value items doc sources x p known over (Err e) valid parent is found matched made = tt
-over_parent value items doc sources x p known over (Ok style) valid parent is found matched made =
-    made ∙ ap (λ s. cascaded false s (map value (items ++ []))) (same_in over (style_of doc sources p) (sym found ∙ is)) ∙ ap (λ l. cascaded false (style_of doc sources p) (map value l)) (append-nil items) ∙ ap (cascaded false (style_of doc sources p)) matched ∙ sym (style_of-child doc sources valid x p parent)
+pub over_parent : {A E : Type 0} (value : A → Matched) (items : List A) (doc : List Element) (sources : Sources) (x p : ℕ) (over : Style) (result : Result Style E) → IsValid doc → parent_of doc x ≡ Some p
+    → over ≡ style_of doc sources p → map value items ≡ matching doc sources x → IfOk result (λ style. style ≡ cascaded false over (map value (items ++ []))) → IfOk result (λ style. style ≡ style_of doc sources x)
+over_parent value items doc sources x p over (Err e) valid parent is matched made = tt
+over_parent value items doc sources x p over (Ok style) valid parent is matched made =
+    made ∙ ap (λ s. cascaded false s (map value (items ++ []))) is ∙ ap (λ l. cascaded false (style_of doc sources p) (map value l)) (append-nil items) ∙ ap (cascaded false (style_of doc sources p)) matched ∙ sym (style_of-child doc sources valid x p parent)
 
 -- the numbers in tree order, around the k-th
 split_order : (doc : List Element) (order : List ℕ) (k : ℕ) → order ≡ numbers doc → k < length order → numbers doc ≡ take k order ++ get_or order k 0 ∷ drop (k + 1) order
@@ -58,21 +55,3 @@ pub styled_more : {A : Type 0} (value : A → Style) (style : ℕ → Style) (it
     → map value items ≡ map style (take k order) → value last ≡ style (get_or order k 0) → map value new ≡ map style (take (k + 1) order)
 styled_more value style items new last order k below e old same =
     ap (map value) e ∙ map-append value items (last ∷ []) ∙ ap (λ l. l ++ value last ∷ []) old ∙ ap (λ s. map style (take k order) ++ s ∷ []) same ∙ sym (ap (λ m. map style (take m order)) (add-one k) ∙ ap (map style) (take-suc order k 0 below) ∙ map-append style (take k order) (get_or order k 0 ∷ []))
-
-or_cases : (b a : Bool) → (a || (b || false)) ≡ true → b ≡ false → a ≡ true
-or_cases b true h none = refl
-or_cases true false h none = cc
-or_cases false false h none = h
-
-in_more : (order : List ℕ) (k q : ℕ) → k < length order → is_in q (take (k + 1) order) ≡ (is_in q (take k order) || ((get_or order k 0 == q) || false))
-in_more order k q below = ap (λ m. is_in q (take m order)) (add-one k) ∙ ap (is_in q) (take-suc order k 0 below) ∙ list_any-append (λ y. y == q) (take k order) (get_or order k 0 ∷ [])
-
-known_by : (style : ℕ → Style) (old new : ℕ → Option Style) (x q : ℕ) (b before : Bool) → (x == q) ≡ b → (before ≡ true → old q ≡ Some (style q)) → new x ≡ Some (style x)
-    → ((x == q) ≡ false → new q ≡ old q) → (before || (b || false)) ≡ true → new q ≡ Some (style q)
-known_by style old new x q true before e kept at apart there = subst (λ y. new y ≡ Some (style y)) (eqb-true x q e) at
-known_by style old new x q false before e kept at apart there = apart e ∙ kept (or_cases false before there refl)
-
-pub known_more : (style : ℕ → Style) (old new : ℕ → Option Style) (order : List ℕ) (k : ℕ) → k < length order → ((q : ℕ) → is_in q (take k order) ≡ true → old q ≡ Some (style q))
-    → new (get_or order k 0) ≡ Some (style (get_or order k 0)) → ((q : ℕ) → (get_or order k 0 == q) ≡ false → new q ≡ old q) → (q : ℕ) → is_in q (take (k + 1) order) ≡ true → new q ≡ Some (style q)
-known_more style old new order k below kept at apart q there =
-    known_by style old new (get_or order k 0) q (get_or order k 0 == q) (is_in q (take k order)) refl (kept q) at (apart q) (sym (in_more order k q below) ∙ there)

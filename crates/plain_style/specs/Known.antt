@@ -1,10 +1,14 @@
 -- The styles that are known on the way down a document.
-use Rattle.std.specs.Prelude.{◌≡◌, ℕ, List, Option, Some}
+use Rattle.std.specs.Prelude.{◌≡◌, ℕ, List, Option, Some, option_and_then, slice_get}
 use Rattle.scene_model.specs.Element.{Element}
 use Rattle.scene_model.specs.Lookups.{parent_of}
 use Rattle.value_model.specs.Style.{Style}
 use Rattle.sheet_model.specs.Sources.{Sources}
 use Rattle.cascade_model.specs.StyleOf.{style_of}
+
+-- the style of a number, at the place that is kept for it
+abbrev pub style_at : List Style → List ℕ → ℕ → Option Style
+style_at styles places x = option_and_then (slice_get styles) (slice_get places x)
 
 -- the style of the element's parent, if it has one, is known
 abbrev pub KnowsParent : List Element → Sources → (ℕ → Option Style) → ℕ → Type 0

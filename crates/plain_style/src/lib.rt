@@ -4,4 +4,5 @@
 mod matching;
 mod styles;
 
+pub use matching::match_element;
 pub use styles::style_all;

@@ -17,26 +17,43 @@ use std::alloc::Global;
 use stylo_base::NoMemory;
 
 /// The declarations of all rules with a selector that holds at `x`, in the order of the rules.
-pub fn match_element(
+pub fn match_element<'a>(
     alloc: Global,
     doc: &Doc,
-    sheets: &Sheets,
+    sheets: &'a Sheets,
     x: u32,
-) -> Result<Vec<Matched>, NoMemory>
+) -> Result<Vec<Matched<'a>>, NoMemory>
     requires { IsElement doc.now.elements x }
     ensures { IfOk result (λ list.
         map matched_of list.items ≡ matching doc.now.elements (sources_seen sheets.now) x) }
 {
+    let mut list = Vec::new(alloc);
+    match_into(&mut list, doc, sheets, x)?;
+    Ok(list)
+}
+
+/// Puts the declarations of all rules with a selector that holds at `x`, in the order of the rules,
+/// in place of what is in the list.
+pub(crate) fn match_into<'a>(
+    list: &mut Vec<Matched<'a>>,
+    doc: &Doc,
+    sheets: &'a Sheets,
+    x: u32,
+) -> Result<(), NoMemory>
+    requires { IsElement doc.now.elements x }
+    ensures { OnOk result (map matched_of list.new.items
+        ≡ matching doc.now.elements (sources_seen sheets.now) x) }
+{
+    list.clear();
     let rules = sheets.rules();
     let selectors = sheets.selectors();
-    let mut list = Vec::new(alloc);
     for index in 0..rules.len() {
         let rule = &rules[index];
         if let Some(specificity) = greatest(doc, &selectors[index], x) {
-            add_declarations(&mut list, rule, specificity)?;
+            add_declarations(list, rule, specificity)?;
         }
     }
-    Ok(list)
+    Ok(())
 }
 
 /// The greatest specificity of the selectors that hold at `x`, if some does.
@@ -59,9 +76,9 @@ fn greatest(doc: &Doc, selectors: &[Selector], x: u32) -> Option<Specificity>
 }
 
 /// Adds the declarations of a rule.
-fn add_declarations(
-    list: &mut Vec<Matched>,
-    rule: &SheetRule,
+fn add_declarations<'a>(
+    list: &mut Vec<Matched<'a>>,
+    rule: &'a SheetRule,
     specificity: Specificity,
 ) -> Result<(), NoMemory>
     ensures { OnOk result (map matched_of list.new.items ≡ map matched_of list.old.items
@@ -70,18 +87,17 @@ fn add_declarations(
 {
     let mut index = rule.first_index();
     for declared in rule.declarations() {
-        list.push(Matched {
-            property: declared.property,
-            value: declared.value,
+        let one = Matched {
+            declared,
             origin: rule.origin(),
-            important: declared.important,
             attached: false,
             layer: 0,
             specificity,
             sheet: rule.sheet(),
             position: rule.position(),
             index,
-        })?;
+        };
+        list.extend_from_slice(&[one])?;
         index += 1;
     }
     Ok(())

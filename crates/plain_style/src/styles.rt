@@ -1,64 +1,69 @@
 //! The style of every element, from the root down.
 
-ghost use Rattle.std.specs.Prelude.{◌≡◌, pos, IfOk, map, nat_eq, option_map};
-ghost use Rattle.std.specs.HashMap.{get};
+ghost use Rattle.std.specs.Prelude.{◌≡◌, pos, IfOk, IsSome, Some, map};
 ghost use Rattle.std.specs.Arc.{arc_value};
 ghost use Rattle.scene_model.specs.Lookups.{IsElement, numbers};
 ghost use Rattle.cascade_model.specs.StyleOf.{style_of};
 ghost use Rattle.sheet_set.specs.View.{sources_seen};
-ghost use Rattle.plain_style.specs.Known.{KnowsParent};
+ghost use Rattle.plain_style.specs.Known.{KnowsParent, style_at};
 
-use crate::matching::match_element;
-use cascade_core::cascade;
+use crate::matching::match_into;
+use cascade_core::{Matched, cascade};
 use dom_tree::Doc;
 use sheet_set::Sheets;
 use std::alloc::Global;
-use std::collections::HashMap;
 use std::sync::Arc;
 use style_value::Style;
 use stylo_base::{Fixed, NoMemory};
-
-/// The styles of the elements that were met, by number.
-type Known = HashMap<u32, Arc<Style>>;
 
 /// The styles of all elements, in tree order.
 pub fn style_all(alloc: Global, doc: &Doc, sheets: &Sheets) -> Result<Vec<Arc<Style>>, NoMemory>
     ensures { IfOk result (λ styles. map arc_value styles.items
         ≡ map (style_of doc.now.elements (sources_seen sheets.now)) (numbers doc.now.elements)) }
 {
-    let order = doc.tree_order(alloc)?;
+    let order = doc.in_tree_order();
     let mut styles = Vec::with_capacity(alloc, order.len())?;
-    let mut known: Known = HashMap::new(alloc);
-    for number in &order {
-        let style = Arc::new(alloc, style_over(alloc, doc, sheets, *number, &known)?)?;
-        known.insert(*number, Arc::try_clone(&style)?)?;
-        styles.push(style)?;
+    // Where the style of an element is among them, by its number.
+    let mut places = vec![in alloc; 0; doc.last().saturating_add(1)]?;
+    let mut list = Vec::new(alloc);
+    for number in order {
+        let style = style_over(alloc, doc, sheets, *number, &mut list, &styles, &places)?;
+        places[*number as usize] = styles.len();
+        styles.push(Arc::new(alloc, style)?)?;
     }
     Ok(styles)
 }
 
-/// The style of an element whose parent was met.
-fn style_over(
+/// The style of an element whose parent was met. `list` is used for what matches it.
+fn style_over<'a>(
     alloc: Global,
     doc: &Doc,
-    sheets: &Sheets,
+    sheets: &'a Sheets,
     number: u32,
-    known: &Known,
+    list: &mut Vec<Matched<'a>>,
+    styles: &[Arc<Style>],
+    places: &[usize],
 ) -> Result<Style, NoMemory>
     requires element { IsElement doc.now.elements number }
     requires parent { KnowsParent doc.now.elements (sources_seen sheets.now)
-        (λ q. option_map arc_value (get nat_eq known.now q)) number }
+        (style_at (map arc_value styles.now) places.now) number }
     ensures { IfOk result (λ style. style ≡ style_of doc.now.elements (sources_seen sheets.now) number) }
 {
-    let matched = match_element(alloc, doc, sheets, number)?;
+    match_into(list, doc, sheets, number)?;
     let Some(parent) = doc.parent(number) else {
-        let initial = Style::initial();
-        return cascade(alloc, &matched, &[], &initial, initial_size(), true);
+        let initial = Style::initial(alloc)?;
+        return cascade(alloc, list, &[], &initial, initial_size(), true);
     };
-    let Some(over) = known.get(&parent) else {
-        unreachable!()
-    };
-    cascade(alloc, &matched, &[], over, initial_size(), false)
+    let over = known_style(styles, places, parent);
+    cascade(alloc, list, &[], over, initial_size(), false)
+}
+
+/// The style of an element that was met, at the place that is kept for its number.
+fn known_style<'a>(styles: &'a [Arc<Style>], places: &[usize], number: u32) -> &'a Style
+    requires { IsSome (style_at (map arc_value styles.now) places.now number) }
+    ensures { style_at (map arc_value styles.now) places.now number ≡ Some result.now }
+{
+    &styles[places[number as usize]]
 }
 
 /// The initial `font-size`: 16 pixels, in thousandths of a pixel.

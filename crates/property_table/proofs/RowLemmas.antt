@@ -5,24 +5,18 @@ use Rattle.std.proofs.lemmas.List.{get_or-map, length-map, drop_more}
 use Rattle.std.proofs.lemmas.List.FromFn.{get_or-range_with_len, length-range_with_len}
 use Rattle.std.proofs.lemmas.Option.{slice_get-map, slice_get-get_or, slice_get_within, get_or_from_slice_get, same_Some}
 use denote.Enum.Bare.{tag_one}
-use denote.Enum.Declared.{tag_of}
 use Rattle.value_model.specs.Table as model
 use Rattle.property_table.specs.View.{property_of, row_seen}
 use Rattle.property_table.specs.declared.property.PropId.{PropId}
-use Rattle.property_table.specs.declared.property.PropId.TheVariants.{Color}
+use Rattle.property_table.specs.declared.property.TheConstants.{COUNT}
 use Rattle.property_table.specs.declared.property.Row.{Row}
 use Rattle.property_table.specs.contracts.property.PropId.{the_type}
 
--- the rows are in the order of the variants
-property_of-tag : (id : PropId) → property_of id ≡ tag_of the_type id
-property_of-tag Color = refl
-property_of-tag _ = refl
-
 -- no two properties have one row
 pub property_of-same : (a b : PropId) → property_of a ≡ property_of b → a ≡ b
-property_of-same a b h = tag_one the_type tt a b (sym (property_of-tag a) ∙ h ∙ property_of-tag b)
+property_of-same a b h = tag_one the_type tt a b h
 
-pub length-table : length model.table ≡ 4
+pub length-table : length model.table ≡ COUNT
 unfolding model.table
 length-table = refl
 

@@ -22,26 +22,30 @@ pub enum Keyword {
     CurrentColor,
 }
 
+/// The text of each keyword, in the order of the variants. Contracts read it here, as `word_of`; which
+/// texts a property takes is said by the definition of its row.
+const WORDS: &[&str] = &[
+    "inline",
+    "block",
+    "inline-block",
+    "flex",
+    "inline-flex",
+    "none",
+    "left",
+    "right",
+    "both",
+    "visible",
+    "hidden",
+    "collapse",
+    "currentcolor",
+];
+
 impl Keyword {
     /// The keyword in lower case, as it is printed.
     pub fn text(self) -> &'static str
         ensures word { result.now ≡ word_of self }
         ensures ascii { is_all_ascii result.now ≡ true }
     {
-        match self {
-            Keyword::Inline => "inline",
-            Keyword::Block => "block",
-            Keyword::InlineBlock => "inline-block",
-            Keyword::Flex => "flex",
-            Keyword::InlineFlex => "inline-flex",
-            Keyword::None => "none",
-            Keyword::Left => "left",
-            Keyword::Right => "right",
-            Keyword::Both => "both",
-            Keyword::Visible => "visible",
-            Keyword::Hidden => "hidden",
-            Keyword::Collapse => "collapse",
-            Keyword::CurrentColor => "currentcolor",
-        }
+        WORDS[self as usize]
     }
 }

@@ -36,7 +36,7 @@ pub struct Row {
 }
 
 /// The number of properties.
-pub const COUNT: usize = 4;
+pub const COUNT: usize = ROWS.len();
 
 const BLACK: Value = Value::Color(Color {
     red: 0,
@@ -45,8 +45,26 @@ const BLACK: Value = Value::Color(Color {
     alpha: 255,
 });
 
+/// The row of a property that takes keywords alone: the property, its name, whether it is inherited,
+/// and its keywords, of which the first is the initial value, and is not printed.
+macro_rules! of_words {
+    ($id:ident, $name:literal, $inherited:literal; $initial:ident $(, $other:ident)*) => {
+        Row {
+            id: PropId::$id,
+            name: $name,
+            inherited: $inherited,
+            initial: Value::Keyword(Keyword::$initial),
+            standing: Value::Keyword(Keyword::$initial),
+            forms: &[
+                ValueForm::Word(Keyword::$initial)
+                $(, ValueForm::Word(Keyword::$other))*
+            ],
+        }
+    };
+}
+
 /// A row for each property.
-static ROWS: [Row; COUNT] = [
+const ROWS: &[Row] = &[
     Row {
         id: PropId::Color,
         name: "color",
@@ -55,46 +73,9 @@ static ROWS: [Row; COUNT] = [
         standing: BLACK,
         forms: &[ValueForm::AnyColor],
     },
-    Row {
-        id: PropId::Display,
-        name: "display",
-        inherited: false,
-        initial: Value::Keyword(Keyword::Inline),
-        standing: Value::Keyword(Keyword::Inline),
-        forms: &[
-            ValueForm::Word(Keyword::Inline),
-            ValueForm::Word(Keyword::Block),
-            ValueForm::Word(Keyword::InlineBlock),
-            ValueForm::Word(Keyword::Flex),
-            ValueForm::Word(Keyword::InlineFlex),
-            ValueForm::Word(Keyword::None),
-        ],
-    },
-    Row {
-        id: PropId::Clear,
-        name: "clear",
-        inherited: false,
-        initial: Value::Keyword(Keyword::None),
-        standing: Value::Keyword(Keyword::None),
-        forms: &[
-            ValueForm::Word(Keyword::None),
-            ValueForm::Word(Keyword::Left),
-            ValueForm::Word(Keyword::Right),
-            ValueForm::Word(Keyword::Both),
-        ],
-    },
-    Row {
-        id: PropId::Visibility,
-        name: "visibility",
-        inherited: true,
-        initial: Value::Keyword(Keyword::Visible),
-        standing: Value::Keyword(Keyword::Visible),
-        forms: &[
-            ValueForm::Word(Keyword::Visible),
-            ValueForm::Word(Keyword::Hidden),
-            ValueForm::Word(Keyword::Collapse),
-        ],
-    },
+    of_words!(Display, "display", false; Inline, Block, InlineBlock, Flex, InlineFlex, None),
+    of_words!(Clear, "clear", false; None, Left, Right, Both),
+    of_words!(Visibility, "visibility", true; Visible, Hidden, Collapse),
 ];
 
 impl PropId {
@@ -114,7 +95,7 @@ impl Row {
         ensures order { map (λ row. property_of row.id) result.now
             ≡ range_with_len 0 (length table) }
     {
-        &ROWS
+        ROWS
     }
 
     /// The row of a property.

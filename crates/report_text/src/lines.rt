@@ -40,13 +40,26 @@ pub fn element_line(alloc: Global, number: u32, tag: &str, style: &Style) -> Res
     ensures { IfOk result (λ t. t ≡ element_line number (chars tag.now) style.now) }
 {
     let mut line = Text::new(alloc);
+    push_element_line(&mut line, number, tag, style)?;
+    Ok(line)
+}
+
+/// Appends the line of an element to `line`. A text that is cleared and used again takes no memory
+/// for a line that is no longer than those before. Out of memory, it may hold a part of the line.
+pub fn push_element_line(
+    line: &mut Text,
+    number: u32,
+    tag: &str,
+    style: &Style,
+) -> Result<(), NoMemory>
+    ensures { OnOk result (line.new ≡ line.old ++ element_line number (chars tag.now) style.now) }
+{
     line.push_number(u64::from(number))?;
     line.push_str(" ")?;
     line.push_str(tag)?;
     line.push_str("{")?;
-    push_declarations(&mut line, style)?;
-    line.push_str("}\n")?;
-    Ok(line)
+    push_declarations(line, style)?;
+    line.push_str("}\n")
 }
 
 /// Appends the properties whose value is not the standing one to the line.

@@ -4,7 +4,7 @@ use Rattle.std.specs.List.{AllByRecursion}
 use Rattle.std.proofs.lemmas.Bool.{cond_both}
 use Rattle.std.proofs.lemmas.List.{at_drop_more}
 use Rattle.std.proofs.lemmas.List.Elements.{All-from_recursion}
-use Rattle.base_model.specs.Text.{Characters, same_text}
+use Rattle.base_model.specs.Text.{same_text}
 use Rattle.scene_model.specs.Element.{Element}
 use Rattle.scene_model.specs.Lookups.{IsElement, parent_of, children, siblings, left_of, place_of, tag_of}
 use Rattle.scene_model.specs.Valid.{IsValid}
@@ -35,10 +35,10 @@ kept_one : (p : ℕ → Bool) (b : Bool) (y : ℕ) (ys : List ℕ) → p y ≡ b
 kept_one p true y ys e = rw e (sym (one-add (length (filter p ys))))
 kept_one p false y ys e = rw e (sym (zero-add (length (filter p ys))))
 
-pub same_type-drop : (doc : List Element) (x : ℕ) (others : List ℕ) (i : ℕ) (tag : Characters) (b : Bool) → i < length others → tag ≡ tag_of doc x → same_text (tag_of doc (get_or others i 0)) tag ≡ b → length (same_type doc x (drop i others)) ≡ cond b 1 0 + length (same_type doc x (drop (i + 1) others))
-same_type-drop doc x others i tag b l same e =
+pub same_type-drop : (doc : List Element) (x : ℕ) (others : List ℕ) (i : ℕ) (b : Bool) → i < length others → same_text (tag_of doc (get_or others i 0)) (tag_of doc x) ≡ b → length (same_type doc x (drop i others)) ≡ cond b 1 0 + length (same_type doc x (drop (i + 1) others))
+same_type-drop doc x others i b l e =
     at_drop_more (λ ys. length (same_type doc x ys)) others i 0 l
-    ∙ kept_one (λ y. same_text (tag_of doc y) (tag_of doc x)) b (get_or others i 0) (drop (i + 1) others) (ap (same_text (tag_of doc (get_or others i 0))) (sym same) ∙ e)
+    ∙ kept_one (λ y. same_text (tag_of doc y) (tag_of doc x)) b (get_or others i 0) (drop (i + 1) others) e
 
 -- the siblings are elements
 

@@ -1,20 +1,15 @@
 -- Texts are compared alike by bytes and by characters.
-use Rattle.std.proofs.Common.{◌≡◌, ℕ, ◌<◌, ◌≤◌, ◌==◌, ◌⊎◌, ◌↔◌, inl, inr, IsTrue, Option, codes, Bool, true, false, not, ◌&&◌, ◌||◌, List, [], ◌∷◌, ◌++◌, length, take, get_or, encode_utf8_all, refl, sym, ap, ◌∙◌, subst, arith, append-nil, length-append}
+use Rattle.std.proofs.Common.{◌≡◌, ℕ, ◌<◌, ◌≤◌, ◌==◌, ◌⊎◌, inl, inr, Bool, true, false, not, ◌&&◌, ◌||◌, List, [], ◌∷◌, ◌++◌, length, take, get_or, encode_utf8_all, refl, sym, ap, ◌∙◌, subst, arith, append-nil, length-append}
 use Rattle.std.specs.Str.{chars, IsAscii, IsUtf8, IsCharBoundary}
 use Rattle.std.proofs.lemmas.Bool.Decides.{same_from_decides, nat_tests}
 use Rattle.std.proofs.lemmas.List.{take_at, get_or_at, nil_from_length}
-use Rattle.std.proofs.lemmas.Slice.Eq.{bytes_eq-Decides}
 use Rattle.std.proofs.lemmas.Str.{chars-nil, chars-append, chars-IsAscii, encodes-chars, encodes-append, IsUtf8-take, IsCharBoundary-start, IsCharBoundary-at_seam, IsUtf8-from_ascii, IsUtf8-nil, IsUtf8-append}
 use Rattle.std.proofs.lemmas.Str.Ascii.{IsAscii-nil, IsAscii-cons}
-use Rattle.std.specs.Option.{option_map_or}
-use Rattle.stylo_base.proofs.TextLemmas.{same_test, chars-ascii}
+use Rattle.stylo_base.proofs.TextLemmas.{same_test}
 use Rattle.base_model.specs.Ascii.{hyphen}
-use Rattle.base_model.specs.Text.{Characters, same_text, is_empty_text}
-use Rattle.scene_model.specs.Element.{Element}
-use Rattle.scene_model.specs.Lookups.{attribute_of}
+use Rattle.base_model.specs.Text.{same_text, is_empty_text}
 use Rattle.selector_model.specs.Selector.{AttributeOperator, equals, includes, dash_match, prefix, suffix, substring}
 use Rattle.selector_model.specs.Comparisons.{begins_with, ends_with, has_part, compared, folded}
-use Rattle.selector_model.specs.Holds.{is_id}
 use Rattle.selector_match.proofs.LowerLemmas.{IsUtf8-folded, chars-folded}
 use Rattle.selector_match.proofs.PartLemmas.{HasPart, begins_with-Decides, ends_with-Decides, has_part-Decides}
 
@@ -130,20 +125,3 @@ with_part k part empty r s e h f =
 pub without_part : (k : Bool) (part : List ℕ) (empty s : Bool) → empty ≡ (length part == 0) → empty ≡ true → not empty ≡ (not (is_empty_text (folded k part)) && s)
 without_part k part empty s e h =
     ap not h ∙ ap (λ b. not b && s) (sym h ∙ (e ∙ sym (is_empty_text-folded k part)))
-
--- an id
-
-pub id_kept : (name : Characters) (value : List ℕ) (empty r : Bool) → IsUtf8 value → empty ≡ (length value == 0) → empty ≡ false → IsTrue r ↔ (name ≡ chars value) → r ≡ is_id name (chars value)
-id_kept name value empty r u e h f =
-    let some : is_empty_text (chars value) ≡ false = sym (is_empty_text-chars value u) ∙ (is_empty_text-folded true value ∙ (sym e ∙ h)) in
-    let turned = bytes_eq-Decides (chars value) name in
-    same_from_decides _ _ f (λ t. sym (turned.0 t), λ n. turned.1 (sym n)) ∙ ap (λ b. not b && same_text (chars value) name) (sym some)
-
-pub id_empty : (name : Characters) (value : List ℕ) (empty : Bool) → IsUtf8 value → empty ≡ (length value == 0) → empty ≡ true → not empty ≡ is_id name (chars value)
-id_empty name value empty u e h =
-    let none : is_empty_text (chars value) ≡ true = sym (is_empty_text-chars value u) ∙ (is_empty_text-folded true value ∙ (sym e ∙ h)) in
-    ap not h ∙ ap (λ b. not b && same_text (chars value) name) (sym none)
-
-pub id_asked : (doc : List Element) (x : ℕ) (name : Characters) (value : Option Characters) → value ≡ attribute_of doc x (chars (codes "id")) → option_map_or (is_id name) value false ≡ option_map_or (is_id name) (attribute_of doc x (codes "id")) false
-id_asked doc x name value e =
-    ap (λ o. option_map_or (is_id name) o false) (e ∙ ap (attribute_of doc x) (chars-ascii (codes "id") refl))

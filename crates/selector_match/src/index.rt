@@ -1,9 +1,7 @@
 //! Indexes among siblings (selectors-4, section 13).
 
 ghost use Rattle.std.specs.Prelude.{◌≡◌, ◌+◌, ◌==◌, ◌&&◌, ◌<◌, ◌≤◌, ◌^◌, ◌↔◌, ◌*ℤ◌, ℕ, pos, All, IsTrue, false, if◌then◌else◌, length, true};
-ghost use Rattle.std.specs.Str.{chars};
-ghost use Rattle.base_model.specs.Text.{same_text};
-ghost use Rattle.scene_model.specs.Lookups.{IsElement, left_of, siblings, tag_of};
+ghost use Rattle.scene_model.specs.Lookups.{IsElement, left_of, siblings};
 ghost use Rattle.scene_model.specs.Valid.{IsValid};
 ghost use Rattle.selector_model.specs.Comparisons.{is_nth as model_is_nth};
 ghost use Rattle.selector_model.specs.Holds.{index_by as model_index_by, right_of, same_type as model_same_type};
@@ -43,22 +41,13 @@ fn same_type(doc: &Doc, x: u32, others: &[u32]) -> usize
     ensures count { result ≡ length (model_same_type doc.now.elements x others.now) }
     ensures bound { result ≤ length others.now }
 {
-    let tag = doc.tag(x);
     let mut count = 0;
     for other in others {
-        if has_tag(doc, tag, *other) {
+        if doc.same_tag(*other, x) {
             count += 1;
         }
     }
     count
-}
-
-/// Whether `x` has that tag.
-fn has_tag(doc: &Doc, tag: &str, x: u32) -> bool
-    requires { IsElement doc.now.elements x }
-    ensures { result ≡ same_text (tag_of doc.now.elements x) (chars tag.now) }
-{
-    doc.tag(x) == tag
 }
 
 /// The siblings after `x`, or those before it.

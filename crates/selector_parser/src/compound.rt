@@ -7,7 +7,7 @@ ghost use Rattle.sheet_model.specs.SelectorsIn.{compound_in};
 use css_tokens::{Cursor, Token};
 use selector_types::{Simple, Test};
 use std::alloc::Global;
-use stylo_base::NoMemory;
+use stylo_base::{Atom, NoMemory};
 
 /// Reads the tokens as a compound, and gives its tests. None: they are none.
 pub fn compound(alloc: Global, tokens: &[Token]) -> Result<Option<Vec<Test>>, NoMemory>
@@ -20,7 +20,7 @@ pub fn compound(alloc: Global, tokens: &[Token]) -> Result<Option<Vec<Test>>, No
     }
     let mut tests = Vec::new(alloc);
     if let Some(tag) = cursor.take_ident() {
-        tests.push(Test::Simple(Simple::Type(tag.copy(alloc)?)))?;
+        tests.push(Test::Simple(Simple::Type(Atom::of_text(tag.copy(alloc)?))))?;
     } else {
         let _ = cursor.take_delim('*');
     }
@@ -31,7 +31,7 @@ pub fn compound(alloc: Global, tokens: &[Token]) -> Result<Option<Vec<Test>>, No
         let Some(class) = cursor.take_ident() else {
             return Ok(None);
         };
-        tests.push(Test::Simple(Simple::Class(class.copy(alloc)?)))?;
+        tests.push(Test::Simple(Simple::Class(Atom::of_text(class.copy(alloc)?))))?;
     }
     Ok(Some(tests))
 }

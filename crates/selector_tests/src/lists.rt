@@ -1,10 +1,11 @@
+use crate::atoms::atom;
 use css_tokens::{preprocess, tokens};
 use selector_parser::selector_list;
 use selector_types::weight::specificity;
 use selector_types::{Combinator, Complex, Key, Selector, Simple, Test, key_of};
 use std::alloc::Global;
 use std::test::Fail;
-use stylo_base::{NoMemory, Text};
+use stylo_base::NoMemory;
 
 /// The selectors of a text.
 fn read(alloc: Global, text: &str) -> Result<Option<Vec<Selector>>, NoMemory> {
@@ -70,14 +71,14 @@ fn alone(alloc: Global, test: Test) -> Result<Complex, NoMemory> {
 
 /// `:is(.a)`
 fn listed(alloc: Global) -> Result<Test, NoMemory> {
-    let class = Simple::Class(Text::of_str(alloc, "a")?);
+    let class = Simple::Class(atom(alloc, "a")?);
     let member = alone(alloc, Test::Simple(class))?;
     Ok(Test::Is(vec![in alloc; member]?))
 }
 
 /// `#n > :is(.a)`
 fn nested(alloc: Global) -> Result<Selector, NoMemory> {
-    let id = Simple::Id(Text::of_str(alloc, "n")?);
+    let id = Simple::Id(atom(alloc, "n")?);
     let left = alone(alloc, Test::Simple(id))?;
     let tests = vec![in alloc; listed(alloc)?]?;
     let complex = Complex::combined(alloc, tests, Combinator::Child, left)?;

@@ -1,39 +1,40 @@
-use dom_tree::{Attr, Attrs, Doc, NodeInput, NodeList, States};
+use crate::atoms::atom;
+use dom_tree::{Attr, Doc, NodeInput, NodeList, States};
 use selector_match::matches;
 use selector_types::{AnB, Combinator, Complex, Nth, Selector, Simple, Test};
 use std::alloc::Global;
 use std::process::Abort;
 use std::test::Fail;
-use stylo_base::{NoMemory, Text};
+use stylo_base::NoMemory;
 
-fn node(alloc: Global, tag: &str, class: &str) -> Result<NodeInput, NoMemory> {
-    let attr = Attr {
-        name: Text::of_str(alloc, "class")?,
-        value: Text::of_str(alloc, class)?,
-    };
-    Ok(NodeInput {
-        tag: Text::of_str(alloc, tag)?,
-        attrs: Attrs::of_list(vec![in alloc; attr]?),
+fn node<'a>(tag: &'a str, attrs: &'a [Attr<'a>]) -> NodeInput<'a> {
+    NodeInput {
+        tag,
+        attrs,
         states: States::default(),
-    })
+    }
 }
 
 /// The document of a root `html` and of nodes: the number of the parent, tag, classes.
 fn grown(rt: &impl Abort, alloc: Global, rows: &[(u32, &str, &str)]) -> Result<Doc, Fail> {
-    let mut list = NodeList::of_root(alloc, node(alloc, "html", "")?)?;
+    let mut list = NodeList::of_root(alloc, node("html", &[]))?;
     for (parent, tag, class) in rows {
         assert!(rt; 0 < *parent && *parent as usize <= list.len());
-        list.push(*parent - 1, node(alloc, tag, class)?)?;
+        let attrs = [Attr {
+            name: "class",
+            value: class,
+        }];
+        list.push(*parent - 1, node(tag, &attrs))?;
     }
     assert!(rt; list.len() <= 65536);
-    Ok(Doc::start(alloc, &list)?)
+    Ok(Doc::of_list(alloc, list)?)
 }
 
 /// The numbers of the elements at which a selector holds.
 fn held(rt: &impl Abort, alloc: Global, doc: &Doc, complex: Complex) -> Result<String, Fail> {
     let selector = Selector::new(alloc, complex)?;
     let mut text = String::new(alloc);
-    for x in doc.tree_order(alloc)?.as_slice() {
+    for x in doc.in_tree_order() {
         assert!(rt; doc.contains(*x));
         if matches(doc, &selector, *x) {
             write!(text, "{x} ")?;
@@ -49,7 +50,7 @@ fn alone(alloc: Global, test: Simple) -> Result<Complex, NoMemory> {
 
 /// `.a :empty`
 fn empty_below(alloc: Global) -> Result<Complex, NoMemory> {
-    let left = alone(alloc, Simple::Class(Text::of_str(alloc, "a")?))?;
+    let left = alone(alloc, Simple::Class(atom(alloc, "a")?))?;
     let tests = vec![in alloc; Test::Simple(Simple::Empty)]?;
     Complex::combined(alloc, tests, Combinator::Descendant, left)
 }
@@ -67,6 +68,28 @@ fn found_below(rt: &impl Abort, alloc: Global) -> Result<String, Fail> {
 fn below(rt: HostRuntime) -> Result<(), Fail> {
     let text = found_below(&rt, rt.alloc())?;
     assert_eq!(rt; text.as_str(), "4 ");
+    Ok(())
+}
+
+// `Aa` and `BB` have one key, so only their texts tell them apart.
+
+/// Where a test holds, below a root, at a `BB` of class `Aa` and at an `Aa` of class `BB`.
+fn at_one_key(rt: &impl Abort, alloc: Global, test: Simple) -> Result<String, Fail> {
+    let doc = grown(rt, alloc, &[(1, "BB", "Aa"), (1, "Aa", "BB")])?;
+    held(rt, alloc, &doc, alone(alloc, test)?)
+}
+
+#[test]
+fn a_class_of_the_same_key(rt: HostRuntime) -> Result<(), Fail> {
+    let text = at_one_key(&rt, rt.alloc(), Simple::Class(atom(rt.alloc(), "BB")?))?;
+    assert_eq!(rt; text.as_str(), "3 ");
+    Ok(())
+}
+
+#[test]
+fn a_type_of_the_same_key(rt: HostRuntime) -> Result<(), Fail> {
+    let text = at_one_key(&rt, rt.alloc(), Simple::Type(atom(rt.alloc(), "BB")?))?;
+    assert_eq!(rt; text.as_str(), "2 ");
     Ok(())
 }
 
@@ -106,9 +129,9 @@ fn sixty(rt: &impl Abort, alloc: Global, deep: bool) -> Result<Doc, Fail> {
 
 /// `.none`, and forty-one times `p` to the right of it, with these combinators in turn.
 fn long(alloc: Global, even: Combinator, odd: Combinator) -> Result<Complex, NoMemory> {
-    let mut complex = alone(alloc, Simple::Class(Text::of_str(alloc, "none")?))?;
+    let mut complex = alone(alloc, Simple::Class(atom(alloc, "none")?))?;
     for k in 0..41 {
-        let tests = vec![in alloc; Test::Simple(Simple::Type(Text::of_str(alloc, "p")?))]?;
+        let tests = vec![in alloc; Test::Simple(Simple::Type(atom(alloc, "p")?))]?;
         let combinator = if k % 2 == 0 { even } else { odd };
         complex = Complex::combined(alloc, tests, combinator, complex)?;
     }

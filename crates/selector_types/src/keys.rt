@@ -9,14 +9,14 @@ ghost use Rattle.selector_types.specs.View.{selector_of};
 
 use crate::{Compound, Selector, Simple, Test};
 use std::alloc::Global;
-use stylo_base::{NoMemory, Text};
+use stylo_base::{Atom, NoMemory};
 
 /// What an element has to have so that a selector can hold at it.
 #[derive(Debug, Drop)]
 pub enum Key {
-    Id(Text),
-    Class(Text),
-    Type(Text),
+    Id(Atom),
+    Class(Atom),
+    Type(Atom),
     Any,
 }
 
@@ -28,7 +28,7 @@ pub fn key_of(selector: &Selector) -> &Key
     selector.key()
 }
 
-fn first_id(compound: &Compound) -> Option<&Text>
+fn first_id(compound: &Compound) -> Option<&Atom>
     ensures { option_map id_key (option_copied result) ≡ first_in id_in (compound_of compound.now) }
 {
     for test in &compound.tests {
@@ -39,7 +39,7 @@ fn first_id(compound: &Compound) -> Option<&Text>
     None
 }
 
-fn first_class(compound: &Compound) -> Option<&Text>
+fn first_class(compound: &Compound) -> Option<&Atom>
     ensures { option_map class_key (option_copied result) ≡ first_in class_in (compound_of compound.now) }
 {
     for test in &compound.tests {
@@ -50,7 +50,7 @@ fn first_class(compound: &Compound) -> Option<&Text>
     None
 }
 
-fn first_type(compound: &Compound) -> Option<&Text>
+fn first_type(compound: &Compound) -> Option<&Atom>
     ensures { option_map type_key (option_copied result) ≡ first_in type_in (compound_of compound.now) }
 {
     for test in &compound.tests {

@@ -1,6 +1,6 @@
 //! Tests of one element by itself, its attributes, its states or its index among its siblings.
 
-use stylo_base::{State, Text};
+use stylo_base::{Atom, State, Text};
 
 /// How an attribute's value is compared: `=`, `~=`, `|=`, `^=`, `$=`, `*=`.
 #[derive(Clone, Copy, Debug, PartialEq, Eq)]
@@ -32,16 +32,16 @@ pub struct Nth {
 #[derive(Debug, Drop)]
 pub enum Simple {
     /// Its type has this name.
-    Type(Text),
+    Type(Atom),
     /// Its id is this.
-    Id(Text),
+    Id(Atom),
     /// This is one of its classes.
-    Class(Text),
+    Class(Atom),
     /// It has an attribute of this name.
-    Attribute(Text),
+    Attribute(Atom),
     /// Its attribute `name` compares with `value`, ignoring ASCII case unless `case_counts`.
     AttributeCompares {
-        name: Text,
+        name: Atom,
         operator: AttributeOperator,
         value: Text,
         case_counts: bool,

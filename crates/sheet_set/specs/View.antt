@@ -7,7 +7,7 @@ use Rattle.property_table.specs.View.{property_of, value_of}
 use Rattle.layer_order.specs.View.{origin_of}
 use Rattle.selector_types.specs.declared.selector.Selector.{Selector}
 use Rattle.selector_types.specs.View.{selector_of}
-use Rattle.sheet_set.specs.declared.declared.Declared.{Declared}
+use Rattle.property_table.specs.declared.declared.Declared.{Declared}
 use Rattle.sheet_set.specs.declared.sheet_rule.SheetRule.{SheetRule}
 use Rattle.sheet_set.specs.declared.sheets.Sheets.{Sheets}
 

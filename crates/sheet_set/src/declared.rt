@@ -1,4 +1,4 @@
-//! A declaration that is kept.
+//! What a declaration declares.
 
 ghost use Rattle.std.specs.Prelude.{◌≡◌, option_map};
 ghost use Rattle.css_rules.specs.View.{declaration_of};
@@ -6,16 +6,8 @@ ghost use Rattle.sheet_model.specs.Declared.{declared_by};
 ghost use Rattle.sheet_set.specs.View.{declared_of};
 
 use css_rules::RawDecl;
-use property_table::{PropId, Value, by_name};
+use property_table::{Declared, by_name};
 use value_parser::value;
-
-/// A property, and the value that it is given.
-#[derive(Clone, Copy, Debug, PartialEq, Eq)]
-pub struct Declared {
-    pub property: PropId,
-    pub value: Value,
-    pub important: bool,
-}
 
 /// What a declaration declares. None: its name is of no property, or the property does not take its
 /// value.

@@ -7,7 +7,7 @@ mod rule_collector;
 mod sheet_rule;
 mod sheets;
 
-pub use declared::Declared;
 pub use layer_order::SheetInput;
+pub use property_table::Declared;
 pub use sheet_rule::SheetRule;
 pub use sheets::Sheets;

@@ -9,7 +9,7 @@ use Rattle.std.proofs.KnownBytes.{Appends-trans}
 use Rattle.style_cli.specs.Loops.{GrewByFront}
 
 -- the first so many bytes of some bytes and others
-take_both : (bs cs : List ℕ) (n : ℕ) → take (length bs + n) (bs ++ cs) ≡ bs ++ take n cs
+pub take_both : (bs cs : List ℕ) (n : ℕ) → take (length bs + n) (bs ++ cs) ≡ bs ++ take n cs
 take_both [] cs n = ap (λ m. take m cs) (zero-add n)
 take_both (b ∷ bs) cs n =
     let one_more : length (b ∷ bs) + n ≡ suc (length bs + n) = omega arith in
@@ -31,13 +31,22 @@ front_itself a b bs rest whole e first =
     (length bs, omega (arith, ap length e, length-append bs rest), subst (Appends a b) (sym (ap (take (length bs)) e ∙ take-append_seam bs rest)) first)
 
 -- of a list: what its first k elements are written as, the next one, and the rest
-pub flat_split : {X : Type 0} (f : X → List ℕ) (xs : List X) (k : ℕ) (d : X) → k < length xs → flat_map f xs ≡ flat_map f (take k xs) ++ (f (get_or xs k d) ++ flat_map f (drop (k + 1) xs))
+flat_split : {X : Type 0} (f : X → List ℕ) (xs : List X) (k : ℕ) (d : X) → k < length xs → flat_map f xs ≡ flat_map f (take k xs) ++ (f (get_or xs k d) ++ flat_map f (drop (k + 1) xs))
 flat_split f xs k d below =
     ap (flat_map f) (sym (take-append-drop k xs)) ∙ flat_map-append f (take k xs) (drop k xs) ∙ ap (λ l. flat_map f (take k xs) ++ flat_map f l) (drop-cons xs k d below ∙ ap (λ m. get_or xs k d ∷ drop m xs) (sym (add-one k)))
 
-pub flat_rest : {X : Type 0} (f : X → List ℕ) (xs : List X) (k : ℕ) → flat_map f xs ≡ flat_map f (take k xs) ++ flat_map f (drop k xs)
-flat_rest f xs k = ap (flat_map f) (sym (take-append-drop k xs)) ∙ flat_map-append f (take k xs) (drop k xs)
-
-pub flat_more : {X : Type 0} (f : X → List ℕ) (xs : List X) (k : ℕ) (d : X) → k < length xs → flat_map f (take (k + 1) xs) ≡ flat_map f (take k xs) ++ f (get_or xs k d)
+flat_more : {X : Type 0} (f : X → List ℕ) (xs : List X) (k : ℕ) (d : X) → k < length xs → flat_map f (take (k + 1) xs) ≡ flat_map f (take k xs) ++ f (get_or xs k d)
 flat_more f xs k d below =
     ap (λ m. flat_map f (take m xs)) (add-one k) ∙ ap (flat_map f) (take-suc xs k d below) ∙ flat_map-append f (take k xs) (get_or xs k d ∷ []) ∙ ap (λ l. flat_map f (take k xs) ++ l) (append-nil (f (get_or xs k d)))
+
+-- the first k elements are written, and then the next one
+pub next_written : {X : Type 0} (f : X → List ℕ) (xs : List X) (k : ℕ) (d : X) (a b c : Option (List ℕ)) (piece : List ℕ) → k < length xs → piece ≡ f (get_or xs k d)
+    → Appends a b (flat_map f (take k xs)) → Appends b c piece → Appends a c (flat_map f (take (k + 1) xs))
+next_written f xs k d a b c piece below is first next =
+    subst (Appends a c) (sym (flat_more f xs k d below)) (Appends-trans a b c (flat_map f (take k xs)) (f (get_or xs k d)) first (subst (Appends b c) is next))
+
+-- and then a front of the next one
+pub next_begun : {X : Type 0} (f : X → List ℕ) (xs : List X) (k : ℕ) (d : X) (a b c : Option (List ℕ)) (piece : List ℕ) → k < length xs → piece ≡ f (get_or xs k d)
+    → Appends a b (flat_map f (take k xs)) → GrewByFront b c piece → GrewByFront a c (flat_map f xs)
+next_begun f xs k d a b c piece below is first next =
+    front_after a b c (flat_map f (take k xs)) (f (get_or xs k d)) (flat_map f (drop (k + 1) xs)) (flat_map f xs) (flat_split f xs k d below) first (subst (GrewByFront b c) is next)

@@ -23,10 +23,6 @@ pub on_err : {T E : Type 0} (r : Result T E) (P : Type 0) → P → OnErr r P
 on_err (Ok x) P p = tt
 on_err (Err e) P p = p
 
-pub line_is : (doc : List Element) (sources : Sources) (x : ℕ) (line tag : List ℕ) (style : Style) → line ≡ element_line x tag style → tag ≡ tag_of doc x → style ≡ style_of doc sources x → encode_utf8_all line ≡ line_bytes doc sources x
-line_is doc sources x line tag style made named styled =
-    ap encode_utf8_all (made ∙ ap (λ t. element_line x t style) named ∙ ap (element_line x (tag_of doc x)) styled)
-
 -- two lists that are alike by place
 pub alike_at : {A : Type 0} (value : A → Style) (style : ℕ → Style) (items : List A) (order : List ℕ) (k : ℕ) (item : A) → map value items ≡ map style order → k < length order → item ≡ get_or items k item → value item ≡ style (get_or order k 0)
 alike_at value style [] [] k item e below is = absurd (omega arith)
@@ -35,6 +31,15 @@ alike_at value style (s ∷ items) [] k item e below is = cc
 alike_at value style (s ∷ items) (x ∷ order) zero item e below is = let first : value s ≡ style x = cc in ap value is ∙ first
 alike_at value style (s ∷ items) (x ∷ order) (suc k) item e below is =
     let rest : map value items ≡ map style order = cc in alike_at value style items order k item rest (omega arith) is
+
+-- the line of the element at an index of the order, in the style at that index
+pub line_in_order : {A : Type 0} (value : A → Style) (doc : List Element) (sources : Sources) (items : List A) (order : List ℕ) (k : ℕ) (item : A) (style : Style)
+    → map value items ≡ map (style_of doc sources) order → k < length order → item ≡ get_or items k item → style ≡ value item
+    → encode_utf8_all (element_line (get_or order k 0) (tag_of doc (get_or order k 0)) style) ≡ line_bytes doc sources (get_or order k 0)
+line_in_order value doc sources items order k item style styled below is own =
+    let x : ℕ = get_or order k 0 in
+    let line : Style → List ℕ = λ s. encode_utf8_all (element_line x (tag_of doc x) s) in
+    ap line (own ∙ alike_at value (style_of doc sources) items order k item styled below is)
 
 flat_map-map : {X Y : Type 0} (f : Y → List ℕ) (g : X → Y) (xs : List X) → flat_map f (map g xs) ≡ flat_map (λ x. f (g x)) xs
 flat_map-map f g [] = refl

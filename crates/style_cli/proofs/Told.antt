@@ -1,8 +1,10 @@
--- Two writes in a row, and two reads in a row, where the bytes are told.
+-- Writes in a row, and reads in a row, where the bytes are told.
 use Rattle.std.proofs.Common.{◌≡◌, ◌+◌, ◌≤◌, ℕ, List, ◌++◌, length, take, drop, Some, None, Option, ap, sym, ◌∙◌, append_assoc, arith, length-append, length-take-le}
 use Rattle.std.proofs.Math.Seq.{take-add, drop-append_seam}
+use Rattle.std.proofs.lemmas.List.{take_all, take_at, take-append-le}
 use Rattle.std.specs.Io.KnownBytes.{Appends, Consumes}
 use Rattle.style_cli.specs.Loops.{LosesFront}
+use Rattle.style_cli.proofs.Fronts.{take_both}
 
 -- a front of n bytes, and m bytes of the rest, are a front of n + m bytes
 pub Appends-take-add : (a b c : Option (List ℕ)) (piece rest : List ℕ) (n m : ℕ) → rest ≡ drop n piece
@@ -14,16 +16,18 @@ Appends-take-add (Some x) (Some y) (Some z) piece rest n m is first second =
     second ∙ ap (λ l. l ++ take m rest) first ∙ append_assoc x (take n piece) (take m rest)
     ∙ ap (λ l. x ++ (take n piece ++ take m l)) is ∙ ap (λ l. x ++ l) (sym (take-add n m piece))
 
--- bytes that are read, and n bytes of the next read, are a front that is lost
-pub LosesFront-read : (a b c : Option (List ℕ)) (bytes buf : List ℕ) (n total : ℕ) → n ≤ length buf → total ≡ length bytes + n
-    → Consumes a b bytes → Consumes b c (take n buf) → LosesFront total a c
-LosesFront-read None b c bytes buf n total below is first second = tt
-LosesFront-read (Some x) None c bytes buf n total below is first second = absurd first
-LosesFront-read (Some x) (Some y) None bytes buf n total below is first second = absurd second
-LosesFront-read (Some x) (Some y) (Some z) bytes buf n total below is first second =
-    let front : List ℕ = bytes ++ take n buf in
-    let whole : x ≡ front ++ z = first ∙ ap (λ l. bytes ++ l) second ∙ sym (append_assoc bytes (take n buf) z) in
-    let long : length front ≡ total = length-append bytes (take n buf) ∙ ap (λ k. length bytes + k) (length-take-le n buf below) ∙ sym is in (
-      omega (arith, long, ap length whole, length-append front z),
-      ap Some (sym (ap (drop total) whole ∙ ap (λ k. drop k (front ++ z)) (sym long) ∙ drop-append_seam front z)),
-    )
+-- bytes that are read are a front that is lost
+pub LosesFront-read : (a b : Option (List ℕ)) (bytes : List ℕ) (n : ℕ) → length bytes ≡ n → Consumes a b bytes → LosesFront n a b
+LosesFront-read None b bytes n long read = tt
+LosesFront-read (Some x) None bytes n long read = absurd read
+LosesFront-read (Some x) (Some y) bytes n long read = (
+  omega (arith, long, ap length read, length-append bytes y),
+  ap Some (sym (ap (drop n) read ∙ ap (λ k. drop k (bytes ++ y)) (sym long) ∙ drop-append_seam bytes y)),
+)
+
+-- a list that was made longer, and its tail written by a read, up to the n bytes that came
+pub cut_after_read : (old longer new zeros rest : List ℕ) (start end n : ℕ) → start ≡ length old → start ≤ end → n ≤ length new
+    → longer ≡ take end old ++ zeros → take (start + n) (take start longer ++ (new ++ rest)) ≡ old ++ take n new
+cut_after_read old longer new zeros rest start end n all up fits e =
+    let front : take start longer ≡ old = rw (e, take_all end old (omega arith)) (take_at old zeros start (sym all)) in
+    rw (front, all, take_both old (new ++ rest) n) (ap (λ l. old ++ l) (take-append-le n new rest fits))

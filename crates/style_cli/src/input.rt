@@ -1,7 +1,8 @@
 //! Reads a source to its end, or to one byte past the limit of the input.
 
-ghost use Rattle.std.specs.Prelude.{◌+◌, ◌≤◌, length, IfOk, IsErrOf};
-ghost use Rattle.io_edges.specs.Cause.{HasCause};
+ghost use Rattle.std.specs.Prelude.{◌≡◌, ◌≢◌, ◌+◌, ◌<◌, ◌≤◌, ℕ, List, Option, length, vec_len, IfOk, IsErrOf, OnErr, OnOk};
+ghost use Rattle.std.specs.Io.KnownBytes.{Consumes, Keeps};
+ghost use Rattle.io_edges.specs.Cause.{EndsAtEnd, HasCause};
 ghost use Rattle.base_model.specs.Limits.{input_limit};
 ghost use Rattle.style_cli.specs.Loops.{IsReadWhole, LosesFront, LosesAtMost};
 
@@ -10,7 +11,7 @@ use std::alloc::{AllocError, Global};
 use stylo_base::limits::INPUT_LIMIT;
 
 /// The most bytes of one read.
-const PIECE: usize = 4096;
+const PIECE: usize = 65_536;
 
 /// Why there is no input.
 #[derive(Clone, Copy, Debug, PartialEq, Eq)]
@@ -47,6 +48,8 @@ impl From<AllocError> for Stop {
 
 /// All the bytes that the source has left, at most `INPUT_LIMIT`. It never reads more than one byte
 /// past the limit.
+// Not inlined, so that bench/profile can tell what it costs. So is `print_elements`.
+#[inline(never)]
 pub fn read_all<S: Source>(alloc: Global, source: &mut S) -> Result<Vec<u8>, Stop>
     ensures whole { IfOk result (λ bytes. IsReadWhole (S.left source.old) (S.left source.new) bytes.items) }
     ensures fits { IfOk result (λ bytes. length bytes.items ≤ input_limit) }
@@ -58,17 +61,37 @@ pub fn read_all<S: Source>(alloc: Global, source: &mut S) -> Result<Vec<u8>, Sto
     ensures cause { HasCause (S.faults source.old) (S.faults source.new) (IsErrOf result Stop.Fault) }
 {
     let mut found = Vec::new(alloc);
-    let mut buffer = [0u8; PIECE];
     'reading: loop {
         let room = PIECE.min(INPUT_LIMIT + 1 - found.len());
-        let piece = &mut buffer[..room];
-        let count = source.read(piece)?;
+        let count = read_piece(source, &mut found, room)?;
         if count == 0 {
             return Ok(found);
         }
-        if count > INPUT_LIMIT - found.len() {
+        if found.len() > INPUT_LIMIT {
             return Err(Stop::TooLong);
         }
-        found.extend_from_slice(&piece[..count])?;
     }
+}
+
+/// Appends what one read gives, at most `room` bytes, and says how many bytes that is: 0 at the end
+/// of the input alone. The source reads into the vector itself. After an error the vector is of no use.
+fn read_piece<S: Source>(source: &mut S, found: &mut Vec<u8>, room: usize) -> Result<usize, Stop>
+    requires some { 0 < room }
+    requires few { vec_len found.old + room ≤ input_limit + 1 }
+    ensures bound { IfOk result (λ count. count ≤ room) }
+    ensures grown { IfOk result (λ count. vec_len found.new ≡ vec_len found.old + count) }
+
+    // Where what was found is what the source had lost, it still is.
+    ensures read { (all : Option (List ℕ)) → Consumes all (S.left source.old) found.old.items
+        → OnOk result (Consumes all (S.left source.new) found.new.items) }
+    ensures err { OnErr result (Keeps (S.left source.old) (S.left source.new)) }
+    ensures reason { result ≢ Err Stop.TooLong }
+    ensures end { EndsAtEnd (S.left source.old) result }
+    ensures cause { HasCause (S.faults source.old) (S.faults source.new) (IsErrOf result Stop.Fault) }
+{
+    let start = found.len();
+    found.resize(start + room, 0)?;
+    let count = source.read(&mut found.as_mut_slice()[start..])?;
+    found.truncate(start + count);
+    Ok(count)
 }

@@ -1,14 +1,16 @@
 //! The text of a job, written a line at a time.
 
-ghost use Rattle.std.specs.Prelude.{◌≡◌, ◌≤◌, IsErrOf, OnErr, OnOk, encode_utf8_all, length, map};
+ghost use Rattle.std.specs.Prelude.{◌≡◌, ◌≤◌, IfOk, IsErrOf, OnErr, OnOk, encode_utf8_all, length, map};
 ghost use Rattle.std.specs.List.{flat_map};
 ghost use Rattle.std.specs.Io.KnownBytes.{Appends};
 ghost use Rattle.std.specs.Arc.{arc_value};
 ghost use Rattle.base_model.specs.Limits.{element_limit, sheet_limit};
 ghost use Rattle.io_edges.specs.Cause.{HasCause};
-ghost use Rattle.scene_model.specs.Lookups.{numbers};
-ghost use Rattle.sheet_model.specs.Sources.{Sources};
+ghost use Rattle.layer_order.specs.View.{sheets_of};
+ghost use Rattle.scene_model.specs.Lookups.{IsElement, numbers, tag_of};
+ghost use Rattle.sheet_model.specs.Sources.{Sources, sources_of};
 ghost use Rattle.cascade_model.specs.StyleOf.{style_of};
+ghost use Rattle.report_text.specs.Lines.{element_line};
 ghost use Rattle.sheet_set.specs.View.{sources_seen};
 ghost use Rattle.style_cli.specs.Loops.{GrewByFront};
 ghost use Rattle.style_cli.specs.Text.{line_at, text_by, text_of};
@@ -16,26 +18,36 @@ ghost use Rattle.style_cli.specs.Text.{line_at, text_by, text_of};
 use crate::writing::write_all;
 use dom_tree::Doc;
 use io_edges::{Sink, SinkRefused};
-use job_json::Job;
+use job_json::{Job, SheetList};
 use plain_style::style_all;
-use report_text::{batch_line, element_line};
+use report_text::{batch_line, push_element_line};
 use sheet_set::Sheets;
 use std::alloc::Global;
 use std::sync::Arc;
 use style_value::Style;
-use stylo_base::Text;
+use stylo_base::{NoMemory, Text};
 
-/// Writes the text of a job, each line as soon as it is made.
-pub fn print_job<K: Sink>(alloc: Global, job: &Job, sink: &mut K) -> Result<(), SinkRefused>
-    requires nodes { length job.now.nodes ≤ element_limit }
-    requires sheets { length job.now.sheets ≤ sheet_limit }
-    ensures ok { OnOk result (Appends (K.held sink.old) (K.held sink.new) (text_of job.now)) }
-    ensures err { OnErr result (GrewByFront (K.held sink.old) (K.held sink.new) (text_of job.now)) }
+/// Writes the text of a job, each line as soon as it is made. The document takes the nodes over, and
+/// the sheets are dropped once their rules are made.
+pub fn print_job<K: Sink>(alloc: Global, job: Job, sink: &mut K) -> Result<(), SinkRefused>
+    requires nodes { length job.nodes ≤ element_limit }
+    requires sheets { length job.sheets ≤ sheet_limit }
+    ensures ok { OnOk result (Appends (K.held sink.old) (K.held sink.new) (text_of job)) }
+    ensures err { OnErr result (GrewByFront (K.held sink.old) (K.held sink.new) (text_of job)) }
     ensures cause { HasCause (K.faults sink.old) (K.faults sink.new) (IsErrOf result SinkRefused.Failed) }
 {
-    let sheets = Sheets::start(alloc, job.sheets.as_slice())?;
-    let doc = Doc::start(alloc, &job.nodes)?;
-    print_styled(alloc, &doc, &sheets, sink)
+    let Job { nodes, sheets } = job;
+    let rules = rules_of(alloc, sheets)?;
+    let doc = Doc::of_list(alloc, nodes)?;
+    print_styled(alloc, &doc, &rules, sink)
+}
+
+/// The rules of the sheets, which are dropped.
+fn rules_of(alloc: Global, sheets: SheetList) -> Result<Sheets, NoMemory>
+    requires { length sheets ≤ sheet_limit }
+    ensures { IfOk result (λ rules. sources_seen rules ≡ sources_of (sheets_of sheets)) }
+{
+    Sheets::start(alloc, sheets.as_slice())
 }
 
 /// Writes the text of a document by the rules of its sheets.
@@ -51,14 +63,15 @@ fn print_styled<K: Sink>(
         (text_by doc.now.elements (sources_seen sheets.now))) }
     ensures cause { HasCause (K.faults sink.old) (K.faults sink.new) (IsErrOf result SinkRefused.Failed) }
 {
-    let order = doc.tree_order(alloc)?;
     let styles = style_all(alloc, doc, sheets)?;
+    let order = doc.in_tree_order();
     let count = order.len() as u64;
     write_line(sink, &batch_line(alloc, 0, 0, 0, count, count)?)?;
-    print_elements(alloc, doc, &order, &styles, sink)
+    print_elements(alloc, doc, order, &styles, sink)
 }
 
 /// Writes the line of each element, in tree order.
+#[inline(never)]
 fn print_elements<K: Sink>(
     alloc: Global,
     doc: &Doc,
@@ -79,13 +92,31 @@ fn print_elements<K: Sink>(
         (flat_map (λ x. encode_utf8_all (line_at doc.now.elements sources x)) order.now)) }
     ensures cause { HasCause (K.faults sink.old) (K.faults sink.new) (IsErrOf result SinkRefused.Failed) }
 {
+    let mut line = Text::new(alloc);
     for index in 0..order.len() {
-        let number = order[index];
-        let style: &Style = &styles[index];
-        let line = element_line(alloc, number, doc.tag(number), style)?;
-        write_line(sink, &line)?;
+        print_element(&mut line, doc, order[index], &styles[index], sink)?;
     }
     Ok(())
+}
+
+/// Writes the line of an element, made in the text that is lent for it.
+fn print_element<K: Sink>(
+    line: &mut Text,
+    doc: &Doc,
+    number: u32,
+    style: &Style,
+    sink: &mut K,
+) -> Result<(), SinkRefused>
+    requires { IsElement doc.now.elements number }
+    ensures ok { OnOk result (Appends (K.held sink.old) (K.held sink.new)
+        (encode_utf8_all (element_line number (tag_of doc.now.elements number) style.now))) }
+    ensures err { OnErr result (GrewByFront (K.held sink.old) (K.held sink.new)
+        (encode_utf8_all (element_line number (tag_of doc.now.elements number) style.now))) }
+    ensures cause { HasCause (K.faults sink.old) (K.faults sink.new) (IsErrOf result SinkRefused.Failed) }
+{
+    line.clear();
+    push_element_line(line, number, doc.tag(number), style)?;
+    write_line(sink, line)
 }
 
 /// Writes a line.

@@ -117,7 +117,7 @@ fn another_shape(rt: HostRuntime) -> Result<(), Fail> {
 }
 
 /// Whether an input that is longer than the limit gives this exit status, where one read fails. A
-/// read takes 4,096 bytes at most: the first 16,384 take the limit, and the next one a byte past it.
+/// read takes 65,536 bytes at most: the first 1,024 take the limit, and the next one a byte past it.
 fn past_the_limit<R: Threads + Sync + AllocGlobal>(
     rt: &R,
     failing: u64,
@@ -129,14 +129,14 @@ fn past_the_limit<R: Threads + Sync + AllocGlobal>(
 
 #[test]
 fn nothing_is_read_past_the_limit(rt: HostRuntime) -> Result<(), Fail> {
-    let refused = past_the_limit(&rt, 16_386, 5)?;
+    let refused = past_the_limit(&rt, 1_026, 5)?;
     assert!(rt; refused);
     Ok(())
 }
 
 #[test]
 fn the_read_at_the_limit_fails(rt: HostRuntime) -> Result<(), Fail> {
-    let failed = past_the_limit(&rt, 16_385, 1)?;
+    let failed = past_the_limit(&rt, 1_025, 1)?;
     assert!(rt; failed);
     Ok(())
 }

@@ -88,7 +88,7 @@ pub fn run<R: Threads + Sync, S: Source, K: Sink>(
         Ok(job) => job,
         Err(status) => return status,
     };
-    match print_job(alloc, &job, sink) {
+    match print_job(alloc, job, sink) {
         Ok(()) => Status::Done,
         Err(SinkRefused::Failed) => Status::WriteFault,
         Err(SinkRefused::NoMemory) => Status::NoMemory,

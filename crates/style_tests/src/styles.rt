@@ -1,8 +1,8 @@
 //! The style of every element.
 
-use dom_tree::{Attrs, Doc, NodeInput, NodeList, States};
+use dom_tree::{Doc, NodeInput, NodeList, States};
 use layer_order::Origin;
-use plain_style::style_all;
+use plain_style::{match_element, style_all};
 use property_table::{Color, PropId, Value};
 use sheet_set::{SheetInput, Sheets};
 use std::alloc::Global;
@@ -10,30 +10,44 @@ use std::test::Fail;
 use stylo_base::Text;
 
 /// A node with a tag alone.
-fn node(alloc: Global, tag: &str) -> Result<NodeInput, Fail> {
-    Ok(NodeInput {
-        tag: Text::of_str(alloc, tag)?,
-        attrs: Attrs::of_list(Vec::new(alloc)),
+fn node(tag: &str) -> NodeInput<'_> {
+    NodeInput {
+        tag,
+        attrs: &[],
         states: States::default(),
-    })
+    }
+}
+
+/// `html` over `p`.
+fn pair(alloc: Global) -> Result<Doc, Fail> {
+    let mut list = NodeList::of_root(alloc, node("html"))?;
+    list.push(0, node("p"))?;
+    Ok(Doc::of_list(alloc, list)?)
+}
+
+/// The rules of one sheet.
+fn rules(alloc: Global, origin: Origin, text: &str) -> Result<Sheets, Fail> {
+    let sheet = SheetInput {
+        origin,
+        enabled: true,
+        text: Text::of_str(alloc, text)?,
+    };
+    Ok(Sheets::start(alloc, &[sheet])?)
+}
+
+fn values(alloc: Global, doc: &Doc, sheets: &Sheets) -> Result<Vec<Value>, Fail> {
+    let mut colors = Vec::new(alloc);
+    for style in &style_all(alloc, doc, sheets)? {
+        colors.push(style.value(PropId::Color))?;
+    }
+    Ok(colors)
 }
 
 /// The colours of `html` and of `p` in it, by one author sheet.
 fn colors(alloc: Global, text: &str) -> Result<Vec<Value>, Fail> {
-    let mut list = NodeList::of_root(alloc, node(alloc, "html")?)?;
-    list.push(0, node(alloc, "p")?)?;
-    let sheet = SheetInput {
-        origin: Origin::Author,
-        enabled: true,
-        text: Text::of_str(alloc, text)?,
-    };
-    let doc = Doc::start(alloc, &list)?;
-    let sheets = Sheets::start(alloc, &[sheet])?;
-    let mut colors = Vec::new(alloc);
-    for style in &style_all(alloc, &doc, &sheets)? {
-        colors.push(style.value(PropId::Color))?;
-    }
-    Ok(colors)
+    let sheets = rules(alloc, Origin::Author, text)?;
+    let doc = pair(alloc)?;
+    values(alloc, &doc, &sheets)
 }
 
 fn opaque(red: u8, green: u8, blue: u8) -> Value {
@@ -58,5 +72,30 @@ fn of_a_rule(rt: HostRuntime) -> Result<(), Fail> {
     let colors = colors(rt.alloc(), "p{color:lime}*{color:red}")?;
     let wanted = [opaque(255, 0, 0), opaque(0, 255, 0)];
     assert_eq!(rt; colors.as_slice(), wanted.as_slice());
+    Ok(())
+}
+
+fn declared(alloc: Global, doc: &Doc, sheets: &Sheets) -> Result<Vec<(PropId, u64)>, Fail> {
+    let mut seen = Vec::new(alloc);
+    if doc.contains(1) {
+        for one in &match_element(alloc, doc, sheets, 1)? {
+            seen.push((one.declared.property, one.index))?;
+        }
+    }
+    Ok(seen)
+}
+
+/// What matches `html`, by one sheet of the user: each property, and its index in the sheet.
+fn matched(alloc: Global, text: &str) -> Result<Vec<(PropId, u64)>, Fail> {
+    let sheets = rules(alloc, Origin::User, text)?;
+    let doc = pair(alloc)?;
+    declared(alloc, &doc, &sheets)
+}
+
+#[test]
+fn what_matches(rt: HostRuntime) -> Result<(), Fail> {
+    let seen = matched(rt.alloc(), "p{clear:left}html{clear:both;color:red}")?;
+    let wanted = [(PropId::Clear, 1), (PropId::Color, 2)];
+    assert_eq!(rt; seen.as_slice(), wanted.as_slice());
     Ok(())
 }

@@ -2,7 +2,9 @@
 #![tactic(auto)]
 
 mod blockify;
+mod draft;
 mod style;
 
 pub use blockify::blockified;
+pub use draft::StyleDraft;
 pub use style::Style;

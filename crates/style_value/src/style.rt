@@ -1,20 +1,20 @@
 //! A style, which contracts see as the list of its values in the order of the table.
 
-ghost use Rattle.std.specs.Prelude.{◌≡◌, ◌<◌, ◌↔◌, Some, IfOk, IsTrue, length, slice_get, slice_set};
-ghost use Rattle.value_model.specs.Table.{display_property, table};
-ghost use Rattle.value_model.specs.Style.{blockified, inherited_part, initial_style, with_changed};
+ghost use Rattle.std.specs.Prelude.{◌≡◌, ◌↔◌, Some, IfOk, IsTrue, length, slice_get};
+ghost use Rattle.value_model.specs.Table.{table};
+ghost use Rattle.value_model.specs.Style.{inherited_part, initial_style};
 ghost use Rattle.property_table.specs.View.{property_of, value_of};
 
-use crate::blockified;
-use property_table::{COUNT, PropId, Row, Value};
+use crate::StyleDraft;
+use property_table::{COUNT, PropId, Value};
 use std::alloc::Global;
 use std::marker::Model;
 use stylo_base::NoMemory;
 
-/// A value for each property.
+/// A value for each property. It does not change: a `StyleDraft` does, and is finished as a style.
 #[derive(Debug, Drop)]
 pub struct Style {
-    values: [Value; COUNT],
+    pub(crate) values: [Value; COUNT],
 }
 
 impl Model for Style {
@@ -34,28 +34,18 @@ impl Model for Style {
 
 impl Style {
     /// The style in which each property has its initial value.
-    pub fn initial() -> Style
-        ensures { result ≡ initial_style }
+    pub fn initial(alloc: Global) -> Result<Style, NoMemory>
+        ensures { IfOk result (λ s. s ≡ initial_style) }
     {
-        Style {
-            values: std::array::from_fn(initial_at),
-        }
+        StyleDraft::initial().finish(alloc)
     }
 
     /// The style in which each inherited property keeps its value, and each other one has its
     /// initial value.
-    pub fn inherited_part(&self, _alloc: Global) -> Result<Style, NoMemory>
+    pub fn inherited_part(&self, alloc: Global) -> Result<Style, NoMemory>
         ensures { IfOk result (λ s. s ≡ inherited_part self.now) }
     {
-        let mut part = Style {
-            values: self.values,
-        };
-        for row in Row::all() {
-            if !row.inherited {
-                part.set(row.id, row.initial);
-            }
-        }
-        Ok(part)
+        StyleDraft::inheriting(self).finish(alloc)
     }
 
     /// The value of a property.
@@ -66,34 +56,10 @@ impl Style {
         self.values[id.row()]
     }
 
-    /// Gives a property a value.
-    pub fn set(&mut self, id: PropId, value: Value)
-        ensures { let values = slice_set self.old.values (property_of id) (value_of value) in
-            self.new ≡ record self.old { values = values } }
-    {
-        self.values[id.row()] = value;
-    }
-
     /// Whether the two have the same values.
     pub fn is_same(&self, other: &Style) -> bool
         ensures { IsTrue result ↔ (self.now ≡ other.now) }
     {
         self.values == other.values
     }
-
-    /// Makes the element a block.
-    pub fn blockify(&mut self)
-        ensures { self.new ≡ with_changed blockified display_property self.old }
-    {
-        let display = self.value(PropId::Display);
-        self.set(PropId::Display, blockified(display));
-    }
-}
-
-/// The initial value of the property of a row of the table.
-fn initial_at(row: usize) -> Value
-    requires { row < COUNT }
-    ensures { slice_get initial_style.values row ≡ Some (value_of result) }
-{
-    Row::all()[row].initial
 }

@@ -1,8 +1,8 @@
-use Rattle.std.proofs.Common.{◌≡◌, ◌↔◌, ℕ, suc, ◌+◌, ◌<◌, ◌^◌, Bool, true, false, not, cond, ◌||◌, List, [], ◌∷◌, ◌++◌, Option, Some, None, Contains, IsSome, is_some, length, map, get_or, slice_get, nat_lt, ltb-true, sym, ap, ◌∙◌, subst, inl, inr, ◌⊎◌, refl, arith}
+use Rattle.std.proofs.Common.{◌≡◌, ◌↔◌, ℕ, suc, ◌+◌, ◌<◌, ◌^◌, Bool, true, false, not, cond, ◌||◌, List, [], ◌∷◌, ◌++◌, Option, Some, None, Contains, IsSome, is_some, length, map, get_or, slice_get, encode_utf8_all, nat_lt, ltb-true, sym, ap, ◌∙◌, subst, inl, inr, ◌⊎◌, refl, arith}
 use Rattle.std.proofs.lemmas.Bool.{not-false}
 use Rattle.std.specs.Bool.{Decides}
 use Rattle.indexmap.specs.IndexSet.{insert_key}
-use Rattle.std.specs.List.{list_any, position, prefix_len}
+use Rattle.std.specs.List.{AllZip, list_any, position, prefix_len}
 use Rattle.std.specs.Str.{chars, bytes_eq, IsUtf8}
 use Rattle.std.specs.declared.string.String.{String}
 use Rattle.std.specs.String.{string_bytes, string_eq}
@@ -14,10 +14,11 @@ use Rattle.std.proofs.lemmas.List.{map_push, length-map, length_push}
 use Rattle.std.proofs.lemmas.List.Sums.{prefix_len_stops}
 use Rattle.std.proofs.lemmas.Option.{slice_get-get_or, slice_get_within, get_or_from_slice_get}
 use Rattle.std.proofs.lemmas.Slice.Eq.{bytes_eq-Decides}
-use Rattle.std.proofs.lemmas.Str.{IsUtf8-string_bytes}
+use Rattle.std.proofs.lemmas.Str.{IsUtf8-string_bytes, encodes-chars}
 use Rattle.base_model.proofs.Lists.{get_push_below, get_push_last}
 use Rattle.stylo_base.proofs.TextLemmas.{same_test}
-use Rattle.stylo_base.specs.NameList.{is_among, interned, StandOnce, AreNamed}
+use Rattle.stylo_base.specs.NameKey.{key_of}
+use Rattle.stylo_base.specs.NameList.{is_among, interned, StandOnce, AreNamed, AreKeyed}
 
 -- the characters of each key
 abbrev pub seen : {Z : Type 0} → List (String Z) → List (List ℕ)
@@ -144,10 +145,25 @@ pub interned_new : (text : List ℕ) (old new : List (List ℕ)) → new ≡ old
 interned_new text old new e absent = e ∙ sym (cond-false (is_among text old) old (old ++ text ∷ []) absent)
 
 -- the longer list is still one of names
-pub AreNamed-push : (text : List ℕ) (old new : List (List ℕ)) → new ≡ old ++ text ∷ [] → is_among text old ≡ false → StandOnce old → length old < 2 ^ 32 → AreNamed new
+AreNamed-push : (text : List ℕ) (old new : List (List ℕ)) → new ≡ old ++ text ∷ [] → is_among text old ≡ false → StandOnce old → length old < 2 ^ 32 → AreNamed new
 AreNamed-push text old new e absent once few =
     subst AreNamed (sym e) (record { once = StandOnce-push old text once absent; few = omega (arith, length_push old text) })
+
+-- the longer lists are still those of names and keys
+pub AreKeyed-push : (text : List ℕ) → IsUtf8 text → (old new : List (List ℕ)) (keys more : List ℕ) → new ≡ old ++ chars text ∷ [] → more ≡ keys ++ key_of text ∷ [] → is_among (chars text) old ≡ false → length old < 2 ^ 32 → AreKeyed old keys → AreKeyed new more
+AreKeyed-push text u old new keys more e k absent few kept =
+    let key = λ (t : List ℕ). key_of (encode_utf8_all t) in
+    let added : key_of text ≡ key (chars text) = ap key_of (sym (encodes-chars text u)) in
+    let all : more ≡ map key new = k ∙ (ap (λ n. keys ++ n ∷ []) added ∙ (ap (λ ks. ks ++ key (chars text) ∷ []) kept.keyed ∙ (sym (map_push key old (chars text)) ∙ ap (map key) (sym e)))) in
+    record { named = AreNamed-push (chars text) old new e absent kept.named.once few; keyed = all }
 
 -- there are as many texts as keys
 pub count-seen : {Z : Type 0} (keys : List (String Z)) (now : List (List ℕ)) (n : ℕ) → n ≡ length keys → seen keys ≡ now → n ≡ length now
 count-seen keys now n e v = e ∙ (sym (length-map keys (λ s. chars (string_bytes s))) ∙ ap (length {A = List ℕ}) v)
+
+-- copies of the keys have the same characters
+pub seen-clones : {Z : Type 0} (keys news : List (String Z)) → AllZip (λ s t. string_bytes t ≡ string_bytes s) keys news → seen news ≡ seen keys
+seen-clones [] [] h = refl
+seen-clones [] (t ∷ ts) h = absurd h
+seen-clones (s ∷ ss) [] h = absurd h
+seen-clones (s ∷ ss) (t ∷ ts) h = let rest = seen-clones ss ts h.1 in rw (h.0, rest) refl

@@ -1,7 +1,8 @@
 -- Names and their texts.
-use Rattle.std.specs.Prelude.{◌≡◌, ℕ, ◌≤◌, ◌^◌, Bool, List, [], ◌∷◌, ◌++◌, if◌then◌else◌, Some, length, slice_get}
+use Rattle.std.specs.Prelude.{◌≡◌, ℕ, ◌≤◌, ◌^◌, Bool, List, [], ◌∷◌, ◌++◌, if◌then◌else◌, Some, encode_utf8_all, length, map, slice_get}
 use Rattle.std.specs.List.{list_any}
 use Rattle.std.specs.Str.{bytes_eq}
+use Rattle.stylo_base.specs.NameKey.{key_of}
 
 -- the text is among the texts
 abbrev pub is_among : List ℕ → List (List ℕ) → Bool
@@ -19,3 +20,8 @@ StandOnce texts = (i j : ℕ) (text : List ℕ) → slice_get texts i ≡ Some t
 pub record AreNamed (texts : List (List ℕ)) : Type 0 where
   pub once : StandOnce texts
   pub few : length texts ≤ 2 ^ 32
+
+-- the names, and the key of each
+pub record AreKeyed (texts : List (List ℕ)) (keys : List ℕ) : Type 0 where
+  pub named : AreNamed texts
+  pub keyed : keys ≡ map (λ text. key_of (encode_utf8_all text)) texts

@@ -3,10 +3,12 @@
 #![tactic(auto)]
 
 mod ascii_case;
+mod atom;
 mod fixed;
 pub mod laws;
 pub mod limits;
 mod memory;
+mod name_key;
 mod names;
 mod path_text;
 mod refusal;
@@ -15,6 +17,7 @@ mod state;
 mod text;
 
 pub use ascii_case::eq_ascii_case;
+pub use atom::Atom;
 pub use fixed::Fixed;
 pub use memory::NoMemory;
 pub use names::{Name, Names};

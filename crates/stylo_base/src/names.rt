@@ -1,10 +1,12 @@
 //! Names: each text that is used as a name is kept once, and known by its index.
 
-ghost use Rattle.std.specs.Prelude.{◌≡◌, ◌↔◌, ◌<◌, ◌≤◌, ◌^◌, ℕ, [], Contains, IfOk, IfSome, IsOk, IsSome, IsTrue, OnErr, OnOk, Some, is_some, length, slice_get};
+ghost use Rattle.std.specs.Prelude.{◌≡◌, ◌↔◌, ◌<◌, ◌≤◌, ◌^◌, ℕ, [], Contains, IfOk, IfSome, IsOk, IsSome, IsTrue, OnErr, OnOk, Some, encode_utf8_all, is_some, length, slice_get, unwrap_or};
 ghost use Rattle.std.specs.Str.{chars};
+ghost use Rattle.base_model.specs.Text.{same_text};
+ghost use Rattle.stylo_base.specs.NameKey.{key_of};
 ghost use Rattle.stylo_base.specs.NameList.{StandOnce, interned, is_among};
 
-use crate::NoMemory;
+use crate::{Atom, NoMemory, name_key};
 use indexmap::IndexSet;
 use std::alloc::Global;
 use std::marker::Model;
@@ -28,24 +30,35 @@ impl Model for Name {
     ghost inverse = { λ n. record { index = n } };
 }
 
-/// The texts that have names. Contracts see them as lists of characters, in the order of first
-/// use; no text is there twice.
+impl Name {
+    /// Its index in the order of first use, from 0.
+    #[inline]
+    pub fn index(self) -> usize
+        ensures { result ≡ self }
+    {
+        self.index as usize
+    }
+}
+
+/// The texts that have names, and the key of each. Contracts see the texts as lists of characters, in
+/// the order of first use; no text is there twice.
 #[derive(Drop)]
 pub struct Names {
     texts: IndexSet<String>,
+    keys: Vec<u64>,
 }
 
 impl Model for Names {
     ghost use Rattle.std.specs.Prelude.{List, ℕ, map as mapped};
     ghost use Rattle.std.specs.Str.{chars};
     ghost use Rattle.std.specs.String.{string_bytes};
-    ghost use Rattle.stylo_base.specs.NameList.{AreNamed};
+    ghost use Rattle.stylo_base.specs.NameList.{AreKeyed};
 
     ghost Value = { List (List ℕ) };
 
     ghost view = { λ n. mapped (λ s. chars (string_bytes s)) n.texts.keys };
 
-    ghost invariant = { λ n. AreNamed (mapped (λ s. chars (string_bytes s)) n.texts.keys) };
+    ghost invariant = { λ n. AreKeyed (mapped (λ s. chars (string_bytes s)) n.texts.keys) n.keys.items };
 }
 
 impl Names {
@@ -55,6 +68,7 @@ impl Names {
     {
         Names {
             texts: IndexSet::new(alloc),
+            keys: Vec::new(alloc),
         }
     }
 
@@ -104,7 +118,9 @@ impl Names {
             return Err(NoMemory);
         }
         let kept = String::from_str(*self.texts.allocator(), text)?;
+        self.keys.reserve(1)?;
         self.texts.insert(kept)?;
+        self.keys.push(name_key::key_of(text.as_bytes()))?;
         Ok(Name {
             index: index as u32,
         })
@@ -116,5 +132,34 @@ impl Names {
         ensures { slice_get self.now name ≡ Some (chars result.now) }
     {
         self.texts.as_slice()[name.index as usize].as_str()
+    }
+
+    /// The key of a name that this `Names` gave: that of its text.
+    #[inline]
+    pub fn key(&self, name: Name) -> u64
+        requires { name < length self.now }
+        ensures { result ≡ key_of (encode_utf8_all (unwrap_or (slice_get self.now name) [])) }
+    {
+        self.keys[name.index as usize]
+    }
+
+    /// Whether a name that this `Names` gave is that of the atom's text. Most others are told apart by
+    /// their keys.
+    #[inline]
+    pub fn is_atom(&self, name: Name, atom: &Atom) -> bool
+        requires { name < length self.now }
+        ensures { result ≡ same_text (unwrap_or (slice_get self.now name) []) atom.now }
+    {
+        self.key(name) == atom.key() && self.text(name) == atom.as_str()
+    }
+
+    /// Other `Names` of the same texts, whose names are the same.
+    pub fn copy(&self, alloc: Global) -> Result<Names, NoMemory>
+        ensures { IfOk result (λ n. n ≡ self.now) }
+    {
+        Ok(Names {
+            texts: self.texts.clone()?,
+            keys: Vec::from_slice(alloc, &self.keys)?,
+        })
     }
 }

@@ -60,6 +60,13 @@ impl Text {
         self.inner.as_str()
     }
 
+    /// Makes the text empty, and keeps its room for what is appended next.
+    pub fn clear(&mut self)
+        ensures { self.new ≡ [] }
+    {
+        self.inner.clear();
+    }
+
     /// Appends `text`.
     pub fn push_str(&mut self, text: &str) -> Result<(), NoMemory>
         ensures ok { OnOk result (self.new ≡ self.old ++ chars text.now) }

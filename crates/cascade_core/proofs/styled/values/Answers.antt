@@ -11,7 +11,7 @@ use Rattle.cascade_core.proofs.styled.values.Goals.{in-EndsAt, in_default}
 pub loop-row-init : goal.loop-row-init
 loop-row-init c = record {
   long = length-values (map matched_of (c.args.matched.now ++ c.args.attached.now)) c.args.parent.now.values;
-  filled = ap (λ (s : Style). s.values) c.in_ok-style.ensures;
+  filled = ap (λ (s : Style). s.values) c.inheriting-draft.ensures;
 }
 
 pub loop-row-preserved : goal.loop-row-preserved
@@ -21,8 +21,8 @@ loop-row-preserved c =
     let within = c.loop-row-test.true in
     let ends = c.ending.ensures ds c.among-winners.ensures in
     elim c.match-ending.branch [
-      | in-EndsAt w ↦ sets_one ds c.args.parent.now.values _ _ _ rows.rows rows.order within _ _ _ _ (sym ends ∙ ap ending_seen w.in-EndsAt.is) w.computed_of.ensures (w.style-is ∙ w.set.ensures) c.loop-row.invariant
-      | in_default w ↦ unsets_one ds c.args.parent.now.values _ _ _ rows.rows rows.order within _ _ (sym ends ∙ ap ending_seen w.in_default.is) w.style-is c.loop-row.invariant
+      | in-EndsAt w ↦ sets_one ds c.args.parent.now.values _ _ _ rows.rows rows.order within _ _ _ _ (sym ends ∙ ap ending_seen w.in-EndsAt.is) w.computed_of.ensures (w.draft-is ∙ w.set.ensures) c.loop-row.invariant
+      | in_default w ↦ unsets_one ds c.args.parent.now.values _ _ _ rows.rows rows.order within _ _ (sym ends ∙ ap ending_seen w.in_default.is) w.draft-is c.loop-row.invariant
     ]
 
 pub returns : goal.returns

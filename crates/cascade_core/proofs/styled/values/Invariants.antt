@@ -4,4 +4,4 @@ use Rattle.cascade_core.proofs.FilledLemmas.{IsPartly}
 use Rattle.cascade_core.proofs.styled.values.Given as goal
 
 abbrev pub invariant-loop-row : goal.invariant-loop-row
-invariant-loop-row l = IsPartly (map matched_of (l.matched ++ l.attached)) l.parent.values l.style.values l.row-index
+invariant-loop-row l = IsPartly (map matched_of (l.fn.matched ++ l.fn.attached)) l.parent.values l.draft.values l.row-index

@@ -14,12 +14,12 @@ of_property id = declares_longhand (property_of id)
 
 pub returns-in_default : goal.returns-in_default
 returns-in_default c = λ ds wins.
-    winner_first (of_property c.args.d.now.property) ds (matched_of c.args.d.now) (eq-eqb _ _ refl) (wins ∙ ap (λ best. option_map matched_of (option_copied best)) c.in_default.is)
+    winner_first (of_property c.args.d.now.declared.now.property) ds (matched_of c.args.d.now) (eq-eqb _ _ refl) (wins ∙ ap (λ best. option_map matched_of (option_copied best)) c.in_default.is)
 
 pub returns-then-is_lt : goal.returns-then-is_lt
 returns-then-is_lt c = λ ds wins.
-    winner_greater (of_property c.args.d.now.property) ds (matched_of c.args.d.now) (matched_of c.in-Some.winner.now) (eq-eqb _ _ refl) (wins ∙ ap (λ best. option_map matched_of (option_copied best)) c.in-Some.is) (ap is_lt (sym c.compare.ensures) ∙ (sym c.is_lt.ensures ∙ c.if-is_lt.true))
+    winner_greater (of_property c.args.d.now.declared.now.property) ds (matched_of c.args.d.now) (matched_of c.in-Some.winner.now) (eq-eqb _ _ refl) (wins ∙ ap (λ best. option_map matched_of (option_copied best)) c.in-Some.is) (ap is_lt (sym c.compare.ensures) ∙ (sym c.is_lt.ensures ∙ c.if-is_lt.true))
 
 pub returns-else-is_lt : goal.returns-else-is_lt
 returns-else-is_lt c = λ ds wins.
-    winner_stays (of_property c.args.d.now.property) ds (matched_of c.args.d.now) (matched_of c.in-Some.winner.now) (eq-eqb _ _ refl) (wins ∙ ap (λ best. option_map matched_of (option_copied best)) c.in-Some.is) (ap is_lt (sym c.compare.ensures) ∙ (sym c.is_lt.ensures ∙ c.if-is_lt.false))
+    winner_stays (of_property c.args.d.now.declared.now.property) ds (matched_of c.args.d.now) (matched_of c.in-Some.winner.now) (eq-eqb _ _ refl) (wins ∙ ap (λ best. option_map matched_of (option_copied best)) c.in-Some.is) (ap is_lt (sym c.compare.ensures) ∙ (sym c.is_lt.ensures ∙ c.if-is_lt.false))

@@ -1,29 +1,31 @@
 use Rattle.std.proofs.Common.{◌≡◌, ◌++◌, ◌∷◌, [], ◌<◌, ◌^◌, length, false, slice_get, sym, ap, ◌∙◌, subst, arith}
 use Rattle.std.specs.Option.{is_some}
 use Rattle.std.specs.Str.{chars}
-use Rattle.stylo_base.specs.NameList.{is_among, StandOnce}
+use Rattle.stylo_base.specs.NameList.{is_among, StandOnce, AreKeyed}
 use Rattle.base_model.proofs.Lists.{get_push_below, get_push_last}
-use Rattle.stylo_base.proofs.NameLemmas.{seen, seen_push, count-seen, interned_new, AreNamed-push, StandOnce-push}
+use Rattle.stylo_base.proofs.NameLemmas.{seen, seen_push, count-seen, interned_new, AreKeyed-push, StandOnce-push}
 use Rattle.stylo_base.proofs.names.Names.intern.Goals as goal
 
 -- the text was not there
-absent : (c : goal.In_ok-insert) → is_among (chars c.args.text.now) c.args.self.now ≡ false
+absent : (c : goal.In_ok-push) → is_among (chars c.args.text.now) c.args.self.now ≡ false
 absent c = sym c.find.ensures.there ∙ ap is_some c.in_default.is
 
 -- the list is longer by the text
-longer : (c : goal.In_ok-insert) → seen c.insert.new.self.keys ≡ c.args.self.now ++ chars c.args.text.now ∷ []
+longer : (c : goal.In_ok-push) → seen c.insert.new.self.keys ≡ c.args.self.now ++ chars c.args.text.now ∷ []
 longer c =
     seen_push c.args.text.now c.utf8.text c.self.inside.texts.keys c.insert.new.self.keys c.in_ok-kept.kept c.args.self.now c.in_ok-kept.ensures.ok c.in_ok-insert.ensures.keys c.self.view_is (absent c)
 
 -- the index is the old length
-at_end : (c : goal.In_ok-insert) → c.len-index.result ≡ length c.args.self.now
+at_end : (c : goal.In_ok-push) → c.len-index.result ≡ length c.args.self.now
 at_end c =
     count-seen c.self.inside.texts.keys c.args.self.now c.len-index.result c.len-index.ensures.len c.self.view_is
 
 pub invariant_of-self-2 : goal.invariant_of-self-2
 invariant_of-self-2 c =
     let few : length c.args.self.now < 2 ^ 32 = omega (arith, at_end c) in
-    AreNamed-push (chars c.args.text.now) c.args.self.now _ (longer c) (absent c) c.find.ensures.distinct few
+    let kept = subst (λ ts. AreKeyed ts c.self.inside.keys.items) c.self.view_is c.self.invariant in
+    let keys = rw (c.in_ok-reserve.ensures.items, c.key_of.ensures, c.as_bytes.ensures.value) at c.in_ok-push.ensures.items in
+    AreKeyed-push c.args.text.now c.utf8.text c.args.self.now _ c.self.inside.keys.items _ (longer c) keys (absent c) few kept
 
 pub returns-clause-index : goal.returns-clause-index
 returns-clause-index c =

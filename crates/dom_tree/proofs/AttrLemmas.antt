@@ -1,0 +1,212 @@
+-- The rows of the attributes of a node: what one more makes of them, and of the map that they stand for.
+use Rattle.std.proofs.Common.{◌≡◌, ℕ, ◌+◌, ◌<◌, ◌==◌, Bool, true, false, cond, nat_lt, List, [], ◌∷◌, ◌++◌, map, length, find, drop, get_or, Option, Some, None, IfSome, option_map, slice_get, sym, ap, ◌∙◌, subst, refl, arith}
+use Rattle.std.specs.Cmp.Lexicographic.{slice_cmp}
+use Rattle.std.specs.FinMap as finmap
+use Rattle.std.specs.List.{AllByRecursion}
+use Rattle.std.specs.Ordering.{nat_cmp, eq_by_cmp}
+use Rattle.std.proofs.lemmas.Bool.{false≢true, false_from_ne_true, cond-false, eqb-true, ltb-true, ltb-false, eqb-false, eq-eqb}
+use Rattle.std.proofs.lemmas.Bool.Decides.{same_from_decides}
+use Rattle.std.proofs.lemmas.Cmp.{nat_list_cmp_total}
+use Rattle.stylo_base.specs.NameList.{StandOnce, is_among}
+use Rattle.stylo_base.proofs.NameLemmas.{is_among-Decides}
+use Rattle.scene_model.specs.Element.{Characters, Attributes}
+use Rattle.scene_model.proofs.Lists.{each_weaker}
+use Rattle.dom_tree.specs.declared.columns.AttrRow.{AttrRow}
+use Rattle.dom_tree.specs.Kept.{text_of, named_pair, named_attributes, put_row, AreAttrs, KeepsTexts}
+use Rattle.dom_tree.specs.declared.nodes.Attr.{Attr}
+use Rattle.dom_tree.specs.View.{pair_of, attributes_of}
+use Rattle.dom_tree.proofs.NameLemmas.{tied-Decides, text_at, same_name, below_more_names, text_kept, text_is, KeepsTexts-more}
+use Rattle.std.specs.Str.{chars}
+use Rattle.base_model.specs.Text.{same_text}
+use Rattle.std.proofs.lemmas.Slice.Eq.{bytes_eq-Decides}
+use Rattle.std.proofs.lemmas.List.{map-append, drop_more}
+use Rattle.std.proofs.lemmas.Option.{slice_get_within, get_or_from_slice_get}
+
+abbrev found : Characters → List (Characters × Characters) → Option Characters
+found q pairs = finmap.find (slice_cmp nat_cmp) q pairs
+
+abbrev ties : Characters → Characters → Bool
+ties q text = eq_by_cmp (slice_cmp nat_cmp) q text
+
+swapped : {X : Type 0} (a b : Bool) (x y z : X) → (a ≡ true → b ≡ true → ⊥) → cond a x (cond b y z) ≡ cond b y (cond a x z)
+swapped true true x y z apart = absurd (apart refl refl)
+swapped true false x y z apart = refl
+swapped false b x y z apart = refl
+
+hidden : {X : Type 0} (b : Bool) (x y z : X) → cond b x z ≡ cond b x (cond b y z)
+hidden true x y z = refl
+hidden false x y z = refl
+
+-- a text finds its value among the rows after one more, and else what it found before
+put_found : (names : List Characters) (name value : ℕ) (rows : List AttrRow) (q : Characters) → StandOnce names → name < length names → AreAttrs names rows → found q (map (named_pair names) (put_row name value rows)) ≡ cond (ties q (text_of names name)) (Some (text_of names value)) (found q (map (named_pair names) rows))
+put_found names name value [] q once l are = refl
+put_found names name value (row ∷ rows) q once l are = by_order (put_found names name value rows q once l are.2) (nat_lt row.name name) (row.name == name) refl refl
+  where
+    rest : Option Characters
+    rest = found q (map (named_pair names) rows)
+
+    by_order : found q (map (named_pair names) (put_row name value rows)) ≡ cond (ties q (text_of names name)) (Some (text_of names value)) rest → (a b : Bool) → nat_lt row.name name ≡ a → (row.name == name) ≡ b → found q (map (named_pair names) (cond a (row ∷ put_row name value rows) (cond b (record { name = name; value = value } ∷ rows) (record { name = name; value = value } ∷ row ∷ rows)))) ≡ cond (ties q (text_of names name)) (Some (text_of names value)) (found q (map (named_pair names) (row ∷ rows)))
+    by_order later true b below same =
+        ap (λ o. cond (ties q (text_of names row.name)) (Some (text_of names row.value)) o) later
+        ∙ swapped (ties q (text_of names row.name)) (ties q (text_of names name)) _ _ rest
+        (λ e f. let g : row.name ≡ name = same_name names row.name name once are.0.0 l (sym ((tied-Decides q (text_of names row.name)).0 e) ∙ (tied-Decides q (text_of names name)).0 f) in absurd (omega (arith, ltb-true row.name name below)))
+    by_order later false true below same =
+        hidden (ties q (text_of names name)) _ (Some (text_of names row.value)) rest
+        ∙ ap (λ n. cond (ties q (text_of names name)) (Some (text_of names value)) (cond (ties q (text_of names n)) (Some (text_of names row.value)) rest)) (sym (eqb-true row.name name same))
+    by_order later false false below same = refl
+
+pub named_put : (names : List Characters) (name value : ℕ) (rows : List AttrRow) → StandOnce names → name < length names → AreAttrs names rows → named_attributes names (put_row name value rows) ≡ finmap.insert (named_attributes names rows) (text_of names name) (text_of names value)
+named_put names name value rows once l are =
+    finmap.same_map nat_list_cmp_total (finmap.slice_cmp-IsAntisymmetric finmap.nat_cmp-IsAntisymmetric) _ _
+    (λ q. finmap.get-from_entries nat_list_cmp_total (map (named_pair names) (put_row name value rows)) q
+    ∙ (put_found names name value rows q once l are
+    ∙ sym (finmap.get-insert nat_list_cmp_total (named_attributes names rows) (text_of names name) (text_of names value) q
+    ∙ ap (cond (ties q (text_of names name)) (Some (text_of names value))) (finmap.get-from_entries nat_list_cmp_total (map (named_pair names) rows) q))))
+
+-- the rows stay sorted
+
+before_put : (low name value : ℕ) (rows : List AttrRow) → low < name → AllByRecursion (λ other. low < other.name) rows → AllByRecursion (λ other. low < other.name) (put_row name value rows)
+before_put low name value [] l each = (l, tt)
+before_put low name value (row ∷ rows) l each = by_order (before_put low name value rows l each.1) (nat_lt row.name name) (row.name == name)
+  where
+    by_order : AllByRecursion (λ other. low < other.name) (put_row name value rows) → (a b : Bool) → AllByRecursion (λ other. low < other.name) (cond a (row ∷ put_row name value rows) (cond b (record { name = name; value = value } ∷ rows) (record { name = name; value = value } ∷ row ∷ rows)))
+    by_order later true b = (each.0, later)
+    by_order later false true = (l, each.1)
+    by_order later false false = (l, each)
+
+pub AreAttrs-put : (names : List Characters) (name value : ℕ) (rows : List AttrRow) → name < length names → value < length names → AreAttrs names rows → AreAttrs names (put_row name value rows)
+AreAttrs-put names name value [] l m are = ((l, m), tt, tt)
+AreAttrs-put names name value (row ∷ rows) l m are = by_order (AreAttrs-put names name value rows l m are.2) (nat_lt row.name name) (row.name == name) refl refl
+  where
+    by_order : AreAttrs names (put_row name value rows) → (a b : Bool) → nat_lt row.name name ≡ a → (row.name == name) ≡ b → AreAttrs names (cond a (row ∷ put_row name value rows) (cond b (record { name = name; value = value } ∷ rows) (record { name = name; value = value } ∷ row ∷ rows)))
+    by_order later true b below same = (are.0, before_put row.name name value rows (ltb-true row.name name below) are.1, later)
+    by_order later false true below same = ((l, m), subst (λ n. AllByRecursion (λ (other : AttrRow). n < other.name) rows) (eqb-true row.name name same) are.1, are.2)
+    by_order later false false below same =
+        let above : name < row.name = omega (arith, ltb-false row.name name below, eqb-false row.name name same) in
+        ((l, m), (above, each_weaker (λ (other : AttrRow). row.name < other.name) (λ other. name < other.name) (λ other h. omega arith) rows are.1), are)
+
+-- more names
+
+pub AreAttrs-more : (old new : List Characters) (rows : List AttrRow) → KeepsTexts old new → AreAttrs old rows → AreAttrs new rows
+AreAttrs-more old new [] kept are = tt
+AreAttrs-more old new (row ∷ rows) kept are =
+    ((below_more_names old new row.name kept are.0.0, below_more_names old new row.value kept are.0.1), are.1, AreAttrs-more old new rows kept are.2)
+
+pub attributes_kept : (old new : List Characters) (rows : List AttrRow) → KeepsTexts old new → AreAttrs old rows → named_attributes new rows ≡ named_attributes old rows
+attributes_kept old new rows kept are = ap (λ pairs. finmap.from_entries pairs) (pairs_kept rows are)
+  where
+    pairs_kept : (rows : List AttrRow) → AreAttrs old rows → map (named_pair new) rows ≡ map (named_pair old) rows
+    pairs_kept [] are = refl
+    pairs_kept (row ∷ rows) are = λ i. (text_kept old new row.name kept are.0.0 i, text_kept old new row.value kept are.0.1 i) ∷ pairs_kept rows are.2 i
+
+-- a list of attributes that is read from its end
+
+abbrev pub over : List (Characters × Characters) → Attributes → Attributes
+over [] found = found
+over (pair ∷ pairs) found = finmap.insert (over pairs found) pair.0 pair.1
+
+pub over-empty : (pairs : List (Characters × Characters)) → over pairs finmap.empty ≡ finmap.from_entries pairs
+over-empty [] = refl
+over-empty (pair ∷ pairs) = ap (λ m. finmap.insert m pair.0 pair.1) (over-empty pairs)
+
+pub over-last : (pairs : List (Characters × Characters)) (pair : Characters × Characters) (found : Attributes) → over (pairs ++ pair ∷ []) found ≡ over pairs (finmap.insert found pair.0 pair.1)
+over-last [] pair found = refl
+over-last (first ∷ pairs) pair found = ap (λ m. finmap.insert m first.0 first.1) (over-last pairs pair found)
+
+-- the rows after one more attribute, whose name and value got names
+module _ (first old mid new : List Characters) (rows later : List AttrRow) (name value : ℕ) (attr : Attr) (before : KeepsTexts first old) (kept : KeepsTexts old mid) (also : KeepsTexts mid new) (once : StandOnce new) (is_name : slice_get mid name ≡ Some (chars attr.name.now)) (is_value : slice_get new value ≡ Some (chars attr.value.now)) (are : AreAttrs old rows) (e : later ≡ put_row name value rows) where
+  grown : KeepsTexts old new
+  grown = KeepsTexts-more old mid new kept also
+
+  name_below : name < length new
+  name_below = below_more_names mid new name also (slice_get_within mid name (chars attr.name.now) is_name)
+
+  are_now : AreAttrs new rows
+  are_now = AreAttrs-more old new rows grown are
+
+  pub next_rows : AreAttrs new later
+  next_rows = subst (AreAttrs new) (sym e) (AreAttrs-put new name value rows name_below (slice_get_within new value (chars attr.value.now) is_value) are_now)
+
+  pub next_kept : KeepsTexts first new
+  next_kept = KeepsTexts-more first old new before grown
+
+  next_map : named_attributes new later ≡ finmap.insert (named_attributes old rows) (chars attr.name.now) (chars attr.value.now)
+  next_map =
+      ap (named_attributes new) e ∙ (named_put new name value rows once name_below are_now
+      ∙ λ i. finmap.insert (attributes_kept old new rows grown are i) (text_is new name (chars attr.name.now) (also name (slice_get_within mid name (chars attr.name.now) is_name) ∙ is_name) i) (text_is new value (chars attr.value.now) is_value i))
+
+  pub next_over : (attrs : Attributes) (rest before_it : List Attr) → before_it ≡ rest ++ attr ∷ [] → over (map pair_of before_it) (named_attributes old rows) ≡ attrs → over (map pair_of rest) (named_attributes new later) ≡ attrs
+  next_over attrs rest before_it shorter is =
+      ap (over (map pair_of rest)) next_map ∙ (sym (over-last (map pair_of rest) (pair_of attr) (named_attributes old rows)) ∙ (ap (λ l. over l (named_attributes old rows)) (sym (map-append pair_of rest (attr ∷ [])) ∙ ap (map pair_of) (sym shorter)) ∙ is))
+
+-- no rows yet, and all attributes ahead
+pub over-none : (names : List Characters) (rows : List AttrRow) (attrs rest : List Attr) → rows ≡ [] → rest ≡ attrs → over (map pair_of rest) (named_attributes names rows) ≡ attributes_of attrs
+over-none names rows attrs rest e f = λ i. (ap (λ l. over (map pair_of rest) (named_attributes names l)) e ∙ (over-empty (map pair_of rest) ∙ ap attributes_of f)) i
+
+-- look-ups
+
+kept_value : {V : Type 0} (b : Bool) (x : V) (o : Option V) (rows : Option AttrRow) (row : AttrRow) (f : ℕ → V) → f row.value ≡ x → o ≡ option_map f (option_map (λ r. r.value) rows) → cond b (Some x) o ≡ option_map f (option_map (λ r. r.value) (cond b (Some row) rows))
+kept_value true x o rows row f e h = ap Some (sym e)
+kept_value false x o rows row f e h = h
+
+-- the value of a name, by its text
+pub keyed : (names : List Characters) (rows : List AttrRow) (name : ℕ) → StandOnce names → name < length names → AreAttrs names rows → finmap.get (named_attributes names rows) (text_of names name) ≡ option_map (text_of names) (option_map (λ row. row.value) (find (λ row. row.name == name) rows))
+keyed names rows name once l are = finmap.get-from_entries nat_list_cmp_total (map (named_pair names) rows) (text_of names name) ∙ from rows are
+  where
+    tie : (other : ℕ) → other < length names → ties (text_of names name) (text_of names other) ≡ (other == name)
+    tie other m =
+        let d = tied-Decides (text_of names name) (text_of names other) in
+        same_from_decides _ _ d (λ e. ap (text_of names) (sym (eqb-true other name e)), λ e. eq-eqb other name (same_name names other name once m l (sym e)))
+
+    from : (rows : List AttrRow) → AreAttrs names rows → found (text_of names name) (map (named_pair names) rows) ≡ option_map (text_of names) (option_map (λ row. row.value) (find (λ row. row.name == name) rows))
+    from [] are = refl
+    from (row ∷ rows) are =
+        ap (λ b. cond b (Some (text_of names row.value)) (found (text_of names name) (map (named_pair names) rows))) (tie row.name are.0.0)
+        ∙ kept_value (row.name == name) (text_of names row.value) _ (find (λ row. row.name == name) rows) row (text_of names) refl (from rows are.2)
+
+-- each value has a text
+pub found_within : (names : List Characters) (rows : List AttrRow) (name : ℕ) → AreAttrs names rows → IfSome (option_map (λ row. row.value) (find (λ row. row.name == name) rows)) (λ value. value < length names)
+found_within names [] name are = tt
+found_within names (row ∷ rows) name are = by_name (row.name == name) (found_within names rows name are.2)
+  where
+    by_name : (b : Bool) → IfSome (option_map (λ row. row.value) (find (λ row. row.name == name) rows)) (λ value. value < length names) → IfSome (option_map (λ row. row.value) (cond b (Some row) (find (λ row. row.name == name) rows))) (λ value. value < length names)
+    by_name true later = are.0.1
+    by_name false later = later
+
+-- the value of the name of an atom, row by row
+
+pub ties-text : (names : List Characters) (name : ℕ) (atom : Characters) (b : Bool) → same_text (text_of names name) atom ≡ b → ties atom (text_of names name) ≡ b
+ties-text names name atom b e =
+    let d = bytes_eq-Decides (text_of names name) atom in
+    let t = tied-Decides atom (text_of names name) in
+    same_from_decides _ _ t (λ h. sym (d.0 h), λ h. d.1 (sym h)) ∙ e
+
+module _ (names : List Characters) (atom : Characters) (rows : List AttrRow) (k : ℕ) (row : AttrRow) (l : k < length rows) (is : row ≡ get_or rows k row) (are : AreAttrs names (drop k rows)) (left : found atom (map (named_pair names) (drop k rows)) ≡ found atom (map (named_pair names) rows)) where
+  next : drop k rows ≡ row ∷ drop (k + 1) rows
+  next = drop_more rows k row l ∙ ap (λ r. r ∷ drop (k + 1) rows) (sym is)
+
+  stepped : found atom (map (named_pair names) rows) ≡ cond (ties atom (text_of names row.name)) (Some (text_of names row.value)) (found atom (map (named_pair names) (drop (k + 1) rows)))
+  stepped = sym left ∙ ap (λ l. found atom (map (named_pair names) l)) next
+
+  pub by_atom-found : same_text (text_of names row.name) atom ≡ true → Some (text_of names row.value) ≡ found atom (map (named_pair names) rows)
+  by_atom-found h = sym (stepped ∙ ap (λ b. cond b (Some (text_of names row.value)) (found atom (map (named_pair names) (drop (k + 1) rows)))) (ties-text names row.name atom true h))
+
+  pub by_atom-rows : AreAttrs names (drop (k + 1) rows)
+  by_atom-rows = (subst (AreAttrs names) next are).2
+
+  pub by_atom-passed : same_text (text_of names row.name) atom ≡ false → found atom (map (named_pair names) (drop (k + 1) rows)) ≡ found atom (map (named_pair names) rows)
+  by_atom-passed h = sym (stepped ∙ ap (λ b. cond b (Some (text_of names row.value)) (found atom (map (named_pair names) (drop (k + 1) rows)))) (ties-text names row.name atom false h))
+
+-- a text without a name is no attribute's
+pub unkeyed : (names : List Characters) (rows : List AttrRow) (text : Characters) → is_among text names ≡ false → AreAttrs names rows → finmap.get (named_attributes names rows) text ≡ None
+unkeyed names rows text absent are = finmap.get-from_entries nat_list_cmp_total (map (named_pair names) rows) text ∙ from rows are
+  where
+    other : (name : ℕ) → name < length names → ties text (text_of names name) ≡ true → ⊥
+    other name l e =
+        let at : slice_get names name ≡ Some text = text_at names name l ∙ ap Some (sym ((tied-Decides text (text_of names name)).0 e)) in
+        false≢true (sym absent ∙ (is_among-Decides text names).1 (name, l, get_or_from_slice_get names name text text at))
+
+    from : (rows : List AttrRow) → AreAttrs names rows → found text (map (named_pair names) rows) ≡ None
+    from [] are = refl
+    from (row ∷ rows) are =
+        cond-false (ties text (text_of names row.name)) (Some (text_of names row.value)) (found text (map (named_pair names) rows)) (false_from_ne_true _ (other row.name are.0.0)) ∙ from rows are.2

@@ -1,0 +1,132 @@
+//! The id and the class list of each element.
+
+ghost use Rattle.std.specs.Prelude.{◌≡◌, ◌<◌, IfOk, IfSome, OnOk, Some, codes, length, option_and_then, option_map, slice_get};
+ghost use Rattle.std.specs.Str.{chars};
+ghost use Rattle.stylo_base.specs.NameList.{StandOnce};
+ghost use Rattle.dom_tree.specs.Classes.{distinct_words, list_of};
+ghost use Rattle.dom_tree.specs.Kept.{IsNameOf, text_of};
+ghost use Rattle.dom_tree.specs.Labels.{AreCuts, AreLabels, KeepsLists, class_words, id_text};
+
+use crate::class_lists::ClassLists;
+use crate::columns::Columns;
+use std::alloc::Global;
+use stylo_base::{Name, Names, NoMemory};
+
+/// What selectors ask for most.
+#[derive(Clone, Copy, Debug)]
+pub(crate) struct Label {
+    /// Its id, which is not empty, among the names of the columns.
+    pub id: Option<Name>,
+    /// Its class list. None: it has no attribute `class`.
+    pub classes: Option<u32>,
+}
+
+/// The names of the attributes that labels are made of, where they have one.
+#[derive(Clone, Copy, Debug)]
+struct Asked {
+    id: Option<Name>,
+    class: Option<Name>,
+}
+
+/// The labels of all nodes, in their order. Their class lists go to `lists`, one for each distinct
+/// value of `class`.
+pub(crate) fn label_nodes(
+    alloc: Global,
+    columns: &Columns,
+    lists: &mut ClassLists,
+) -> Result<Vec<Label>, NoMemory>
+    ensures labels { IfOk result (λ labels. AreLabels columns.now lists.new labels.items) }
+    ensures once { OnOk result (StandOnce columns.now.names) }
+{
+    let names = columns.names();
+    let mut cuts = vec![in alloc; None; names.len()]?;
+    let asked = Asked {
+        id: names.find("id"),
+        class: names.find("class"),
+    };
+    label_rows(alloc, columns, &asked, lists, &mut cuts)
+}
+
+/// The labels of all nodes, where the attributes that are asked for have these names.
+fn label_rows(
+    alloc: Global,
+    columns: &Columns,
+    asked: &Asked,
+    lists: &mut ClassLists,
+    cuts: &mut Vec<Option<u32>>,
+) -> Result<Vec<Label>, NoMemory>
+    requires once { StandOnce columns.now.names }
+    requires id { IsNameOf columns.now.names (chars (codes "id")) asked.now.id }
+    requires class { IsNameOf columns.now.names (chars (codes "class")) asked.now.class }
+    requires cuts { AreCuts columns.now.names lists.old cuts.old.items }
+    ensures { IfOk result (λ labels. AreLabels columns.now lists.new labels.items) }
+{
+    let names = columns.names();
+    let mut labels = Vec::with_capacity(alloc, columns.len())?;
+    for index in 0..columns.len() {
+        let id = id_among(names, columns.value(index, asked.id));
+        let value = columns.value(index, asked.class);
+        let classes = classes_for(names, value, lists, cuts)?;
+        labels.push(Label { id, classes })?;
+    }
+    Ok(labels)
+}
+
+/// The name of a value of `id` that is not empty.
+fn id_among(names: &Names, value: Option<Name>) -> Option<Name>
+    requires { IfSome value (λ name. name < length names.now) }
+    ensures text { option_map (text_of names.now) result
+        ≡ option_and_then id_text (option_map (text_of names.now) value) }
+    ensures named { IfSome result (λ name. name < length names.now) }
+{
+    let value = value?;
+    if names.text(value).is_empty() {
+        None
+    } else {
+        Some(value)
+    }
+}
+
+/// The class list of a value of `class`, if there is one.
+fn classes_for(
+    names: &Names,
+    value: Option<Name>,
+    lists: &mut ClassLists,
+    cuts: &mut Vec<Option<u32>>,
+) -> Result<Option<u32>, NoMemory>
+    requires within { IfSome value (λ name. name < length names.now) }
+    requires cuts { AreCuts names.now lists.old cuts.old.items }
+    ensures list { IfOk result (λ k. list_of lists.new k ≡ class_words (option_map (text_of names.now) value)) }
+    ensures listed { IfOk result (λ k. IfSome k (λ n. n < length lists.new)) }
+    ensures cuts { IfOk result (λ _. AreCuts names.now lists.new cuts.new.items) }
+    ensures kept { IfOk result (λ _. KeepsLists lists.old lists.new) }
+{
+    match value {
+        Some(value) => Ok(Some(list_for(names, value, lists, cuts)?)),
+        None => Ok(None),
+    }
+}
+
+/// The index of the class list of a value, which is appended where it was not cut before.
+fn list_for(
+    names: &Names,
+    value: Name,
+    lists: &mut ClassLists,
+    cuts: &mut Vec<Option<u32>>,
+) -> Result<u32, NoMemory>
+    requires within { value < length names.now }
+    requires cuts { AreCuts names.now lists.old cuts.old.items }
+    ensures list { IfOk result (λ k. slice_get lists.new k ≡ Some (distinct_words (text_of names.now value))) }
+    ensures cuts { IfOk result (λ _. AreCuts names.now lists.new cuts.new.items) }
+    ensures kept { IfOk result (λ _. KeepsLists lists.old lists.new) }
+{
+    if let Some(index) = cuts[value.index()] {
+        return Ok(index);
+    }
+    let Ok(index) = u32::try_from(lists.len()) else {
+        return Err(NoMemory);
+    };
+    lists.push(names.text(value))?;
+    cuts[value.index()] = Some(index);
+    Ok(index)
+}

@@ -1,5 +1,0 @@
-use Rattle.style_value.proofs.StyleLemmas.{seen-set}
-use Rattle.style_value.proofs.style.Style.set.Goals as goal
-
-pub returns : goal.returns
-returns c = seen-set c.self.inside.values _ _ _ c.args.value c.self.view_is c.row.ensures.row
