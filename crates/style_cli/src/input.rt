@@ -48,8 +48,6 @@ impl From<AllocError> for Stop {
 
 /// All the bytes that the source has left, at most `INPUT_LIMIT`. It never reads more than one byte
 /// past the limit.
-// Not inlined, so that bench/profile can tell what it costs. So is `print_elements`.
-#[inline(never)]
 pub fn read_all<S: Source>(alloc: Global, source: &mut S) -> Result<Vec<u8>, Stop>
     ensures whole { IfOk result (λ bytes. IsReadWhole (S.left source.old) (S.left source.new) bytes.items) }
     ensures fits { IfOk result (λ bytes. length bytes.items ≤ input_limit) }

@@ -7,6 +7,7 @@ ghost use Rattle.std.specs.Arc.{arc_value};
 ghost use Rattle.base_model.specs.Limits.{element_limit, sheet_limit};
 ghost use Rattle.io_edges.specs.Cause.{HasCause};
 ghost use Rattle.layer_order.specs.View.{sheets_of};
+ghost use Rattle.scene_model.specs.Document.{document_of};
 ghost use Rattle.scene_model.specs.Lookups.{IsElement, numbers, tag_of};
 ghost use Rattle.sheet_model.specs.Sources.{Sources, sources_of};
 ghost use Rattle.cascade_model.specs.StyleOf.{style_of};
@@ -16,7 +17,7 @@ ghost use Rattle.style_cli.specs.Loops.{GrewByFront};
 ghost use Rattle.style_cli.specs.Text.{line_at, text_by, text_of};
 
 use crate::writing::write_all;
-use dom_tree::Doc;
+use dom_tree::{Doc, NodeList};
 use io_edges::{Sink, SinkRefused};
 use job_json::{Job, SheetList};
 use plain_style::style_all;
@@ -38,11 +39,23 @@ pub fn print_job<K: Sink>(alloc: Global, job: Job, sink: &mut K) -> Result<(), S
 {
     let Job { nodes, sheets } = job;
     let rules = rules_of(alloc, sheets)?;
-    let doc = Doc::of_list(alloc, nodes)?;
+    let doc = grown(alloc, nodes)?;
     print_styled(alloc, &doc, &rules, sink)
 }
 
+// The parts of a run are not inlined, so that bench/profile can tell what each costs.
+
+/// The document that takes the nodes over.
+#[inline(never)]
+fn grown(alloc: Global, nodes: NodeList) -> Result<Doc, NoMemory>
+    requires { length nodes ≤ element_limit }
+    ensures { IfOk result (λ doc. doc ≡ document_of nodes) }
+{
+    Doc::of_list(alloc, nodes)
+}
+
 /// The rules of the sheets, which are dropped.
+#[inline(never)]
 fn rules_of(alloc: Global, sheets: SheetList) -> Result<Sheets, NoMemory>
     requires { length sheets ≤ sheet_limit }
     ensures { IfOk result (λ rules. sources_seen rules ≡ sources_of (sheets_of sheets)) }
@@ -63,11 +76,20 @@ fn print_styled<K: Sink>(
         (text_by doc.now.elements (sources_seen sheets.now))) }
     ensures cause { HasCause (K.faults sink.old) (K.faults sink.new) (IsErrOf result SinkRefused.Failed) }
 {
-    let styles = style_all(alloc, doc, sheets)?;
+    let styles = styled(alloc, doc, sheets)?;
     let order = doc.in_tree_order();
     let count = order.len() as u64;
     write_line(sink, &batch_line(alloc, 0, 0, 0, count, count)?)?;
     print_elements(alloc, doc, order, &styles, sink)
+}
+
+/// The style of every element, in tree order.
+#[inline(never)]
+fn styled(alloc: Global, doc: &Doc, sheets: &Sheets) -> Result<Vec<Arc<Style>>, NoMemory>
+    ensures { IfOk result (λ styles. map arc_value styles.items
+        ≡ map (style_of doc.now.elements (sources_seen sheets.now)) (numbers doc.now.elements)) }
+{
+    style_all(alloc, doc, sheets)
 }
 
 /// Writes the line of each element, in tree order.

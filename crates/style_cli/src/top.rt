@@ -95,7 +95,9 @@ pub fn run<R: Threads + Sync, S: Source, K: Sink>(
     }
 }
 
-/// The job that the source has left, or why there is none.
+/// The job that the source has left, or why there is none. It is not inlined, so that bench/profile
+/// can tell what it costs.
+#[inline(never)]
 fn read_job<S: Source>(alloc: Global, source: &mut S) -> Result<Job, Status>
     ensures job { IfOk result (λ job. IfSome (S.left source.old) (λ bytes. job_in bytes ≡ Some job)) }
     ensures end { OnOk result (IsReadToEnd (S.left source.old) (S.left source.new)) }
