@@ -1,28 +1,64 @@
 -- What a parser of rules knows after some tokens of a sheet.
-use Rattle.std.specs.Prelude.{◌≡◌, List, [], ◌++◌, Option, Some, None, option_map}
+use Rattle.std.specs.Prelude.{◌≡◌, List, [], ◌++◌, true, filter_map}
+use Rattle.base_model.specs.Text.{Characters}
 use Rattle.syntax_model.specs.Token.{Token}
 use Rattle.syntax_model.specs.Brackets.{Bracket}
-use Rattle.syntax_model.specs.Rules.{Rule}
-use Rattle.syntax_model.specs.RulesIn.{in_prelude, in_block, rules_in}
+use Rattle.syntax_model.specs.Rules.{Rule, Piece, qualified_head, at_head}
+use Rattle.syntax_model.specs.RulesIn.{pieces_in, in_prelude, in_block, rule_in}
 use Rattle.css_rules.specs.View.{rules_of}
 use Rattle.css_rules.specs.declared.rule_parser.RuleParser.{RuleParser}
+use Rattle.css_rules.specs.declared.rule_parser.State.{State}
+use Rattle.css_rules.specs.declared.rule_parser.State.TheVariants.{Between, Prelude, Block}
+use Rattle.css_rules.specs.declared.rule_parser.Head.TheVariants.{Qualified, At}
 
--- The rules so far, and those of whatever is left, are the rules of the whole. No bracket is open before a prelude.
-pub record AreInPrelude (seen : List Token) (rules : List Rule) (prelude : List Token) (pending : List Bracket)
+-- The rules so far, and those of whatever is left, are those of the whole.
+abbrev pub Joins : List Token → List Rule → (List Token → List Piece) → Type 0
+Joins seen rules pieces =
+    (left : List Token) → rules ++ filter_map rule_in (pieces left) ≡ filter_map rule_in (pieces_in true (seen ++ left))
+
+-- between rules nothing of a rule is kept, and no bracket is open
+pub record AreBetween (seen : List Token) (rules : List Rule) (prelude block : List Token) (pending : List Bracket)
     : Type 0 where
-  pub begins : prelude ≡ [] → pending ≡ []
-  pub joins : (left : List Token) → rules ++ in_prelude prelude pending left ≡ rules_in (seen ++ left)
+  pub no_prelude : prelude ≡ []
+  pub no_block : block ≡ []
+  pub closed : pending ≡ []
+  pub joins : Joins seen rules (pieces_in true)
+
+pub record AreInPrelude (seen : List Token) (rules : List Rule) (prelude block : List Token) (pending : List Bracket)
+    : Type 0 where
+  pub no_block : block ≡ []
+  pub joins : Joins seen rules (in_prelude true qualified_head prelude pending)
 
 pub record AreInBlock (seen : List Token) (rules : List Rule) (prelude block : List Token) (pending : List Bracket)
     : Type 0 where
-  pub joins : (left : List Token) → rules ++ in_block prelude block pending left ≡ rules_in (seen ++ left)
+  pub joins : Joins seen rules (in_block true qualified_head prelude block pending)
 
-abbrev pub AreRead : List Token → List Rule → List Token → Option (List Token) → List Bracket → Type 0
-AreRead seen rules prelude None pending = AreInPrelude seen rules prelude pending
-AreRead seen rules prelude (Some block) pending = AreInBlock seen rules prelude block pending
+-- of an at-rule nothing is kept: it has some name, prelude and block
+pub record AreInAtPrelude (seen : List Token) (rules : List Rule) (prelude block : List Token) (pending : List Bracket)
+    : Type 0 where
+  pub no_prelude : prelude ≡ []
+  pub no_block : block ≡ []
+  pub name : Characters
+  pub passed : List Token
+  pub joins : Joins seen rules (in_prelude true (at_head name) passed pending)
+
+pub record AreInAtBlock (seen : List Token) (rules : List Rule) (prelude block : List Token) (pending : List Bracket)
+    : Type 0 where
+  pub no_prelude : prelude ≡ []
+  pub no_block : block ≡ []
+  pub name : Characters
+  pub passed : List Token
+  pub inside : List Token
+  pub joins : Joins seen rules (in_block true (at_head name) passed inside pending)
+
+abbrev pub AreRead : State → List Token → List Rule → List Token → List Token → List Bracket → Type 0
+AreRead Between = AreBetween
+AreRead (Prelude Qualified) = AreInPrelude
+AreRead (Prelude At) = AreInAtPrelude
+AreRead (Block Qualified) = AreInBlock
+AreRead (Block At) = AreInAtBlock
 
 -- the parser has read these tokens
 abbrev pub HasRead : RuleParser → List Token → Type 0
 HasRead parser seen =
-    AreRead seen (rules_of parser.rules.items) parser.prelude.items
-    (option_map (λ list. list.items) parser.block) parser.pending
+    AreRead parser.state seen (rules_of parser.rules.items) parser.prelude.items parser.block.items parser.pending

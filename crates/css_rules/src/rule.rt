@@ -1,6 +1,9 @@
 //! Rules and declarations.
 
-use css_tokens::TokenList;
+ghost use Rattle.std.specs.Prelude.{◌≡◌};
+ghost use Rattle.css_rules.specs.View.{value_of};
+
+use css_tokens::{Token, TokenList};
 use stylo_base::Text;
 
 /// A qualified rule: what is before its block, and what is in it. Where the sheet ends in the
@@ -11,10 +14,32 @@ pub struct Rule {
     pub block: TokenList,
 }
 
-/// A declaration as it is written: its name, and its value without whitespace at both ends. Where
-/// the block ends in the value, the closers of what is open are in it.
+/// A declaration as it is written: its name, and its value without whitespace at both ends and
+/// without `!important`.
 #[derive(Debug, Drop)]
-pub struct RawDecl {
-    pub name: Text,
-    pub value: TokenList,
+pub struct RawDecl<'a> {
+    pub name: &'a Text,
+    pub value: DeclValue<'a>,
+    pub important: bool,
+}
+
+/// The value of a declaration.
+#[derive(Debug, Drop)]
+pub enum DeclValue<'a> {
+    /// Tokens of the list that the declaration is in.
+    Lent(&'a [Token]),
+    /// A copy of them with the closers of what is open, where the list ends in the value.
+    Closed(TokenList),
+}
+
+impl DeclValue<'_> {
+    /// The tokens.
+    pub fn as_slice(&self) -> &[Token]
+        ensures { result.now ≡ value_of self.now }
+    {
+        match self {
+            DeclValue::Lent(tokens) => tokens,
+            DeclValue::Closed(tokens) => tokens.as_slice(),
+        }
+    }
 }

@@ -1,27 +1,45 @@
 //! The rules of a sheet, token by token.
 
-ghost use Rattle.std.specs.Prelude.{◌≡◌, ◌++◌, ◌∷◌, [], List, OnOk, IfOk, IsSome, None, ◌&&◌};
-ghost use Rattle.std.specs.Option.{option_map, option_to_list};
+ghost use Rattle.std.specs.Prelude.{◌≡◌, ◌++◌, ◌∷◌, [], List, OnOk, ◌&&◌, true, filter_map};
+ghost use Rattle.std.specs.Option.{option_to_list};
 ghost use Rattle.base_model.specs.Lists.{is_nil};
-ghost use Rattle.syntax_model.specs.Kinds.{is_open_curly, is_white};
-ghost use Rattle.syntax_model.specs.RulesIn.{qualified, rules_in};
+ghost use Rattle.syntax_model.specs.Kinds.{is_open_curly, is_semicolon};
+ghost use Rattle.syntax_model.specs.Rules.{qualified_rule};
+ghost use Rattle.syntax_model.specs.RulesIn.{is_between_rules, pieces_in, rule_in};
 ghost use Rattle.syntax_model.specs.Token as model;
 ghost use Rattle.css_rules.specs.Parser.{HasRead};
 ghost use Rattle.css_rules.specs.View.{rules_of};
 
 use crate::Rule;
+use crate::shallow::is_shallow;
 use css_tokens::{OpenBrackets, Token, TokenList};
 use std::alloc::Global;
 use std::mem;
 use stylo_base::NoMemory;
 
-/// The rules so far, and what was read of the next one: its prelude, its block, once that is open,
-/// and the brackets that are open.
+/// What begins a rule: an at-keyword, or nothing of its own.
+#[derive(Clone, Copy, Debug)]
+pub enum Head {
+    Qualified,
+    At,
+}
+
+/// Where a parser is: between rules, before the block of one, or in that block.
+#[derive(Clone, Copy, Debug)]
+pub enum State {
+    Between,
+    Prelude(Head),
+    Block(Head),
+}
+
+/// The rules so far, and what was read of the next one: its prelude and its block, of which nothing
+/// is kept in an at-rule, and the brackets that are open.
 #[derive(Drop)]
 pub struct RuleParser {
     pub rules: Vec<Rule>,
+    pub state: State,
     pub prelude: Vec<Token>,
-    pub block: Option<Vec<Token>>,
+    pub block: Vec<Token>,
     pub pending: OpenBrackets,
 }
 
@@ -32,8 +50,9 @@ impl RuleParser {
     {
         RuleParser {
             rules: Vec::new(alloc),
+            state: State::Between,
             prelude: Vec::new(alloc),
-            block: None,
+            block: Vec::new(alloc),
             pending: OpenBrackets::new(alloc),
         }
     }
@@ -43,23 +62,47 @@ impl RuleParser {
         ensures { (seen : List model.Token)
             → HasRead self.old seen → OnOk result (HasRead self.new (seen ++ token ∷ [])) }
     {
-        match self.block {
-            None => self.take_in_prelude(alloc, token),
-            Some(_) => self.take_in_block(alloc, token),
+        match self.state {
+            State::Between => self.begin(token),
+            State::Prelude(Head::Qualified) => self.take_in_prelude(token),
+            State::Prelude(Head::At) => self.pass_in_prelude(&token),
+            State::Block(Head::Qualified) => self.take_in_block(alloc, token),
+            State::Block(Head::At) => self.pass_in_block(&token),
         }
     }
 
-    fn take_in_prelude(&mut self, alloc: Global, token: Token) -> Result<(), NoMemory>
-        requires { self.old.block ≡ None }
+    // Between rules: skips the token, or begins a rule with it.
+    fn begin(&mut self, token: Token) -> Result<(), NoMemory>
+        requires { self.old.state ≡ State.Between }
         ensures { (seen : List model.Token)
             → HasRead self.old seen → OnOk result (HasRead self.new (seen ++ token ∷ [])) }
     {
-        if self.skips(&token) {
+        if is_between_rules(&token) {
             return Ok(());
         }
+        if token.is_at_keyword() {
+            self.state = State::Prelude(Head::At);
+            return Ok(());
+        }
+        self.pending.pass(&token)?;
+        if token.is_open_curly() {
+            self.state = State::Block(Head::Qualified);
+            return Ok(());
+        }
+        self.state = State::Prelude(Head::Qualified);
+        self.prelude.push(token)?;
+        Ok(())
+    }
+
+    // In the prelude of a qualified rule.
+    fn take_in_prelude(&mut self, token: Token) -> Result<(), NoMemory>
+        requires { self.old.state ≡ State.Prelude Head.Qualified }
+        ensures { (seen : List model.Token)
+            → HasRead self.old seen → OnOk result (HasRead self.new (seen ++ token ∷ [])) }
+    {
         if self.opens_block(&token) {
             self.pending.pass(&token)?;
-            self.block = Some(Vec::new(alloc));
+            self.state = State::Block(Head::Qualified);
             return Ok(());
         }
         self.pending.pass(&token)?;
@@ -67,11 +110,30 @@ impl RuleParser {
         Ok(())
     }
 
-    // Whitespace between rules is skipped.
-    fn skips(&self, token: &Token) -> bool
-        ensures { result ≡ (is_nil self.now.prelude.items && is_white token.now.kind) }
+    // In the prelude of an at-rule.
+    fn pass_in_prelude(&mut self, token: &Token) -> Result<(), NoMemory>
+        requires { self.old.state ≡ State.Prelude Head.At }
+        ensures { (seen : List model.Token)
+            → HasRead self.old seen → OnOk result (HasRead self.new (seen ++ token.now ∷ [])) }
     {
-        self.prelude.is_empty() && token.is_white()
+        if self.ends_statement(token) {
+            self.state = State::Between;
+            return Ok(());
+        }
+        if self.opens_block(token) {
+            self.pending.pass(token)?;
+            self.state = State::Block(Head::At);
+            return Ok(());
+        }
+        self.pending.pass(token)?;
+        Ok(())
+    }
+
+    // Outside brackets a semicolon ends an at-rule without a block.
+    fn ends_statement(&self, token: &Token) -> bool
+        ensures { result ≡ (is_nil self.now.pending && is_semicolon token.now.kind) }
+    {
+        self.pending.is_empty() && token.is_semicolon()
     }
 
     // Outside brackets a curly bracket opens the block.
@@ -81,8 +143,9 @@ impl RuleParser {
         self.pending.is_empty() && token.is_open_curly()
     }
 
+    // In the block of a qualified rule.
     fn take_in_block(&mut self, alloc: Global, token: Token) -> Result<(), NoMemory>
-        requires { IsSome self.old.block }
+        requires { self.old.state ≡ State.Block Head.Qualified }
         ensures { (seen : List model.Token)
             → HasRead self.old seen → OnOk result (HasRead self.new (seen ++ token ∷ [])) }
     {
@@ -91,60 +154,69 @@ impl RuleParser {
             self.end_rule(alloc)?;
             return Ok(());
         }
-        if let Some(block) = &mut self.block {
-            block.push(token)?;
+        self.block.push(token)?;
+        Ok(())
+    }
+
+    // In the block of an at-rule.
+    fn pass_in_block(&mut self, token: &Token) -> Result<(), NoMemory>
+        requires { self.old.state ≡ State.Block Head.At }
+        ensures { (seen : List model.Token)
+            → HasRead self.old seen → OnOk result (HasRead self.new (seen ++ token.now ∷ [])) }
+    {
+        self.pending.pass(token)?;
+        if self.pending.is_empty() {
+            self.state = State::Between;
         }
         Ok(())
     }
 
-    // Appends the rule of the prelude and the block.
+    // Ends the rule of the prelude and the block.
     fn end_rule(&mut self, alloc: Global) -> Result<(), NoMemory>
         ensures rules { OnOk result (rules_of self.new.rules.items ≡ rules_of self.old.rules.items
-            ++ option_to_list (option_map (λ block. qualified self.old.prelude.items block.items) self.old.block)) }
-        ensures prelude { OnOk result (IsSome self.old.block → self.new.prelude.items ≡ []) }
-        ensures block { OnOk result (self.new.block ≡ None) }
-        ensures pending { OnOk result (self.new.pending ≡ self.old.pending) }
+            ++ option_to_list (rule_in (qualified_rule self.old.prelude.items self.old.block.items))) }
+        ensures state { self.new.state ≡ State.Between }
+        ensures prelude { self.new.prelude.items ≡ [] }
+        ensures block { self.new.block.items ≡ [] }
+        ensures pending { self.new.pending ≡ self.old.pending }
     {
-        if let Some(block) = self.block.take() {
-            let prelude = mem::replace(&mut self.prelude, Vec::new(alloc));
-            append_rule(&mut self.rules, prelude, block)?;
-        }
-        Ok(())
+        let prelude = mem::replace(&mut self.prelude, Vec::new(alloc));
+        let block = mem::replace(&mut self.block, Vec::new(alloc));
+        self.state = State::Between;
+        append_rule(alloc, &mut self.rules, prelude, block)
     }
 
-    /// The rules, where the sheet ends here: its end closes what is open.
-    pub fn finish(self, alloc: Global) -> Result<Vec<Rule>, NoMemory>
+    /// The rules, where the tokens end here.
+    pub fn finish(self) -> Vec<Rule>
         ensures { (seen : List model.Token)
-            → HasRead self seen → IfOk result (λ rules. rules_of rules.items ≡ rules_in seen) }
+            → HasRead self seen → rules_of result.items ≡ filter_map rule_in (pieces_in true seen) }
     {
-        let RuleParser {
-            mut rules,
-            prelude,
-            block,
-            mut pending,
-        } = self;
-        let Some(mut block) = block else {
-            return Ok(rules);
-        };
-        pending.leave_outermost();
-        pending.append_closers(alloc, &mut block)?;
-        append_rule(&mut rules, prelude, block)?;
-        Ok(rules)
+        self.rules
     }
 }
 
-// Appends the rule of a prelude and a block.
+// Whether a token is skipped between the rules of a sheet.
+fn is_between_rules(token: &Token) -> bool
+    ensures { result ≡ is_between_rules true token.now.kind }
+{
+    token.is_white() || token.is_cdo() || token.is_cdc()
+}
+
+// Appends the rule of a prelude and a block, if it is kept.
 fn append_rule(
+    alloc: Global,
     rules: &mut Vec<Rule>,
     prelude: Vec<Token>,
     block: Vec<Token>,
 ) -> Result<(), NoMemory>
-    ensures { OnOk result (rules_of rules.new.items
-        ≡ rules_of rules.old.items ++ qualified prelude.items block.items ∷ []) }
+    ensures { OnOk result (rules_of rules.new.items ≡ rules_of rules.old.items
+        ++ option_to_list (rule_in (qualified_rule prelude.items block.items))) }
 {
-    rules.push(Rule {
-        prelude: TokenList::of_vec(prelude),
-        block: TokenList::of_vec(block),
-    })?;
+    if is_shallow(alloc, prelude.as_slice())? {
+        rules.push(Rule {
+            prelude: TokenList::of_vec(prelude),
+            block: TokenList::of_vec(block),
+        })?;
+    }
     Ok(())
 }

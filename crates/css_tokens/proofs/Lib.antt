@@ -1,4 +1,7 @@
 pub mod CharacterLemmas
 pub mod InputLemmas
-pub mod ReadingLemmas
-pub mod BracketLemmas
+pub mod HexLemmas
+pub mod RunLemmas
+pub mod UrlLemmas
+pub mod TokenizerLemmas
+pub mod DecimalLemmas

@@ -1,4 +1,5 @@
+pub mod Decimal
 pub mod Input
-pub mod Spans
+pub mod Scanned
 pub mod Taken
 pub mod View

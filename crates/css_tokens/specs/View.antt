@@ -1,7 +1,5 @@
 -- The kinds, brackets, spans and tokens of the code, as those of the definitions.
-use Rattle.std.specs.Prelude.{ℤ, [], ◌∷◌, Bool, Option}
-use Rattle.base_model.specs.Ascii.{space, number_sign, comma_sign, colon_sign, semicolon_sign, left_parenthesis}
-use Rattle.base_model.specs.Ascii.{right_parenthesis, left_bracket, right_bracket, left_brace, right_brace}
+use Rattle.std.specs.Prelude.{Bool, Option}
 use Rattle.base_model.specs.Text.{Characters}
 use Rattle.syntax_model.specs.Token as model
 use Rattle.syntax_model.specs.Brackets as model_bracket
@@ -60,23 +58,6 @@ separates separator.Semicolon = is_semicolon
 abbrev pub span_of : Span → model.Span
 span_of span = record { start = span.start; end = span.end }
 
--- The spelling that a kind and a name tell. No other kind is read yet.
-abbrev pub spelling_by : model.Kind → Characters → Characters
-spelling_by (model.hash is_id) name = number_sign ∷ name
-spelling_by model.whitespace name = space ∷ []
-spelling_by (model.delim c) name = c ∷ []
-spelling_by model.colon name = colon_sign ∷ []
-spelling_by model.semicolon name = semicolon_sign ∷ []
-spelling_by model.comma name = comma_sign ∷ []
-spelling_by model.open_square name = left_bracket ∷ []
-spelling_by model.close_square name = right_bracket ∷ []
-spelling_by model.open_round name = left_parenthesis ∷ []
-spelling_by model.close_round name = right_parenthesis ∷ []
-spelling_by model.open_curly name = left_brace ∷ []
-spelling_by model.close_curly name = right_brace ∷ []
-spelling_by kind name = name
-
 -- the token of these parts
-abbrev pub token_seen : model.Kind → Characters → Option ℤ → Option model.Span → model.Token
-token_seen kind name value span =
-    record { kind = kind; spelling = spelling_by kind name; name = name; value = value; span = span }
+abbrev pub token_seen : model.Kind → Characters → Characters → Option model.Span → model.Token
+token_seen kind name spelling span = record { kind = kind; name = name; spelling = spelling; span = span }

@@ -1,10 +1,9 @@
 //! The brackets that are open.
 
-ghost use Rattle.std.specs.Prelude.{◌≡◌, ◌++◌, [], OnOk, Some};
+ghost use Rattle.std.specs.Prelude.{◌≡◌, ◌++◌, [], OnOk, Some, length};
 ghost use Rattle.base_model.specs.Lists.{is_nil};
 ghost use Rattle.css_tokens.specs.View.{bracket_of};
 ghost use Rattle.syntax_model.specs.Brackets.{closers, open_past, without_closed};
-ghost use Rattle.syntax_model.specs.Rules.{all_but_last};
 
 use crate::{Bracket, Token};
 use std::alloc::Global;
@@ -46,6 +45,13 @@ impl OpenBrackets {
         self.brackets.is_empty()
     }
 
+    /// How many brackets are open.
+    pub fn len(&self) -> usize
+        ensures { result ≡ length self.now }
+    {
+        self.brackets.len()
+    }
+
     /// Goes on after a token.
     pub fn pass(&mut self, token: &Token) -> Result<(), NoMemory>
         ensures { OnOk result (self.new ≡ open_past self.old token.now) }
@@ -69,13 +75,6 @@ impl OpenBrackets {
                 self.brackets.pop_front();
             }
         }
-    }
-
-    /// Leaves the outermost bracket out.
-    pub fn leave_outermost(&mut self)
-        ensures { self.new ≡ all_but_last self.old }
-    {
-        self.brackets.pop_back();
     }
 
     /// Appends the closers of what is open to the tokens.

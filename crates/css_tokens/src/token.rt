@@ -1,18 +1,20 @@
 //! Tokens.
 
-ghost use Rattle.std.specs.Prelude.{◌≡◌, ◌+◌, ◌^◌, ◌<◌, IfOk, length};
+ghost use Rattle.std.specs.Prelude.{◌≡◌, ◌+◌, ◌^◌, ◌<◌, IfOk};
 ghost use Rattle.std.specs.Option.{option_map};
 ghost use Rattle.syntax_model.specs.Brackets.{closer};
 ghost use Rattle.syntax_model.specs.Kinds as kinds;
-ghost use Rattle.syntax_model.specs.Reading.{name_in, spelling_in, token_of};
+ghost use Rattle.syntax_model.specs.Pieces.{token_of};
 ghost use Rattle.css_tokens.specs.View as view;
-ghost use Rattle.css_tokens.specs.View.{bracket_of, kind_of, span_of, spelling_by};
+ghost use Rattle.css_tokens.specs.Scanned.{found};
+ghost use Rattle.css_tokens.specs.View.{bracket_of, kind_of, span_of};
 
-use crate::token_text::name_in;
+use crate::run::run_text;
+use crate::scan::Scan;
 use crate::{Bracket, Kind, Separator};
 use std::alloc::Global;
 use std::marker::Model;
-use stylo_base::{Fixed, NoMemory, Text};
+use stylo_base::{NoMemory, Text};
 
 /// Where the text of a token is, in characters of the preprocessed text, without the one at `end`.
 #[derive(Clone, Copy, Debug, PartialEq, Eq)]
@@ -21,13 +23,13 @@ pub struct Span {
     pub end: usize,
 }
 
-/// A token, independent of its source text. Contracts see the record of its kind, its spelling, its
-/// name, its value and its span.
+/// A token, independent of its source text. Contracts see the record of its kind, its name, the
+/// spelling of its number, and its span.
 #[derive(Debug, Drop)]
 pub struct Token {
     kind: Kind,
     name: Text,
-    value: Option<Fixed>,
+    spelling: Vec<char>,
     span: Option<Span>,
 }
 
@@ -39,29 +41,23 @@ impl Model for Token {
 
     ghost Value = { model.Token };
 
-    ghost view = { λ t. token_seen (kind_of t.kind) t.name t.value (option_map span_of t.span) };
+    ghost view = { λ t. token_seen (kind_of t.kind) t.name t.spelling.items (option_map span_of t.span) };
 }
 
 impl Token {
-    /// The token of a kind whose text begins at an offset.
-    pub(crate) fn of_text(
-        alloc: Global,
-        start: usize,
-        kind: Kind,
-        text: &[char],
-    ) -> Result<Token, NoMemory>
-        requires fits { start + length text.now < 2 ^ 64 }
-        requires spelled { spelling_by (kind_of kind) (name_in (kind_of kind) text.now)
-            ≡ spelling_in (kind_of kind) text.now }
-        ensures { IfOk result (λ t. t ≡ token_of start (kind_of kind) text.now) }
+    /// The token that was found at an offset.
+    pub(crate) fn of_scan(alloc: Global, start: usize, scan: &Scan) -> Result<Token, NoMemory>
+        requires fits { start + scan.now.len < 2 ^ 64 }
+        ensures { IfOk result (λ t. t ≡ token_of start
+            (found scan.now.kind scan.now.grammar scan.now.name.now scan.now.spelling.now scan.now.len)) }
     {
         Ok(Token {
-            kind,
-            name: name_in(alloc, kind, text)?,
-            value: None,
+            kind: scan.kind,
+            name: run_text(alloc, scan.grammar, scan.name)?,
+            spelling: scan.spelling.to_vec(alloc)?,
             span: Some(Span {
                 start,
-                end: start + text.len(),
+                end: start + scan.len,
             }),
         })
     }
@@ -73,7 +69,7 @@ impl Token {
         Token {
             kind: bracket.closer(),
             name: Text::new(alloc),
-            value: None,
+            spelling: Vec::new(alloc),
             span: None,
         }
     }
@@ -175,9 +171,37 @@ impl Token {
         Ok(Token {
             kind: self.kind,
             name: self.name.copy(alloc)?,
-            value: self.value,
+            spelling: self.spelling.to_vec(alloc)?,
             span: self.span,
         })
+    }
+
+    /// Whether it is an at-keyword.
+    pub fn is_at_keyword(&self) -> bool
+        ensures { result ≡ kinds.is_at_keyword self.now.kind }
+    {
+        matches!(self.kind(), Kind::AtKeyword)
+    }
+
+    /// Whether it is `<!--`.
+    pub fn is_cdo(&self) -> bool
+        ensures { result ≡ kinds.is_cdo self.now.kind }
+    {
+        matches!(self.kind(), Kind::Cdo)
+    }
+
+    /// Whether it is `-->`.
+    pub fn is_cdc(&self) -> bool
+        ensures { result ≡ kinds.is_cdc self.now.kind }
+    {
+        matches!(self.kind(), Kind::Cdc)
+    }
+
+    /// Whether it is `}`.
+    pub fn is_close_curly(&self) -> bool
+        ensures { result ≡ kinds.is_close_curly self.now.kind }
+    {
+        matches!(self.kind(), Kind::CloseCurly)
     }
 }
 
@@ -188,9 +212,9 @@ pub fn name_of(token: &Token) -> &Text
     &token.name
 }
 
-/// The value of a token, if it is a number, a percentage or a dimension.
-pub fn value_of(token: &Token) -> Option<Fixed>
-    ensures { result ≡ token.now.value }
+/// The spelling of the number in a number, a percentage or a dimension; empty in any other token.
+pub fn spelling_of(token: &Token) -> &[char]
+    ensures { result.now ≡ token.now.spelling }
 {
-    token.value
+    token.spelling.as_slice()
 }

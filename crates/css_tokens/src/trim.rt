@@ -19,8 +19,8 @@ pub fn without_white(tokens: &[Token]) -> &[Token]
     left
 }
 
-// The tokens without whitespace at the end.
-fn without_white_end(tokens: &[Token]) -> &[Token]
+/// The tokens without whitespace at the end.
+pub fn without_white_end(tokens: &[Token]) -> &[Token]
     ensures { result.now ≡ reverse (without_white (reverse tokens.now)) }
 {
     let mut left = tokens;

@@ -1,5 +1,5 @@
 -- The declarations of a block that are kept (css-syntax-3, sections 5 and 8; css-cascade-5, section 4.1).
-use Rattle.std.specs.Prelude.{ℕ, ◌==◌, List, Bool, false, Option, Some, option_to_list, flat_map}
+use Rattle.std.specs.Prelude.{ℕ, ◌==◌, if◌then◌else◌, List, Bool, false, Option, Some, None, option_to_list, flat_map}
 use Rattle.base_model.specs.Options.{◌>>=◌}
 use Rattle.syntax_model.specs.Token.{Token}
 use Rattle.syntax_model.specs.Rules.{Declaration}
@@ -28,12 +28,15 @@ is_longhand property (longhand other) = other == property
 abbrev pub declares : ℕ → Value → Declared
 declares property value = record { target = longhand property; given = exactly value; important = false }
 
--- What a declaration declares: nothing where its name is of no property, or the property does not take its value.
+-- What a declaration declares: nothing where its name is of no property, or the property does not take its value. An
+-- important one is dropped for now.
 abbrev pub declared_by : Declaration → Option Declared
-declared_by declaration = do
-  property ← property_named declaration.name
-  value ← value_in property declaration.value
-  Some (declares property value)
+declared_by declaration =
+    if declaration.important then None
+    else (do
+      property ← property_named declaration.name
+      value ← value_in property declaration.value
+      Some (declares property value))
 
 abbrev pub declared_in : Declaration → List Declared
 declared_in declaration = option_to_list (declared_by declaration)

@@ -10,10 +10,13 @@ use property_table::{Declared, by_name};
 use value_parser::value;
 
 /// What a declaration declares. None: its name is of no property, or the property does not take its
-/// value.
+/// value, or it is important.
 pub fn declared_by(declaration: &RawDecl) -> Option<Declared>
     ensures { option_map declared_of result ≡ declared_by (declaration_of declaration.now) }
 {
+    if declaration.important {
+        return None;
+    }
     let property = by_name(declaration.name.as_str())?;
     let value = value(property, declaration.value.as_slice())?;
     Some(Declared {

@@ -1,52 +1,18 @@
--- The definitions computed on small texts.
-use Rattle.std.proofs.Common.{◌≡◌, true, false, List, [], ◌∷◌, ◌++◌, map, refl}
-use Rattle.std.specs.Prelude.{codes, not, filter}
-use Prim.Native.String.{String}
-use Rattle.base_model.specs.Text.{Characters, same_text}
-use Rattle.syntax_model.specs.Token.{Token, ident, hash, delim, whitespace}
+-- The definitions of the cut computed on small texts.
+use Rattle.std.proofs.Common.{◌≡◌, ℕ, true, false, List, [], ◌∷◌, ◌++◌, length, map, replicate, refl}
+use Rattle.std.specs.Prelude.{codes, if◌then◌else◌}
+use Rattle.base_model.specs.Text.{Characters}
 use Rattle.syntax_model.specs.Kinds.{is_comma, trimmed}
 use Rattle.syntax_model.specs.Outside.{parts_between}
 use Rattle.syntax_model.specs.Preprocess.{preprocessed}
 use Rattle.syntax_model.specs.TokensIn.{tokens_in}
-use Rattle.syntax_model.specs.RulesIn.{declarations_in, rules_in, sheet_rules_in}
-
--- a text, and what is wanted of it
-record Case : Type 0 where
-  pub text : Characters
-  pub wanted : Characters
-
-abbrev case : String → String → Case
-case text wanted = record { text = codes text; wanted = codes wanted }
-
--- the cases in which a function gives something else
-abbrev others : (Characters → Characters) → List Case → List Case
-others f cases = filter (λ c. not (same_text (f c.text) c.wanted)) cases
-
-abbrev join : List Characters → Characters
-join [] = []
-join (text ∷ texts) = text ++ join texts
-
--- a token with its name in brackets, after `i` for an identifier, `h` for a hash that is one, `u` for any other hash,
--- or a token as it is spelled, with whitespace as `_`
-abbrev shown : Token → Characters
-shown token = elim token.kind [
-  | ident ↦ codes "i(" ++ token.name ++ codes ")"
-  | hash true ↦ codes "h(" ++ token.name ++ codes ")"
-  | hash false ↦ codes "u(" ++ token.name ++ codes ")"
-  | delim c ↦ codes "d(" ++ token.spelling ++ codes ")"
-  | whitespace ↦ codes "_"
-  | _ ↦ token.spelling
-]
-
-abbrev spelled : List Token → Characters
-spelled tokens = join (map (λ t. t.spelling) tokens)
+use Rattle.syntax_model.specs.Rules.{Declaration}
+use Rattle.syntax_model.specs.RulesIn.{declarations_in, pieces_in, rules_in, sheet_rules_in}
+use Rattle.syntax_model.proofs.ExampleCases.{Case, case, join, others, spelled}
 
 -- between angles, after what it belongs to
 abbrev with_inner : Characters → Characters → Characters
 with_inner outer inner = outer ++ codes "«" ++ inner ++ codes "»"
-
-abbrev tokens_shown : Characters → Characters
-tokens_shown text = join (map shown (tokens_in (preprocessed text)))
 
 abbrev rules_shown : Characters → Characters
 rules_shown text = join (map (λ r. with_inner (spelled r.prelude) (spelled r.block)) (sheet_rules_in text))
@@ -57,9 +23,13 @@ parts_shown text = join (map (λ part. with_inner [] (spelled part)) (parts_betw
 abbrev trimmed_shown : Characters → Characters
 trimmed_shown text = spelled (trimmed (tokens_in text))
 
+-- `!` is before an important one
+abbrev declaration_shown : Declaration → Characters
+declaration_shown d = (if d.important then codes "!" else []) ++ with_inner d.name (spelled d.value)
+
 abbrev declarations_shown : Characters → Characters
 declarations_shown text =
-    join (map (λ d. with_inner d.name (spelled d.value)) (declarations_in (tokens_in (preprocessed text))))
+    join (map declaration_shown (declarations_in (tokens_in (preprocessed text))))
 
 abbrev inputs : List Case
 inputs =
@@ -78,78 +48,6 @@ inputs =
 
 inputs_right : others preprocessed inputs ≡ []
 inputs_right = refl
-
-abbrev names : List Case
-names =
-    case "a" "i(a)" ∷
-    case "A_Z9" "i(A_Z9)" ∷
-    case "a-1_b" "i(a-1_b)" ∷
-    case "_" "i(_)" ∷
-    case "-" "d(-)" ∷
-    case "--" "i(--)" ∷
-    case "---" "i(---)" ∷
-    case "-a" "i(-a)" ∷
-    case "--1" "i(--1)" ∷
-    case "-1" "d(-)d(1)" ∷
-    case "-+a" "d(-)d(+)i(a)" ∷
-    case "1a" "d(1)i(a)" ∷
-    case "10px" "d(1)d(0)i(px)" ∷
-    case "1.5e3" "d(1)d(.)d(5)i(e3)" ∷
-    case "50%" "d(5)d(0)d(%)" ∷
-    case "é" "i(é)" ∷
-    case "-é" "i(-é)" ∷
-    case "日本" "i(日本)" ∷
-    case "😀x" "i(😀x)" ∷
-    case "\u{80}" "i(\u{80})" ∷
-    case "\u{a0}" "i(\u{a0})" ∷
-    case "\u{7f}" "d(\u{7f})" ∷
-    case "\u{1}" "d(\u{1})" ∷
-    case "a\0b" "i(a�b)" ∷
-    case "#" "d(#)" ∷
-    case "#a" "h(a)" ∷
-    case "#1a" "u(1a)" ∷
-    case "#-" "u(-)" ∷
-    case "#--" "h(--)" ∷
-    case "#-1" "u(-1)" ∷
-    case "#-a" "h(-a)" ∷
-    case "#é" "h(é)" ∷
-    case "#0f0" "u(0f0)" ∷
-    case "# a" "d(#)_i(a)" ∷
-    case "##a" "d(#)h(a)" ∷
-    case "#." "d(#)d(.)" ∷
-    case "a#b" "i(a)h(b)" ∷
-    []
-
-names_right : others tokens_shown names ≡ []
-unfolding tokens_in
-names_right = refl
-
-abbrev marks : List Case
-marks =
-    case "" "" ∷
-    case " " "_" ∷
-    case " \t\n " "_" ∷
-    case "a b" "i(a)_i(b)" ∷
-    case "a\u{c}b" "i(a)_i(b)" ∷
-    case "a\r\n\r b" "i(a)_i(b)" ∷
-    case ",:;()[]{}" ",:;()[]{}" ∷
-    case ":," ":," ∷
-    case "p.a > b" "i(p)d(.)i(a)_d(>)_i(b)" ∷
-    case "f(x)" "i(f)(i(x))" ∷
-    case "url(x)" "i(url)(i(x))" ∷
-    case "@media" "d(@)i(media)" ∷
-    case "<!--" "d(<)d(!)i(--)" ∷
-    case "-->" "i(--)d(>)" ∷
-    case "\"a'" "d(\")i(a)d(')" ∷
-    case "/*a*/" "d(/)d(*)i(a)d(*)d(/)" ∷
-    case "a\\b" "i(a)d(\\)i(b)" ∷
-    case "*+~|" "d(*)d(+)d(~)d(|)" ∷
-    case "p{color:#00f;}" "i(p){i(color):u(00f);}" ∷
-    []
-
-marks_right : others tokens_shown marks ≡ []
-unfolding tokens_in
-marks_right = refl
 
 abbrev sheets : List Case
 sheets =
@@ -187,9 +85,35 @@ sheets =
     case "(((" "" ∷
     case "[[[" "" ∷
     case "{{{" "«{{}}»" ∷
-    case "@media{p{a:b}}" "@media«p{a:b}»" ∷
-    case "<!--p{}-->q{}" "<!--p«»-->q«»" ∷
     case "p,{color:red} p{color:lime;display:none" "p,«color:red»p«color:lime;display:none»" ∷
+    case "@media{p{a:b}}" "" ∷
+    case "@media x{p{a:b}}q{c:d}" "q«c:d»" ∷
+    case "@x;p{}" "p«»" ∷
+    case "@x" "" ∷
+    case "@x;" "" ∷
+    case "@x y" "" ∷
+    case "@x{p{a:b" "" ∷
+    case "p{}@y{}q{}" "p«»q«»" ∷
+    case "@x ) ] } p{color:red}p{clear:left}" "p«clear:left»" ∷
+    case "a;p{color:red}@x ) ] } p{color:red}p{clear:left}" "a;p«color:red»p«clear:left»" ∷
+    case "@x{a(b;}c)}p{}" "p«»" ∷
+    case "@x(;{)a;p{}" "" ∷
+    case "@x(;[])a;p{}" "p«»" ∷
+    case "@x{;}p{}" "p«»" ∷
+    case "@\\70{}q{}" "q«»" ∷
+    case "<!--p{}-->q{}" "p«»q«»" ∷
+    case "<!-- p{color:red} --> } i{color:blue} b{color:lime}" "p«color:red»} i«color:blue»b«color:lime»" ∷
+    case "p<!--{}" "p<!--«»" ∷
+    case "p{<!--}" "p«<!--»" ∷
+    case "<!-->" "" ∷
+    case "@media x{p{color:red}} p{color:lime;@x;display:none;foo bar;clear:both}" "p«color:lime;@x;display:none;foo bar;clear:both»" ∷
+    case "/*x*/p/**/{a/*b*/:c}/*" "p«a:c»" ∷
+    case "p{a:\"}\"}q{}" "p«a:\"}\"»q«»" ∷
+    case "p{a:url(})}q{}" "p«a:url(})»q«»" ∷
+    case "p{a:\"\nb}q{}" "p«a:\"\n b»q«»" ∷
+    case "f(x{y}z){a}" "f(x{y}z)«a»" ∷
+    case "p{a:f(b" "p«a:f(b)»" ∷
+    case "f(" "" ∷
     []
 
 sheets_right : others rules_shown sheets ≡ []
@@ -210,7 +134,7 @@ blocks =
     case "a:" "a«»" ∷
     case "a: ;b:c" "a«»b«c»" ∷
     case "a::b" "a«:b»" ∷
-    case "a:b!important" "a«b!important»" ∷
+    case "a:b!important" "!a«b»" ∷
     case "a" "" ∷
     case "a b:c;d:e" "d«e»" ∷
     case "1a:b;c:d" "c«d»" ∷
@@ -228,11 +152,58 @@ blocks =
     case "a:(b" "a«(b)»" ∷
     case "a: (b " "a«(b )»" ∷
     case "a:([{b;c" "a«([{b;c}])»" ∷
+    case "color:red;@x{;}display:none;@y;clear:both" "color«red»display«none»clear«both»" ∷
+    case "color:red;x{a;b}display:none;clear:left" "color«red»clear«left»" ∷
+    case "@x{a;b}c:d" "c«d»" ∷
+    case "@x (;) {;} c:d" "c«d»" ∷
+    case "@x" "" ∷
+    case "@x{" "" ∷
+    case "@x;;c:d" "c«d»" ∷
+    case "@x[{;}]c:d;e:f" "e«f»" ∷
+    case "a:b ! important" "!a«b»" ∷
+    case "a:b!IMPORTANT;c:d" "!a«b»c«d»" ∷
+    case "a:b!imp\\6frtant" "!a«b»" ∷
+    case "a:b !important " "!a«b»" ∷
+    case "a:!important" "!a«»" ∷
+    case "a:b!important x" "a«b!important x»" ∷
+    case "a:b!important!important" "!a«b!important»" ∷
+    case "a:b!x" "a«b!x»" ∷
+    case "a:important" "a«important»" ∷
+    case "a:b!(important" "a«b!(important)»" ∷
+    case "a:b!/**/important" "!a«b»" ∷
+    case "a:f(b;c);d:e" "a«f(b;c)»d«e»" ∷
+    case "a:f(b" "a«f(b)»" ∷
+    case "a:[f({b;c" "a«[f({b;c})]»" ∷
+    case "c\\6f lor:\\72 ed" "color«red»" ∷
+    case "a/**/:/**/b" "a«b»" ∷
+    case "a;b:c" "b«c»" ∷
+    case "x:\"a\n;c:d" "x«\"\n»c«d»" ∷
+    case "<!--a:b;c:d" "c«d»" ∷
     []
 
 blocks_right : others declarations_shown blocks ≡ []
 unfolding tokens_in declarations_in
 blocks_right = refl
+
+-- so many brackets may be nested in a value, and in a prelude
+abbrev value_with : ℕ → Characters
+value_with n = codes "a:" ++ replicate n 40
+
+abbrev prelude_with : ℕ → Characters
+prelude_with n = replicate n 91 ++ replicate n 93 ++ codes "{}"
+
+values_nested : map (λ n. length (declarations_in (tokens_in (value_with n)))) (64 ∷ 65 ∷ []) ≡ 1 ∷ 0 ∷ []
+unfolding tokens_in declarations_in
+values_nested = refl
+
+preludes_nested : map (λ n. length (sheet_rules_in (prelude_with n))) (64 ∷ 65 ∷ []) ≡ 1 ∷ 0 ∷ []
+unfolding tokens_in rules_in
+preludes_nested = refl
+
+-- in a block CDO and CDC are skipped nowhere
+cdo_in_a_block : map (λ top. length (pieces_in top (tokens_in (codes "<!-- @x; p{}")))) (true ∷ false ∷ []) ≡ 2 ∷ 1 ∷ []
+unfolding tokens_in
+cdo_in_a_block = refl
 
 abbrev lists : List Case
 lists =

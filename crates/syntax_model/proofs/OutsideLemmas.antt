@@ -1,11 +1,11 @@
 -- What is outside brackets.
-use Rattle.std.proofs.Common.{◌≡◌, ◌≢◌, ℕ, ◌+◌, ◌<◌, ◌≤◌, Bool, true, false, cond, ◌&&◌, List, [], ◌∷◌, ◌++◌, length, take, drop, get_or, refl, sym, ap, ◌∙◌, arith}
+use Rattle.std.proofs.Common.{◌≡◌, ℕ, ◌+◌, ◌<◌, ◌≤◌, Bool, true, false, cond, ◌&&◌, List, [], ◌∷◌, ◌++◌, length, take, drop, get_or, refl, sym, ap, ◌∙◌, arith}
 use Rattle.std.proofs.Math.Numerals.{one-add}
 use Rattle.std.proofs.lemmas.Bool.{cond_both, cond-true, cond-false, false≢true}
 use Rattle.std.proofs.lemmas.List.{drop_all, drop_more, take_more}
 use Rattle.base_model.specs.Lists.{is_nil, onto_first}
 use Rattle.syntax_model.specs.Token.{Token, Kind}
-use Rattle.syntax_model.specs.Brackets.{AvoidsOutside, Bracket, StaysOpen, open_after, open_past}
+use Rattle.syntax_model.specs.Brackets.{Bracket, open_after, open_past}
 use Rattle.syntax_model.specs.Outside.{from_first, length_before, parts_between, parts_within, up_to}
 
 -- one more token at the end
@@ -13,43 +13,10 @@ pub open_after-push : (pending : List Bracket) (tokens : List Token) (token : To
 open_after-push pending [] token = refl
 open_after-push pending (t ∷ tokens) token = open_after-push (open_past pending t) tokens token
 
-pub avoids-push : (p : Kind → Bool) (pending : List Bracket) (tokens : List Token) (token : Token) → AvoidsOutside p pending tokens → (open_after pending tokens ≡ [] → p token.kind ≡ false) → AvoidsOutside p pending (tokens ++ token ∷ [])
-avoids-push p pending [] token before here = (here, tt)
-avoids-push p pending (t ∷ tokens) token before here = (before.0, avoids-push p (open_past pending t) tokens token before.1 here)
-
-pub stays-push : (pending : List Bracket) (tokens : List Token) (token : Token) → StaysOpen pending tokens → open_past (open_after pending tokens) token ≢ [] → StaysOpen pending (tokens ++ token ∷ [])
-stays-push pending [] token before here = (here, tt)
-stays-push pending (t ∷ tokens) token before here = (before.0, stays-push (open_past pending t) tokens token before.1 here)
-
--- tests of whether a list is empty
+-- a list that is empty by its test
 pub nil_from_test : {X : Type 0} (xs : List X) → is_nil xs ≡ true → xs ≡ []
 nil_from_test [] e = refl
 nil_from_test (x ∷ xs) e = absurd (false≢true e)
-
-pub some_from_ne : {X : Type 0} (xs : List X) → xs ≢ [] → is_nil xs ≡ false
-some_from_ne [] some = absurd (some refl)
-some_from_ne (x ∷ xs) some = refl
-
-pub fails_or_some : {X : Type 0} (test : Bool) (xs : List X) → (xs ≡ [] → test ≡ false) → (is_nil xs && test) ≡ false
-fails_or_some test [] fails = fails refl
-fails_or_some test (x ∷ xs) fails = refl
-
-pub test_fails : {X : Type 0} (test : Bool) (xs : List X) → (is_nil xs && test) ≡ false → xs ≡ [] → test ≡ false
-test_fails test [] fails e = fails
-test_fails test (x ∷ xs) fails e = cc
-
-pub push_some : {X : Type 0} (xs : List X) (x : X) → xs ++ x ∷ [] ≡ [] → ⊥
-push_some [] x e = cc
-push_some (y ∷ xs) x e = cc
-
--- the tokens before the first that passes outside brackets have none
-pub avoids_before : (p : Kind → Bool) (pending : List Bracket) (tokens : List Token) → AvoidsOutside p pending (take (length_before p pending tokens) tokens)
-avoids_before p pending [] = tt
-avoids_before p pending (t ∷ tokens) =
-    let test : Bool = is_nil pending && p t.kind in
-    cond_both test 0 (1 + length_before p (open_past pending t) tokens) (λ n. AvoidsOutside p pending (take n (t ∷ tokens)))
-    (λ _. tt)
-    (λ fails. rw one-add (test_fails (p t.kind) pending fails, avoids_before p (open_past pending t) tokens))
 
 pub inside_all : (p : Kind → Bool) (pending : List Bracket) (tokens : List Token) → length_before p pending tokens ≤ length tokens
 inside_all p pending [] = omega arith

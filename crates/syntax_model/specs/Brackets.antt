@@ -1,6 +1,6 @@
 -- Brackets, and what is outside them (css-syntax-3, section 5.4).
-use Rattle.std.specs.Prelude.{◌≡◌, ◌≢◌, ℕ, List, [], ◌∷◌, Bool, true, false, Option, Some, None, if◌then◌else◌}
-use Rattle.base_model.specs.Ascii.{right_parenthesis, right_bracket, right_brace}
+use Rattle.std.specs.Prelude.{ℕ, nat_le, List, [], ◌∷◌, ◌++◌, length, Bool, true, false, ◌&&◌, Option, Some, None}
+use Rattle.std.specs.Prelude.{if◌then◌else◌}
 use Rattle.syntax_model.specs.Token.{Token, Kind, function, open_square, close_square, open_round, close_round}
 use Rattle.syntax_model.specs.Token.{open_curly, close_curly}
 
@@ -54,18 +54,12 @@ closer_kind square = close_square
 closer_kind round = close_round
 closer_kind curly = close_curly
 
-abbrev pub closer_text : Bracket → ℕ
-closer_text square = right_bracket
-closer_text round = right_parenthesis
-closer_text curly = right_brace
-
 -- the closer that the end of input adds; it has no span
 abbrev pub closer : Bracket → Token
 closer bracket = record {
   kind = closer_kind bracket;
-  spelling = closer_text bracket ∷ [];
   name = [];
-  value = None;
+  spelling = [];
   span = None;
 }
 
@@ -74,14 +68,19 @@ abbrev pub closers : List Bracket → List Token
 closers [] = []
 closers (bracket ∷ pending) = closer bracket ∷ closers pending
 
--- outside brackets no token is of a kind that passes
-abbrev pub AvoidsOutside : (Kind → Bool) → List Bracket → List Token → Type 0
-AvoidsOutside p pending [] = Unit {0}
-AvoidsOutside p pending (token ∷ tokens) =
-    (pending ≡ [] → p token.kind ≡ false) × AvoidsOutside p (open_past pending token) tokens
+-- what is left open, closed: the end of input closes it
+abbrev pub closed : List Token → List Token
+closed tokens = tokens ++ closers (open_after [] tokens)
 
--- some bracket stays open throughout
-abbrev pub StaysOpen : List Bracket → List Token → Type 0
-StaysOpen pending [] = Unit {0}
-StaysOpen pending (token ∷ tokens) =
-    (open_past pending token ≢ []) × StaysOpen (open_past pending token) tokens
+-- how deep brackets may be nested
+abbrev pub nesting_limit : ℕ
+nesting_limit = 64
+
+-- whether no more brackets than that are open anywhere in the tokens
+abbrev pub is_shallow_within : List Bracket → List Token → Bool
+is_shallow_within pending [] = true
+is_shallow_within pending (token ∷ tokens) =
+    nat_le (length (open_past pending token)) nesting_limit && is_shallow_within (open_past pending token) tokens
+
+abbrev pub is_shallow : List Token → Bool
+is_shallow tokens = is_shallow_within [] tokens

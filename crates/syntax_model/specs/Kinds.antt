@@ -1,6 +1,7 @@
 -- What readers of tokens ask of a token's kind, and whitespace at the ends of token lists.
 use Rattle.std.specs.Prelude.{ℕ, ◌==◌, List, [], ◌∷◌, reverse, Bool, true, false, ◌||◌, if◌then◌else◌}
-use Rattle.syntax_model.specs.Token.{Token, Kind, ident, hash, delim, whitespace, colon, semicolon, comma, open_curly}
+use Rattle.syntax_model.specs.Token.{Token, Kind, ident, at_keyword, hash, delim, whitespace, cdo, cdc, colon, semicolon}
+use Rattle.syntax_model.specs.Token.{comma, open_curly, close_curly}
 
 abbrev pub is_white : Kind → Bool
 is_white whitespace = true
@@ -10,6 +11,10 @@ abbrev pub is_ident : Kind → Bool
 is_ident ident = true
 is_ident kind = false
 
+abbrev pub is_at_keyword : Kind → Bool
+is_at_keyword at_keyword = true
+is_at_keyword kind = false
+
 abbrev pub is_hash : Kind → Bool
 is_hash (hash is_id) = true
 is_hash kind = false
@@ -18,6 +23,14 @@ is_hash kind = false
 abbrev pub is_delim : ℕ → Kind → Bool
 is_delim c (delim d) = d == c
 is_delim c kind = false
+
+abbrev pub is_cdo : Kind → Bool
+is_cdo cdo = true
+is_cdo kind = false
+
+abbrev pub is_cdc : Kind → Bool
+is_cdc cdc = true
+is_cdc kind = false
 
 abbrev pub is_comma : Kind → Bool
 is_comma comma = true
@@ -34,6 +47,10 @@ is_semicolon kind = false
 abbrev pub is_open_curly : Kind → Bool
 is_open_curly open_curly = true
 is_open_curly kind = false
+
+abbrev pub is_close_curly : Kind → Bool
+is_close_curly close_curly = true
+is_close_curly kind = false
 
 -- skipped between declarations
 abbrev pub is_between : Kind → Bool

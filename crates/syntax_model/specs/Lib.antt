@@ -1,9 +1,16 @@
 pub mod Token
 pub mod Preprocess
-pub mod Reading
+pub mod Signs
+pub mod Letters
+pub mod Units
+pub mod Numbers
+pub mod Pieces
 pub mod TokensIn
+pub mod Reading
+pub mod Spans
 pub mod Kinds
 pub mod Brackets
 pub mod Outside
 pub mod Rules
 pub mod RulesIn
+pub mod Written

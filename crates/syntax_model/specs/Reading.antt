@@ -1,109 +1,206 @@
--- What a preprocessed text reads as (css-syntax-3, sections 4.2 and 4.3).
-use Rattle.std.specs.Prelude.{◌≡◌, ◌≢◌, ℕ, ◌+◌, ◌==◌, nat_le, List, [], ◌∷◌, ◌++◌, length, drop}
-use Rattle.std.specs.Prelude.{Bool, true, false, ◌&&◌, ◌||◌, if◌then◌else◌, Some, None}
+-- What a preprocessed text reads as, in the standard's terms (css-syntax-3, section 4.3). A relation on whole texts: it
+-- says what is a piece, and computes no length.
+use Rattle.std.specs.Prelude.{◌≡◌, ◌≢◌, ℕ, ◌+◌, ◌==◌, List, [], ◌∷◌, ◌++◌, length, drop, codes, Some}
+use Rattle.std.specs.Prelude.{Bool, true, false, not, ◌&&◌, ◌||◌, ◌⊎◌, option_to_list}
 use Rattle.std.specs.List.{AllByRecursion}
-use Rattle.base_model.specs.Ascii.{tab, line_feed, space, hyphen, low_line, number_sign, first_beyond_ascii}
-use Rattle.base_model.specs.Ascii.{capital_a, capital_z, small_a, small_z, digit_zero, digit_nine}
-use Rattle.base_model.specs.Ascii.{comma_sign, colon_sign, semicolon_sign, left_parenthesis, right_parenthesis}
-use Rattle.base_model.specs.Ascii.{left_bracket, right_bracket, left_brace, right_brace}
-use Rattle.base_model.specs.Text.{Characters}
-use Rattle.syntax_model.specs.Token.{Token, Kind, ident, hash, delim, whitespace, colon, semicolon, comma}
-use Rattle.syntax_model.specs.Token.{open_square, close_square, open_round, close_round, open_curly, close_curly}
+use Rattle.base_model.specs.Ascii.{asterisk, full_stop, hyphen, number_sign, left_parenthesis}
+use Rattle.base_model.specs.Lists.{is_nil}
+use Rattle.base_model.specs.Text.{Characters, is_word}
+use Rattle.syntax_model.specs.Signs.{exclamation_mark, percent_sign, solidus, less_than_sign, greater_than_sign}
+use Rattle.syntax_model.specs.Signs.{commercial_at}
+use Rattle.syntax_model.specs.Letters.{begins, is_blank, is_digit, is_e, is_sign}
+use Rattle.syntax_model.specs.Units.{Unit, name_unit, string_unit, url_unit, remnant_unit, comment_unit}
+use Rattle.syntax_model.specs.Numbers.{after_sign, starts_fraction}
+use Rattle.syntax_model.specs.Token.{Token, Said}
+use Rattle.syntax_model.specs.Pieces.{Piece, Row, at_row, cdc_row, cdo_row, comment_row, hash_row, ident_row, is_closing}
+use Rattle.syntax_model.specs.Pieces.{is_line_feed, mark_row, number_row, piece_of, quote_follows, row_at, starts_ident}
+use Rattle.syntax_model.specs.Pieces.{string_row, white_row}
 
--- the text begins with a character that passes
-abbrev pub begins : (ℕ → Bool) → Characters → Bool
-begins p [] = false
-begins p (c ∷ cs) = p c
+-- A form of pieces: it says of some characters, and of what comes after them, that they are a piece of the form there.
+abbrev pub Form : Type 1
+Form = Characters → Characters → Type 0
 
-abbrev pub is_blank : ℕ → Bool
-is_blank c = (c == line_feed) || ((c == tab) || (c == space))
+-- no character
+abbrev pub IsNothing : Form
+IsNothing piece rest = piece ≡ []
 
-abbrev pub is_letter : ℕ → Bool
-is_letter c = (nat_le capital_a c && nat_le c capital_z) || (nat_le small_a c && nat_le c small_z)
+-- these characters
+abbrev pub IsText : Characters → Form
+IsText text piece rest = piece ≡ text
 
-abbrev pub is_digit : ℕ → Bool
-is_digit c = nat_le digit_zero c && nat_le c digit_nine
+-- one character, which passes
+abbrev pub IsOne : (ℕ → Bool) → Form
+IsOne passes piece rest = (c : ℕ) × (piece ≡ c ∷ []) × (passes c ≡ true)
 
--- a letter, `_`, or any from U+0080
-abbrev pub is_name_start : ℕ → Bool
-is_name_start c = is_letter c || ((c == low_line) || nat_le first_beyond_ascii c)
+-- characters that pass, as many as there are: the next one, if any, doesn't
+pub record IsSpan (passes : ℕ → Bool) (piece rest : Characters) : Type 0 where
+  pub all : AllByRecursion (λ c. passes c ≡ true) piece
+  pub stops : begins passes rest ≡ false
 
--- one of these, a digit or `-`
-abbrev pub is_name_char : ℕ → Bool
-is_name_char c = is_name_start c || (is_digit c || (c == hyphen))
+-- Units, as many as there are, which together say a text: the run ends where no unit begins; else its first characters
+-- are a unit, and the others are a run.
+pub data IsRun (unit : Characters → Unit) : Characters → Characters → Characters → Type 0 where
+  run_end : (rest : Characters) → (unit rest).taken ≡ 0 → IsRun unit [] [] rest
+  run_unit : (first more rest said : Characters)
+      → first ≢ [] → (unit (first ++ (more ++ rest))).taken ≡ length first → IsRun unit said more rest
+      → IsRun unit (option_to_list (unit (first ++ (more ++ rest))).said ++ said) (first ++ more) rest
 
--- an identifier starts at a name-start character, or at `-` before one or before another `-`
-abbrev pub starts_ident : Characters → Bool
-starts_ident [] = false
-starts_ident (c ∷ cs) = is_name_start c || ((c == hyphen) && begins (λ d. is_name_start d || (d == hyphen)) cs)
+-- such a run, whatever it says
+abbrev pub IsUnits : (Characters → Unit) → Form
+IsUnits unit piece rest = (said : Characters) × IsRun unit said piece rest
 
--- the token of one character
-abbrev pub mark_kind : ℕ → Kind
-mark_kind c =
-    if c == comma_sign then comma
-    else if c == colon_sign then colon
-    else if c == semicolon_sign then semicolon
-    else if c == left_parenthesis then open_round
-    else if c == right_parenthesis then close_round
-    else if c == left_bracket then open_square
-    else if c == right_bracket then close_square
-    else if c == left_brace then open_curly
-    else if c == right_brace then close_curly
-    else delim c
+-- characters of one form, and then of another
+pub record Then (First Second : Form) (piece rest : Characters) : Type 0 where
+  pub before : Characters
+  pub after : Characters
+  pub joined : piece ≡ before ++ after
+  pub first : First before (after ++ rest)
+  pub second : Second after rest
 
--- The kind of the token that the text begins with: the first row that fits. In this profile there are whitespace,
--- hashes, identifiers and single characters, and no escapes.
-abbrev pub kind_at : Characters → Kind
-kind_at [] = whitespace
-kind_at (c ∷ cs) =
-    if is_blank c then whitespace
-    else if (c == number_sign) && begins is_name_char cs then hash (starts_ident cs)
-    else if starts_ident (c ∷ cs) then ident
-    else mark_kind c
+-- of the first form where the text from here on passes, else of the second
+abbrev pub Either : (Characters → Bool) → Form → Form → Form
+Either passes Yes No piece rest =
+    ((passes (piece ++ rest) ≡ true) × Yes piece rest) ⊎ ((passes (piece ++ rest) ≡ false) × No piece rest)
 
--- a run of characters that pass, as long as can be
-pub record IsRun (p : ℕ → Bool) (run rest : Characters) : Type 0 where
-  pub all : AllByRecursion (λ c. p c ≡ true) run
-  pub stops : begins p rest ≡ false
+-- one character that passes, where there is one
+abbrev pub IsOptional : (ℕ → Bool) → Form
+IsOptional passes = Either (begins passes) (IsOne passes) IsNothing
 
-abbrev pub IsOneCharacter : Characters → Type 0
-IsOneCharacter piece = length piece ≡ 1
+-- nothing at the end of input, else these characters
+abbrev pub IsClosedBy : Characters → Form
+IsClosedBy text = Either is_nil IsNothing (IsText text)
 
--- The text of a token of a kind, with what comes after it. It is never empty.
-abbrev pub IsPiece : Kind → Characters → Characters → Type 0
-IsPiece whitespace piece rest = IsRun is_blank piece rest
-IsPiece (hash is_id) [] rest = ⊥
-IsPiece (hash is_id) (c ∷ name) rest = (c ≡ number_sign) × IsRun is_name_char name rest
-IsPiece ident piece rest = IsRun is_name_char piece rest
-IsPiece kind piece rest = IsOneCharacter piece
+-- `/*`, and up to `*/` or the end of input (section 4.3.2)
+abbrev pub IsComment : Form
+IsComment = Then (IsText (solidus ∷ asterisk ∷ [])) (Then (IsUnits comment_unit) (IsClosedBy (asterisk ∷ solidus ∷ [])))
 
--- the name in a token's text
-abbrev pub name_in : Kind → Characters → Characters
-name_in ident piece = piece
-name_in (hash is_id) piece = drop 1 piece
-name_in kind piece = []
+-- here is the end of input, or a line feed
+abbrev pub ends_unclosed : Characters → Bool
+ends_unclosed text = is_nil text || begins is_line_feed text
 
-abbrev pub spelling_in : Kind → Characters → Characters
-spelling_in whitespace piece = space ∷ []
-spelling_in kind piece = piece
+-- A string ends with the quote that it began with, or at the end of input; a bad one ends before a line feed
+-- (section 4.3.5).
+abbrev pub IsStringEnd : ℕ → Form
+IsStringEnd quote = Either ends_unclosed IsNothing (IsText (quote ∷ []))
 
--- the token of a kind whose text begins at an offset
-abbrev pub token_of : ℕ → Kind → Characters → Token
-token_of start kind piece = record {
-  kind = kind;
-  spelling = spelling_in kind piece;
-  name = name_in kind piece;
-  value = None;
-  span = Some (record { start = start; end = start + length piece });
+abbrev pub IsQuoted : ℕ → Form
+IsQuoted quote = Then (IsText (quote ∷ [])) (Then (IsUnits (string_unit quote)) (IsStringEnd quote))
+
+abbrev pub IsString : Form
+IsString piece rest = (quote : ℕ) × IsQuoted quote piece rest
+
+-- `#` or `@`, and a name (sections 4.3.1 and 4.3.11)
+abbrev pub IsNameAfter : ℕ → Form
+IsNameAfter sign = Then (IsText (sign ∷ [])) (IsUnits name_unit)
+
+-- a point and digits, where a digit follows the point (section 4.3.12)
+abbrev pub IsFraction : Form
+IsFraction = Either starts_fraction (Then (IsText (full_stop ∷ [])) (IsSpan is_digit)) IsNothing
+
+-- `e` or `E`, maybe a sign, and digits, where a digit follows these
+abbrev pub starts_exponent : Characters → Bool
+starts_exponent text = begins is_e text && begins is_digit (after_sign (drop 1 text))
+
+abbrev pub IsExponent : Form
+IsExponent = Either starts_exponent (Then (IsOne is_e) (Then (IsOptional is_sign) (IsSpan is_digit))) IsNothing
+
+-- maybe a sign, digits, a fraction and an exponent
+abbrev pub IsNumber : Form
+IsNumber = Then (IsOptional is_sign) (Then (IsSpan is_digit) (Then IsFraction IsExponent))
+
+-- the unit of a dimension, where an identifier starts
+abbrev pub IsUnitName : Form
+IsUnitName = Either starts_ident (IsUnits name_unit) IsNothing
+
+abbrev pub is_percent : ℕ → Bool
+is_percent c = c == percent_sign
+
+-- after a number: `%`, or a unit, or neither (section 4.3.3)
+abbrev pub IsSuffix : Form
+IsSuffix = Either (begins is_percent) (IsOne is_percent) IsUnitName
+
+-- nothing at the end of input, else `)`
+abbrev pub IsClosing : Form
+IsClosing = Either is_nil IsNothing (IsOne is_closing)
+
+-- what is left of a bad url: up to the next `)` that is not escaped, or the end of input (section 4.3.14)
+abbrev pub IsRemnant : Form
+IsRemnant = Then (IsUnits remnant_unit) IsClosing
+
+-- here is the end of input, or `)`
+abbrev pub ends_well : Characters → Bool
+ends_well text = is_nil text || begins is_closing text
+
+-- whitespace, and `)` or the end of input; where anything else is, the url is bad and goes on
+abbrev pub IsUrlEnd : Form
+IsUrlEnd = Then (IsSpan is_blank) (Either ends_well IsClosing IsRemnant)
+
+-- after `url(`: whitespace, the url, and its end (section 4.3.6)
+abbrev pub IsUrl : Form
+IsUrl = Then (IsSpan is_blank) (Then (IsUnits url_unit) IsUrlEnd)
+
+-- the name is `url`, and after the `(` comes no quote
+abbrev pub begins_url : Characters → Characters → Bool
+begins_url name text = is_word (codes "url") name && not (quote_follows text)
+
+-- after a name and `(`: the rest of a url, or nothing, where it is a function
+abbrev pub IsOpened : Characters → Form
+IsOpened name = Either (begins_url name) IsUrl IsNothing
+
+abbrev pub is_opening : ℕ → Bool
+is_opening c = c == left_parenthesis
+
+-- `(` and what comes after it, where `(` follows
+abbrev pub IsAfterName : Characters → Form
+IsAfterName name = Either (begins is_opening) (Then (IsOne is_opening) (IsOpened name)) IsNothing
+
+abbrev pub IsNamed : Characters → Form
+IsNamed name = Then (IsRun name_unit name) (IsAfterName name)
+
+-- an identifier, a function or a url (section 4.3.4)
+abbrev pub IsIdentLike : Form
+IsIdentLike piece rest = (name : Characters) × IsNamed name piece rest
+
+-- the form of the pieces of a row
+abbrev pub IsPiece : Row → Form
+IsPiece comment_row = IsComment
+-- whitespace, as much as there is
+IsPiece white_row = IsSpan is_blank
+IsPiece string_row = IsString
+IsPiece hash_row = IsNameAfter number_sign
+IsPiece number_row = Then IsNumber IsSuffix
+-- `-->` and `<!--`
+IsPiece cdc_row = IsText (hyphen ∷ hyphen ∷ greater_than_sign ∷ [])
+IsPiece cdo_row = IsText (less_than_sign ∷ exclamation_mark ∷ hyphen ∷ hyphen ∷ [])
+IsPiece at_row = IsNameAfter commercial_at
+IsPiece ident_row = IsIdentLike
+-- any other character
+IsPiece mark_row = IsOne (λ c. true)
+
+-- what a piece says, apart from where it is
+abbrev pub said_by : Piece → Said
+said_by piece = record { kind = piece.kind; name = piece.name; spelling = piece.spelling }
+
+-- a token that says what a piece says, with a text of so many characters from an offset on
+abbrev pub token_at : ℕ → Piece → ℕ → Token
+token_at start piece size = record {
+  kind = piece.kind;
+  name = piece.name;
+  spelling = piece.spelling;
+  span = Some (record { start = start; end = start + size });
 }
 
--- The text is the join of pieces, each the text of one token: no earlier row fits at its place, it is in the set of
--- its row, and its stop condition holds after it.
+-- The text from an offset on is the join of pieces, each a comment or the text of one token: no earlier row fits at its
+-- place, and it is a piece of its row before what follows it.
 pub data Reads : ℕ → Characters → List Token → Type 0 where
   nothing_left : (start : ℕ) → Reads start [] []
-  take_piece : (start : ℕ) (text piece rest : Characters) (tokens : List Token)
-      → piece ≢ [] → text ≡ piece ++ rest → IsPiece (kind_at text) piece rest
-      → Reads (start + length piece) rest tokens → Reads start text (token_of start (kind_at text) piece ∷ tokens)
+  skip_comment : (start c : ℕ) (cs piece rest : Characters) (tokens : List Token)
+      → c ∷ cs ≡ piece ++ rest → row_at (c ∷ cs) ≡ comment_row → IsPiece comment_row piece rest
+      → Reads (start + length piece) rest tokens → Reads start (c ∷ cs) tokens
+  take_piece : (start c : ℕ) (cs piece rest : Characters) (tokens : List Token)
+      → c ∷ cs ≡ piece ++ rest → row_at (c ∷ cs) ≢ comment_row → IsPiece (row_at (c ∷ cs)) piece rest
+      → Reads (start + length piece) rest tokens
+      → Reads start (c ∷ cs) (token_at start (piece_of (row_at (c ∷ cs)) c cs) (length piece) ∷ tokens)
 
 abbrev pub Reading : Characters → List Token → Type 0
 Reading text tokens = Reads 0 text tokens

@@ -1,5 +1,5 @@
 -- Tokens (css-syntax-3, section 4).
-use Rattle.std.specs.Prelude.{ℕ, ℤ, Bool, Option}
+use Rattle.std.specs.Prelude.{ℕ, Bool, Option}
 use Rattle.base_model.specs.Text.{Characters}
 
 pub data Kind : Type 0 where
@@ -36,11 +36,19 @@ pub record Span : Type 0 where
   pub end : ℕ
 
 -- A token, independent of its source text. The name is a name, a unit, or a string's or url's text, with escapes read,
--- and empty where there is none. The value is that of a number, percentage or dimension, in thousandths. The spelling
--- of whitespace is one space. A closer that the end of input adds has no span.
+-- and empty where there is none. The spelling is that of the number in a number, percentage or dimension, and empty in
+-- any other token. A closer that the end of input adds has no span.
 pub record Token : Type 0 where
   pub kind : Kind
-  pub spelling : Characters
   pub name : Characters
-  pub value : Option ℤ
+  pub spelling : Characters
   pub span : Option Span
+
+-- What a token says, wherever it is.
+pub record Said : Type 0 where
+  pub kind : Kind
+  pub name : Characters
+  pub spelling : Characters
+
+abbrev pub said : Token → Said
+said token = record { kind = token.kind; name = token.name; spelling = token.spelling }

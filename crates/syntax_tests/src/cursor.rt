@@ -47,14 +47,14 @@ fn first_part(alloc: Global, text: &str) -> Result<(usize, usize, bool), NoMemor
 #[test]
 fn parts(rt: HostRuntime) -> Result<(), Fail> {
     let seen = first_part(rt.alloc(), "a(,)b,c")?;
-    assert_eq!(rt; seen, (5, 2, false));
+    assert_eq!(rt; seen, (4, 2, false));
     Ok(())
 }
 
 #[test]
 fn open_part(rt: HostRuntime) -> Result<(), Fail> {
     let seen = first_part(rt.alloc(), "a(,c")?;
-    assert_eq!(rt; seen, (4, 0, true));
+    assert_eq!(rt; seen, (3, 0, true));
     Ok(())
 }
 

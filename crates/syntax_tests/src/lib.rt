@@ -1,4 +1,4 @@
-//! Tests of the public calls of `css_tokens` and `css_rules`.
+//! Tests of the public calls of `css_tokens`, `css_writer` and `css_rules`.
 #![tactic(auto)]
 
 #[cfg(test)]
@@ -7,3 +7,7 @@ mod cursor;
 mod rules;
 #[cfg(test)]
 mod tokens;
+#[cfg(test)]
+mod values;
+#[cfg(test)]
+mod writer;

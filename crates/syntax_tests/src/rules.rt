@@ -42,7 +42,12 @@ fn declarations(alloc: Global, block: &str) -> Result<String, NoMemory> {
     let block = tokens(alloc, block.as_str())?;
     let mut out = String::new(alloc);
     for declaration in &declaration_list(alloc, block.as_slice())? {
-        write!(out, "{}: ", declaration.name.as_str())?;
+        write!(
+            out,
+            "{} {}: ",
+            declaration.name.as_str(),
+            declaration.important
+        )?;
         push_shown(&mut out, declaration.value.as_slice())?;
     }
     Ok(out)
@@ -50,7 +55,10 @@ fn declarations(alloc: Global, block: &str) -> Result<String, NoMemory> {
 
 #[test]
 fn two_declarations(rt: HostRuntime) -> Result<(), Fail> {
-    let text = declarations(rt.alloc(), "a : b ;1;c:(;)")?;
-    assert_eq!(rt; text.as_str(), "a: b;c: OpenRound;Semicolon;CloseRound;");
+    let text = declarations(rt.alloc(), "a : b! Important ;1;c:(;")?;
+    assert_eq!(rt;
+        text.as_str(),
+        "a true: b;c false: OpenRound;Semicolon;CloseRound;"
+    );
     Ok(())
 }

@@ -30,6 +30,13 @@ fn kinds_and_names(rt: HostRuntime) -> Result<(), Fail> {
     Ok(())
 }
 
+#[test]
+fn functions_and_urls(rt: HostRuntime) -> Result<(), Fail> {
+    let text = kinds(rt.alloc(), "@m/*c*/f(url( u )'s")?;
+    assert_eq!(rt; text.as_str(), "AtKeyword m;Function f;Url u;String s;");
+    Ok(())
+}
+
 // Where each token of a text is.
 fn spans(alloc: Global, text: &str) -> Result<String, NoMemory> {
     let text = preprocess(alloc, text)?;

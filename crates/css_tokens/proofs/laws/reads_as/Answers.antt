@@ -1,4 +1,4 @@
-use Rattle.syntax_model.proofs.TokensLemmas.{reads_as}
+use Rattle.syntax_model.proofs.ReadingLemmas.{reads_as}
 use Rattle.css_tokens.proofs.laws.reads_as.Goals as goal
 
 pub returns : goal.returns

@@ -1,5 +1,5 @@
 use Rattle.std.proofs.Common.{length}
-use Rattle.css_tokens.proofs.ReadingLemmas.{IsReadUpTo}
+use Rattle.css_tokens.proofs.TokenizerLemmas.{IsReadUpTo}
 use Rattle.css_tokens.proofs.tokenizer.tokens_of.Given as goal
 
 abbrev pub invariant-loop-rest : goal.invariant-loop-rest

@@ -1,5 +1,0 @@
-use Rattle.css_rules.specs.Parser.{HasRead}
-use Rattle.css_rules.proofs.sheet.parse_rules.Given as goal
-
-abbrev pub invariant-loop-token : goal.invariant-loop-token
-invariant-loop-token l = HasRead l.parser l.yielded

@@ -1,0 +1,74 @@
+//! Tokens as text.
+
+ghost use Rattle.std.specs.Prelude.{◌≡◌, ◌++◌, IfOk, OnOk};
+ghost use Rattle.css_tokens.specs.View.{kind_of};
+ghost use Rattle.syntax_model.specs.Written as model;
+
+use crate::output::Output;
+use crate::token_text::push_token;
+use css_tokens::{Kind, Token};
+use std::alloc::Global;
+use stylo_base::{NoMemory, Text};
+
+/// The text of the tokens: each as it is written, with an empty comment between two that would read
+/// as others without it.
+pub fn write(alloc: Global, tokens: &[Token]) -> Result<Text, NoMemory>
+    ensures { IfOk result (λ text. text ≡ model.written tokens.now) }
+{
+    let mut out = Output::new(alloc);
+    let mut rest = tokens;
+    while let Some((token, after)) = rest.split_first() {
+        push_token(alloc, &mut out, token)?;
+        push_gap(&mut out, token.kind(), after)?;
+        rest = after;
+    }
+    Ok(out.into_text())
+}
+
+// Appends an empty comment after a token of this kind, where the next one needs it.
+fn push_gap(out: &mut Output, kind: Kind, rest: &[Token]) -> Result<(), NoMemory>
+    ensures { OnOk result (out.new ≡ out.old ++ model.gap (kind_of kind) rest.now) }
+{
+    match rest.first() {
+        Some(next) if !ends_itself(kind) && !begins_itself(next.kind()) => {
+            out.push_all(&['/', '*', '*', '/'])
+        }
+        _ => Ok(()),
+    }
+}
+
+// Whether nothing after a token of this kind can be taken for a part of it.
+fn ends_itself(kind: Kind) -> bool
+    ensures { result ≡ model.ends_itself (kind_of kind) }
+{
+    !matches!(
+        kind,
+        Kind::Ident
+            | Kind::AtKeyword
+            | Kind::Hash { .. }
+            | Kind::Number { .. }
+            | Kind::Dimension { .. }
+            | Kind::Delim(_)
+            | Kind::BadString
+            | Kind::BadUrl
+    )
+}
+
+// Whether a token of this kind can be taken for a part of no other before it.
+fn begins_itself(kind: Kind) -> bool
+    ensures { result ≡ model.begins_itself (kind_of kind) }
+{
+    matches!(
+        kind,
+        Kind::Whitespace
+            | Kind::Comma
+            | Kind::Colon
+            | Kind::Semicolon
+            | Kind::String
+            | Kind::OpenSquare
+            | Kind::CloseSquare
+            | Kind::CloseRound
+            | Kind::OpenCurly
+            | Kind::CloseCurly
+    )
+}

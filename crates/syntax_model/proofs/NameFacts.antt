@@ -1,0 +1,93 @@
+-- The name that a text begins with: some name, and no identifier where the text begins with none.
+use Rattle.std.proofs.Common.{◌≡◌, ℕ, ◌<◌, Bool, true, false, eqb, [], ◌∷◌, ◌++◌, drop, refl, sym, ap, ◌∙◌, arith, inl, inr}
+use Rattle.std.specs.Prelude.{◌||◌, option_to_list}
+use Rattle.std.proofs.lemmas.Bool.{and_left, and_parts, cases_Bool, cond_both, cond-false, cond-true, false≢true, or_cases, or_from, or_parts, or_right}
+use Rattle.std.proofs.lemmas.Bool.Decides.{nat_tests}
+use Rattle.base_model.specs.Lists.{is_nil}
+use Rattle.base_model.specs.Text.{Characters}
+use Rattle.syntax_model.specs.Letters.{begins, is_name_char, is_name_start}
+use Rattle.syntax_model.specs.Units.{Run, Unit, escape, hex_len, itself, name_unit, run_of, starts_escape, then_run}
+use Rattle.syntax_model.specs.Pieces.{name_in, starts_ident, starts_name}
+use Rattle.syntax_model.specs.Written.{name_text}
+use Rattle.syntax_model.proofs.UnitLemmas.{name_fits, run_of_more, run_of_none}
+use Rattle.syntax_model.proofs.PieceLemmas.{ident_starts, unit_some}
+
+-- an escape says a character
+escape_says : (cs : Characters) → is_nil (option_to_list (escape cs).said) ≡ false
+escape_says [] = refl
+escape_says (c ∷ cs) = cond_both (eqb (hex_len (c ∷ cs)) 0) _ _ (λ (u : Unit). is_nil (option_to_list u.said) ≡ false) (λ _. refl) (λ _. refl)
+
+unit_says : (text : Characters) → starts_name text ≡ true → is_nil (option_to_list (name_unit text).said) ≡ false
+unit_says [] h = absurd (false≢true h)
+unit_says (c ∷ cs) h =
+    let P : Unit → Type 0 = λ u. is_nil (option_to_list u.said) ≡ false in
+    cond_both (is_name_char c) _ _ P (λ _. refl)
+    (λ e. cond_both (starts_escape (c ∷ cs)) _ _ P (λ _. escape_says cs)
+    (λ k. absurd (false≢true (sym (or_from _ _ e k) ∙ h))))
+
+some_more : (first more : Characters) → is_nil first ≡ false → is_nil (first ++ more) ≡ false
+some_more [] more h = absurd (false≢true (sym h))
+some_more (c ∷ cs) more h = refl
+
+-- where a name starts, it is some name
+pub name_in_some : (text : Characters) → starts_name text ≡ true → is_nil (name_in text) ≡ false
+name_in_some text h =
+    ap (λ (r : Run). is_nil r.said) (run_of_more name_unit name_fits text (unit_some text h))
+    ∙ some_more (option_to_list (name_unit text).said) _ (unit_says text h)
+
+pub ident_name_some : (text : Characters) → starts_ident text ≡ true → is_nil (name_in text) ≡ false
+ident_name_some text h = name_in_some text (ident_starts text h)
+
+-- a name by its first character
+name_in_char : (c : ℕ) (cs : Characters) → is_name_char c ≡ true → name_in (c ∷ cs) ≡ c ∷ name_in cs
+name_in_char c cs h =
+    let text : Characters = c ∷ cs in
+    let one : name_unit text ≡ itself c = cond-true (is_name_char c) _ _ h in
+    let some : 0 < (name_unit text).taken = omega (arith, ap (λ (u : Unit). u.taken) one) in
+    ap (λ (r : Run). r.said) (run_of_more name_unit name_fits text some) ∙ ap (λ (u : Unit). (then_run u (run_of name_unit (drop u.taken text))).said) one
+
+name_in_none : (c : ℕ) (cs : Characters) → is_name_char c ≡ false → starts_escape (c ∷ cs) ≡ false → name_in (c ∷ cs) ≡ []
+name_in_none c cs h k =
+    ap (λ (r : Run). r.said) (run_of_none name_unit (c ∷ cs) (ap (λ (u : Unit). u.taken) (cond-false (is_name_char c) _ _ h ∙ cond-false (starts_escape (c ∷ cs)) _ _ k)))
+
+-- a name's text by its first character
+name_text_char : (c : ℕ) (cs : Characters) → is_name_char c ≡ true → name_text (c ∷ cs) ≡ c ∷ name_text cs
+name_text_char c cs h = ap (λ (w : Characters). w ++ name_text cs) (cond-true (is_name_char c) _ _ h)
+
+name_no_escape : (c : ℕ) → is_name_char c ≡ true → eqb c 92 ≡ false
+name_no_escape c h = grind (arith, nat_tests)
+
+-- what an identifier may go on with after a `-`
+goes_on : Characters → Bool
+goes_on text = begins (λ d. is_name_start d || eqb d 45) text || starts_escape text
+
+no_more : (text : Characters) → goes_on text ≡ false → goes_on (name_text (name_in text)) ≡ false
+unfolding goes_on
+no_more [] h = refl
+no_more (c ∷ cs) h =
+    let parts : ((is_name_start c || eqb c 45) ≡ false) × (starts_escape (c ∷ cs) ≡ false) = or_parts _ _ h in
+    elim (cases_Bool (is_name_char c)) [
+      | inl e ↦ ap goes_on (ap name_text (name_in_char c cs e) ∙ name_text_char c (name_in cs) e) ∙ or_from _ _ parts.0 (and_left _ _ (name_no_escape c e))
+      | inr e ↦ ap (λ (name : Characters). goes_on (name_text name)) (name_in_none c cs e parts.1)
+    ]
+
+no_ident_first : (c : ℕ) (cs : Characters) → is_name_char c ≡ true → starts_ident (c ∷ cs) ≡ false → starts_ident (c ∷ name_text (name_in cs)) ≡ false
+unfolding goes_on
+no_ident_first c cs e h =
+    cond_both (eqb c 45) _ _ (λ b. b ≡ false) (λ k. no_more cs (sym (cond-true _ _ _ k) ∙ h))
+    (λ k. or_from _ _ (or_parts (is_name_start c) _ (sym (cond-false _ _ _ k) ∙ h)).0 (and_left _ _ (name_no_escape c e)))
+
+escape_is_ident : (c : ℕ) (cs : Characters) → starts_escape (c ∷ cs) ≡ true → starts_ident (c ∷ cs) ≡ true
+escape_is_ident c cs h = cond-false _ _ _ (no_dash c (and_parts (eqb c 92) _ h).0) ∙ or_right (is_name_start c) _ h
+  where
+    no_dash : (c : ℕ) → eqb c 92 ≡ true → eqb c 45 ≡ false
+    no_dash c k = grind (arith, nat_tests)
+
+-- where a name and no identifier starts, its text begins with no identifier
+pub no_ident_written : (text : Characters) → starts_name text ≡ true → starts_ident text ≡ false → starts_ident (name_text (name_in text)) ≡ false
+no_ident_written [] h k = absurd (false≢true h)
+no_ident_written (c ∷ cs) h k =
+    elim (or_cases (is_name_char c) _ h) [
+      | inl e ↦ ap starts_ident (ap name_text (name_in_char c cs e) ∙ name_text_char c (name_in cs) e) ∙ no_ident_first c cs e k
+      | inr e ↦ absurd (false≢true (sym k ∙ escape_is_ident c cs e))
+    ]

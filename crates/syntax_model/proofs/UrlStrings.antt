@@ -1,0 +1,151 @@
+-- After the function `url` in a text without bad strings comes a string, with whitespace or none between.
+use Rattle.std.proofs.Common.{◌≡◌, ℕ, zero, suc, ◌+◌, ◌<◌, ◌≤◌, Bool, true, false, eqb, ◌&&◌, List, [], ◌∷◌, ◌++◌, length, drop, refl, sym, ap, ◌∙◌, arith, inl, inr, length-drop}
+use Rattle.std.specs.Prelude.{codes, not}
+use Rattle.std.specs.List.{list_all, prefix_len}
+use Rattle.std.proofs.lemmas.Bool.{cond_both, cond-false, cond-true, and_from, and_parts, cases_Bool, eqb-true, false≢true, or_cases}
+use Rattle.std.proofs.lemmas.List.{drop-drop}
+use Rattle.base_model.specs.Text.{Characters, is_word}
+use Rattle.syntax_model.specs.Letters.{begins, is_blank, is_quote}
+use Rattle.syntax_model.specs.Units.{len_of, string_unit}
+use Rattle.syntax_model.specs.Numbers.{number_len}
+use Rattle.syntax_model.specs.Token.{Token, Kind, function}
+use Rattle.syntax_model.specs.Kinds.{begins_with, without_white}
+use Rattle.syntax_model.specs.Pieces.{Piece, Row, comment_row, ident_piece, is_line_feed, mark_kind, name_in, name_len, number_piece, piece_of, plain, quote_follows, row_at, row_len, row_tokens, starts_ident, string_piece, string_row, token_of, url_piece, white_row}
+use Rattle.syntax_model.specs.TokensIn.{tokens_from, tokens_in}
+use Rattle.syntax_model.specs.Written.{is_bad_string, is_string, is_url_function, url_goes_on, urls_go_on}
+use Rattle.syntax_model.proofs.PieceLemmas.{first_is, not_false, row_any, url_any}
+
+abbrev NoBad : List Token → Type 0
+NoBad tokens = list_all (λ token. not (is_bad_string token.kind)) tokens ≡ true
+
+-- a string comes, with whitespace or none before it
+abbrev StringComes : List Token → Type 0
+StringComes tokens = begins_with is_string (without_white tokens) ≡ true
+
+-- quotes and blanks decide their rows
+quote_row : (c : ℕ) (cs : Characters) → is_quote c ≡ true → row_at (c ∷ cs) ≡ string_row
+quote_row c cs quote =
+    elim (or_cases (eqb c 34) _ quote) [
+      | inl is ↦ rw (eqb-true c 34 is) refl
+      | inr is ↦ rw (eqb-true c 39 is) refl
+    ]
+
+blank_row : (c : ℕ) (cs : Characters) → is_blank c ≡ true → row_at (c ∷ cs) ≡ white_row
+blank_row c cs blank =
+    elim (or_cases (eqb c 10) _ blank) [
+      | inl is ↦ rw (eqb-true c 10 is) refl
+      | inr other ↦ elim (or_cases (eqb c 9) _ other) [
+        | inl is ↦ rw (eqb-true c 9 is) refl
+        | inr is ↦ rw (eqb-true c 32 is) refl
+      ]
+    ]
+
+string_first : (start c : ℕ) (cs : Characters) (more : List Token) → NoBad (token_of start (string_piece c cs) ∷ more) → StringComes (token_of start (string_piece c cs) ∷ more)
+string_first start c cs more =
+    cond_both (begins is_line_feed (drop (len_of (string_unit c) cs) cs)) _ _ (λ (piece : Piece). NoBad (token_of start piece ∷ more) → StringComes (token_of start piece ∷ more)) (λ _ bad. absurd (false≢true bad)) (λ _ _. refl)
+
+-- from a quote on
+from_quote : (n start c : ℕ) (cs : Characters) → is_quote c ≡ true → NoBad (tokens_from (suc n) start (c ∷ cs)) → StringComes (tokens_from (suc n) start (c ∷ cs))
+from_quote n start c cs quote =
+    rw (quote_row c cs quote) (string_first start c cs (tokens_from n (start + (string_piece c cs).length) (drop (string_piece c cs).length (c ∷ cs))))
+
+-- from whitespace on, where a quote comes after it
+past_white : (m start : ℕ) (rest : Characters) → length rest ≤ m → begins is_quote rest ≡ true → NoBad (tokens_from m start rest) → StringComes (tokens_from m start rest)
+past_white m start [] h quote = absurd (false≢true quote)
+past_white zero start (c ∷ cs) h quote = absurd (omega (arith, h))
+past_white (suc m) start (c ∷ cs) h quote = from_quote m start c cs quote
+
+white_first : (n start c : ℕ) (cs : Characters) → length (c ∷ cs) ≤ suc n → is_blank c ≡ true → quote_follows (c ∷ cs) ≡ true → NoBad (tokens_from (suc n) start (c ∷ cs)) → StringComes (tokens_from (suc n) start (c ∷ cs))
+white_first n start c cs h blank quote =
+    let k : ℕ = prefix_len is_blank (c ∷ cs) in
+    let some : 0 < k = omega (arith, cond-true (is_blank c) (1 + prefix_len is_blank cs) 0 blank) in
+    rw (blank_row c cs blank) (past_white n (start + k) (drop k (c ∷ cs)) (omega (arith, h, some, length-drop k (c ∷ cs))) quote)
+
+string_after : (n start : ℕ) (text : Characters) → length text ≤ n → quote_follows text ≡ true → NoBad (tokens_from n start text) → StringComes (tokens_from n start text)
+string_after n start [] h quote = absurd (false≢true quote)
+string_after zero start (c ∷ cs) h quote = absurd (omega (arith, h))
+string_after (suc n) start (c ∷ cs) h quote =
+    elim (cases_Bool (is_blank c)) [
+      | inl blank ↦ white_first n start c cs h blank quote
+      | inr none ↦ from_quote n start c cs (ap (λ k. begins is_quote (drop k (c ∷ cs))) (sym (cond-false (is_blank c) (1 + prefix_len is_blank cs) 0 none)) ∙ quote)
+    ]
+
+-- what comes after a piece, where it is the function `url`
+abbrev GoesOn : Characters → Piece → Type 0
+GoesOn text piece = is_url_function (token_of 0 piece) ≡ true → quote_follows (drop piece.length text) ≡ true
+
+-- a token without a name is no such function
+no_name : (kind : Kind) (n : ℕ) → is_url_function (token_of 0 (plain kind n)) ≡ false
+no_name function n = refl
+no_name kind n = refl
+
+plain_goes_on : (kind : Kind) (n : ℕ) (text : Characters) → GoesOn text (plain kind n)
+plain_goes_on kind n text url = absurd (false≢true (sym (no_name kind n) ∙ url))
+
+string_goes_on : (c : ℕ) (cs text : Characters) → GoesOn text (string_piece c cs)
+string_goes_on c cs text =
+    cond_both (begins is_line_feed (drop (len_of (string_unit c) cs) cs)) _ _ (GoesOn text) (λ _ url. absurd (false≢true url)) (λ _ url. absurd (false≢true url))
+
+number_goes_on : (text : Characters) → GoesOn text (number_piece text)
+number_goes_on text =
+    cond_both (begins (λ c. eqb c 37) (drop (number_len text) text)) _ _ (GoesOn text) (λ _ url. absurd (false≢true url))
+    (λ _. cond_both (starts_ident (drop (number_len text) text)) _ _ (GoesOn text) (λ _ url. absurd (false≢true url)) (λ _ url. absurd (false≢true url)))
+
+url_goes : (before : ℕ) (rest text : Characters) → GoesOn text (url_piece before rest)
+url_goes before rest text = url_any (GoesOn text) before rest (λ _ url. absurd (false≢true url)) (λ _ url. absurd (false≢true url))
+
+ident_goes_on : (text : Characters) → GoesOn text (ident_piece text)
+ident_goes_on text =
+    let taken : ℕ = name_len text in
+    let rest : Characters = drop taken text in
+    cond_both (not (begins (λ c. eqb c 40) rest)) _ _ (GoesOn text) (λ _ url. absurd (false≢true url))
+    (λ _. cond_both (is_word (codes "url") (name_in text) && not (quote_follows (drop 1 rest))) _ _ (GoesOn text) (λ _. url_goes (taken + 1) (drop 1 rest) text)
+    (λ none url. by (is_word (codes "url") (name_in text)) none url))
+  where
+    by : (b : Bool) → (b && not (quote_follows (drop 1 (drop (name_len text) text)))) ≡ false → b ≡ true → quote_follows (drop (name_len text + 1) text) ≡ true
+    by true none url = rw (← drop-drop 1 (name_len text) text) (not_false _ none)
+    by false none url = absurd (false≢true url)
+
+piece_goes_on : (c : ℕ) (cs : Characters) → GoesOn (c ∷ cs) (piece_of (row_at (c ∷ cs)) c cs)
+piece_goes_on c cs =
+    row_any (λ row. GoesOn (c ∷ cs) (piece_of row c cs)) c cs
+    (λ _. plain_goes_on (piece_of comment_row c cs).kind 1 (c ∷ cs))
+    (λ _ url. absurd (false≢true url))
+    (λ _. string_goes_on c cs (c ∷ cs))
+    (λ _ _ url. absurd (false≢true url))
+    (λ _. number_goes_on (c ∷ cs))
+    (λ _ url. absurd (false≢true url))
+    (λ _ url. absurd (false≢true url))
+    (λ _ _ url. absurd (false≢true url))
+    (λ _. ident_goes_on (c ∷ cs))
+    (plain_goes_on (mark_kind c) 1 (c ∷ cs))
+
+-- the token of a piece, before the others
+one_goes_on : (token : Token) (rest : List Token) → (is_url_function token ≡ true → StringComes rest) → url_goes_on token rest ≡ true
+one_goes_on token rest comes =
+    cond_both (is_url_function token) _ _ (λ b. b ≡ true) (λ url. comes url) (λ _. refl)
+
+row_goes_on : (row : Row) (start c : ℕ) (cs : Characters) (rest : List Token) → (is_url_function (token_of start (piece_of row c cs)) ≡ true → NoBad rest → StringComes rest) → (NoBad rest → urls_go_on rest ≡ true) → NoBad (row_tokens row start c cs ++ rest) → urls_go_on (row_tokens row start c cs ++ rest) ≡ true
+row_goes_on comment_row start c cs rest comes later bad = later bad
+row_goes_on row start c cs rest comes later bad =
+    let others : NoBad rest = (and_parts (not (is_bad_string (piece_of row c cs).kind)) _ bad).1 in
+    and_from _ _ (one_goes_on (token_of start (piece_of row c cs)) rest (λ url. comes url others)) (later others)
+
+-- what comes after the piece is read from where it ends
+url_comes : (n start : ℕ) (row : Row) (c : ℕ) (cs : Characters) → length (drop (row_len row c cs) (c ∷ cs)) ≤ n → GoesOn (c ∷ cs) (piece_of row c cs) → is_url_function (token_of 0 (piece_of row c cs)) ≡ true → NoBad (tokens_from n start (drop (row_len row c cs) (c ∷ cs))) → StringComes (tokens_from n start (drop (row_len row c cs) (c ∷ cs)))
+url_comes n start comment_row c cs h goes url bad = absurd (false≢true (sym (no_name (mark_kind c) 1) ∙ url))
+url_comes n start row c cs h goes url bad = string_after n start (drop (row_len row c cs) (c ∷ cs)) h (goes url) bad
+
+urls_from : (n start : ℕ) (text : Characters) → length text ≤ n → NoBad (tokens_from n start text) → urls_go_on (tokens_from n start text) ≡ true
+urls_from zero start text h bad = refl
+urls_from (suc n) start [] h bad = refl
+urls_from (suc n) start (c ∷ cs) h bad =
+    let row : Row = row_at (c ∷ cs) in
+    let taken : ℕ = row_len row c cs in
+    let rest : Characters = drop taken (c ∷ cs) in
+    let inside : length rest ≤ n = omega (arith, h, (first_is c cs).some, length-drop taken (c ∷ cs)) in
+    row_goes_on row start c cs (tokens_from n (start + taken) rest) (url_comes n (start + taken) row c cs inside (piece_goes_on c cs)) (urls_from n (start + taken) rest inside) bad
+
+pub urls_go_on_in : (text : Characters) → NoBad (tokens_in text) → urls_go_on (tokens_in text) ≡ true
+unfolding tokens_in
+urls_go_on_in text bad = urls_from (length text) 0 text (omega arith) bad
