@@ -70,6 +70,15 @@ fn numbers(rt: HostRuntime) -> Result<(), Fail> {
 }
 
 #[test]
+fn places_of_a_type(rt: HostRuntime) -> Result<(), Fail> {
+    let doc = grown(&rt, rt.alloc(), &[0, 1, 0, 0])?;
+    assert!(rt; doc.contains(4));
+    let places = (doc.place_of_type(4), doc.place_of_type_from_last(4));
+    assert_eq!(rt; places, (1, 1));
+    Ok(())
+}
+
+#[test]
 fn parents(rt: HostRuntime) -> Result<(), Fail> {
     let nodes = list(&rt, rt.alloc(), &[0, 1])?;
     assert!(rt; nodes.len() == 3);

@@ -3,14 +3,15 @@
 use job_json::{JobFault, read};
 use std::alloc::{AllocError, Global};
 use std::test::Fail;
+use stylo_base::Kind;
 
 /// An answer of `read`, its job or its pointer left out.
 #[derive(Clone, Copy, Debug, PartialEq, Eq)]
 pub(crate) enum Answer {
     Good,
     NotJson,
-    /// With the empty pointer.
     Shape,
+    Over(Kind, u64),
     Other,
 }
 
@@ -27,8 +28,9 @@ pub(crate) fn answer_to(alloc: Global, bytes: &[u8]) -> Answer {
 fn fault_as(fault: &JobFault) -> Answer {
     match fault {
         JobFault::NotJson => Answer::NotJson,
-        JobFault::Shape(path) if path.as_str().is_empty() => Answer::Shape,
-        _ => Answer::Other,
+        JobFault::Shape(_) => Answer::Shape,
+        JobFault::Limit(kind, number) => Answer::Over(*kind, *number),
+        JobFault::NoMemory => Answer::Other,
     }
 }
 
@@ -62,7 +64,10 @@ fn sheet_text(rt: HostRuntime) -> Result<(), Fail> {
         text_as(rt.alloc(), "xx", "")?,
         text_as(rt.alloc(), "xx", "x")?,
     );
-    assert_eq!(rt; answers, (Answer::Good, Answer::Shape));
+    assert_eq!(rt;
+        answers,
+        (Answer::Good, Answer::Over(Kind::Text, 4_194_304))
+    );
     Ok(())
 }
 
@@ -73,7 +78,10 @@ fn sheet_text_in_bytes(rt: HostRuntime) -> Result<(), Fail> {
         text_as(rt.alloc(), "\u{e9}", "")?,
         text_as(rt.alloc(), "\u{e9}", "x")?,
     );
-    assert_eq!(rt; answers, (Answer::Good, Answer::Shape));
+    assert_eq!(rt;
+        answers,
+        (Answer::Good, Answer::Over(Kind::Text, 4_194_304))
+    );
     Ok(())
 }
 
@@ -90,7 +98,7 @@ fn chain_as(alloc: Global, count: u32) -> Result<Answer, AllocError> {
 #[test]
 fn depth(rt: HostRuntime) -> Result<(), Fail> {
     let answers = (chain_as(rt.alloc(), 256)?, chain_as(rt.alloc(), 257)?);
-    assert_eq!(rt; answers, (Answer::Good, Answer::Shape));
+    assert_eq!(rt; answers, (Answer::Good, Answer::Over(Kind::Depth, 256)));
     Ok(())
 }
 
@@ -104,7 +112,10 @@ fn flat_as(alloc: Global, count: u32) -> Result<Answer, AllocError> {
 #[test]
 fn elements(rt: HostRuntime) -> Result<(), Fail> {
     let answers = (flat_as(rt.alloc(), 65_535)?, flat_as(rt.alloc(), 65_536)?);
-    assert_eq!(rt; answers, (Answer::Good, Answer::Shape));
+    assert_eq!(rt;
+        answers,
+        (Answer::Good, Answer::Over(Kind::Elements, 65_536))
+    );
     Ok(())
 }
 
@@ -125,7 +136,7 @@ fn attributes(rt: HostRuntime) -> Result<(), Fail> {
         attributes_as(rt.alloc(), 64)?,
         attributes_as(rt.alloc(), 65)?,
     );
-    assert_eq!(rt; answers, (Answer::Good, Answer::Shape));
+    assert_eq!(rt; answers, (Answer::Good, Answer::Over(Kind::Attributes, 64)));
     Ok(())
 }
 
@@ -142,7 +153,10 @@ fn value(rt: HostRuntime) -> Result<(), Fail> {
         value_as(rt.alloc(), 1_048_576)?,
         value_as(rt.alloc(), 1_048_577)?,
     );
-    assert_eq!(rt; answers, (Answer::Good, Answer::Shape));
+    assert_eq!(rt;
+        answers,
+        (Answer::Good, Answer::Over(Kind::Value, 1_048_576))
+    );
     Ok(())
 }
 

@@ -1,5 +1,5 @@
 -- What was made of a list of nodes is whole, and is its document.
-use Rattle.std.proofs.Common.{◌≡◌, ℕ, ◌<◌, ◌≤◌, ◌&&◌, nat_lt, nat_le, List, length, Some, sym, ap, ◌∙◌, subst, arith, ltb-true, lt-ltb, le-leb, leb-true}
+use Rattle.std.proofs.Common.{◌≡◌, ℕ, ◌<◌, ◌≤◌, ◌&&◌, nat_lt, nat_le, false, true, List, length, Some, sym, ap, ◌∙◌, subst, arith, ltb-true, lt-ltb, le-leb, leb-true}
 use Rattle.std.specs.Bool.{Decides}
 use Rattle.std.specs.List.{filter_map}
 use Rattle.std.proofs.lemmas.Bool.{and_from, and_parts}
@@ -18,6 +18,7 @@ use Rattle.dom_tree.specs.declared.links.Link.{Link}
 use Rattle.dom_tree.specs.Kept.{Table}
 use Rattle.dom_tree.specs.Labels.{AreLabels}
 use Rattle.dom_tree.specs.Links.{AreLinks}
+use Rattle.dom_tree.specs.TypePlaces.{AreTypePlaces}
 use Rattle.dom_tree.specs.Whole.{in_order, document, IsWhole}
 
 in_order_of_list : (list : List Node) (order : List ℕ) → order ≡ tree_order list → in_order list order ≡ scene_of list
@@ -43,8 +44,8 @@ module _ (list : List Node) (v : IsNodeList list) where
         each = λ x l h. are.each x l (omega (arith, so_many)) ∙ (λ i. Some (record { children = sym (children-scene_of list v x) i; place = sym (place_of-scene_of list v x) i }));
       }
 
-  pub whole_of_list : (table : Table) (links : List Link) (labels : List Label) (lists : List (List Characters)) (order : List ℕ) → table.nodes ≡ list → length list ≤ element_limit → AreLinks (listed list) links → StandOnce table.names → AreLabels table lists labels → order ≡ tree_order list → IsWhole table links labels lists order
-  whole_of_list table links labels lists order nodes few are once labelled f =
+  pub whole_of_list : (table : Table) (links : List Link) (before after : List ℕ) (labels : List Label) (lists : List (List Characters)) (order : List ℕ) → table.nodes ≡ list → length list ≤ element_limit → AreLinks (listed list) links → AreTypePlaces (scene_of table.nodes) false before → AreTypePlaces (scene_of table.nodes) true after → StandOnce table.names → AreLabels table lists labels → order ≡ tree_order list → IsWhole table links before after labels lists order
+  whole_of_list table links before after labels lists order nodes few are types_before types_after once labelled f =
       let same : in_order table.nodes order ≡ scene_of list = ap (λ l. in_order l order) nodes ∙ in_order_of_list list order f in
       let so_many : length list ≡ length table.nodes = ap length (sym nodes) in
       record {
@@ -54,6 +55,8 @@ module _ (list : List Node) (v : IsNodeList list) where
         listed = ap numbers same ∙ (numbers-scene_of list v ∙ sym f);
         known = λ x. ap (λ doc. is_element doc x) same ∙ (same_from_decides _ _ (decides-scene_of list v x) (within-Decides x (length list)) ∙ ap (λ n. nat_lt 0 x && nat_le x n) so_many);
         links_of = subst (λ doc. AreLinks doc links) (sym same) (links_in_tree links are);
+        types_before = subst (λ doc. AreTypePlaces doc false before) (ap scene_of nodes ∙ sym same) types_before;
+        types_after = subst (λ doc. AreTypePlaces doc true after) (ap scene_of nodes ∙ sym same) types_after;
         count = ap length f ∙ (length-tree_order list v ∙ so_many);
         once = once;
         labels_of = labelled;

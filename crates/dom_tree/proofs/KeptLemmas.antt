@@ -10,7 +10,7 @@ use Rattle.base_model.specs.Text.{is_empty_text, same_text}
 use Rattle.stylo_base.proofs.TextLemmas.{chars-ascii}
 use Rattle.scene_model.specs.Document.{Document}
 use Rattle.scene_model.specs.Element.{Element, Characters, State, States, has_state}
-use Rattle.scene_model.specs.Lookups.{attribute_of, children, element_at, is_element, IsElement, parent_of, place_of, state_of, tag_of}
+use Rattle.scene_model.specs.Lookups.{attribute_of, children, element_at, is_element, IsElement, parent_of, place_of, place_of_type, state_of, tag_of}
 use Rattle.scene_model.specs.Nodes.{Node, listed}
 use Rattle.scene_model.proofs.Found.{is_element-at, element_at-filter_map}
 use Rattle.scene_model.specs.Nodes.{IsParentAt}
@@ -22,6 +22,7 @@ use Rattle.dom_tree.specs.Classes.{list_of}
 use Rattle.dom_tree.specs.Kept.{Table, text_of}
 use Rattle.dom_tree.specs.Labels.{IsLabel, class_words, id_text}
 use Rattle.dom_tree.specs.Links.{link_of}
+use Rattle.dom_tree.specs.TypePlaces.{AreTypePlaces}
 use Rattle.dom_tree.specs.Whole.{document, in_order, IsWhole}
 use Rattle.dom_tree.proofs.Places.{item_at}
 
@@ -36,7 +37,7 @@ element_at-in_order nodes order x h =
     let some : is_some (cond (is_in x order) (element_at (listed nodes) x) None) ≡ true = ap is_some (sym at) ∙ (sym (is_element-at (in_order nodes order) x) ∙ h) in
     at ∙ kept_some (is_in x order) (element_at (listed nodes) x) some
 
-module _ (table : Table) (links : List Link) (labels : List Label) (lists : List (List Characters)) (order : List ℕ) (now : Document) (x : ℕ) (whole : IsWhole table links labels lists order) (view : document table order ≡ now) (is : IsElement now.elements x) where
+module _ (table : Table) (links : List Link) (before after : List ℕ) (labels : List Label) (lists : List (List Characters)) (order : List ℕ) (now : Document) (x : ℕ) (whole : IsWhole table links before after labels lists order) (view : document table order ≡ now) (is : IsElement now.elements x) where
   there : IsElement (in_order table.nodes order) x
   there = ap (λ (d : Document). is_element d.elements x) view ∙ is
 
@@ -101,6 +102,29 @@ module _ (table : Table) (links : List Link) (labels : List Label) (lists : List
 
   pub place_is : (place : ℕ) → IfSome (slice_get links (x - 1)) (λ link. place ≡ link.place) → place ≡ place_of now.elements x
   place_is place h = subst (λ o. IfSome o (λ (link : Link). place ≡ link.place)) linked h
+
+  -- places among the siblings of its type
+
+  typed : (from_last : Bool) (places : List ℕ) → AreTypePlaces (in_order table.nodes order) from_last places → (x ≤ length places) × (slice_get places (x - 1) ≡ Some (place_of_type now.elements from_last x))
+  typed from_last places are =
+      (omega (arith, link_within, are.count, whole.links_of.count), are.each x within.0 (omega (arith, link_within, whole.links_of.count)) ∙ ap (λ (d : Document). Some (place_of_type d.elements from_last x)) view)
+
+  pub before_within : x ≤ length before
+  before_within = (typed false before whole.types_before).0
+
+  pub after_within : x ≤ length after
+  after_within = (typed true after whole.types_after).0
+
+  typed_read : (from_last : Bool) (places : List ℕ) → AreTypePlaces (in_order table.nodes order) from_last places → (place : ℕ) → place ≡ get_or places (x - 1) place → place ≡ place_of_type now.elements from_last x
+  typed_read from_last places are place read =
+      let (inside, at) = typed from_last places are in
+      same_Some place (place_of_type now.elements from_last x) (sym (slice_get_read places (length places) (x - 1) place refl (omega (arith, within.0, inside)) read) ∙ at)
+
+  pub before_is : (place : ℕ) → place ≡ get_or before (x - 1) place → place ≡ place_of_type now.elements false x
+  before_is place read = typed_read false before whole.types_before place read
+
+  pub after_is : (place : ℕ) → place ≡ get_or after (x - 1) place → place ≡ place_of_type now.elements true x
+  after_is place read = typed_read true after whole.types_after place read
 
   -- labels
 

@@ -6,6 +6,7 @@ pub mod PutLemmas
 pub mod ColumnLemmas
 pub mod LinkLemmas
 pub mod FlatLemmas
+pub mod TypeLemmas
 pub mod WalkLemmas
 pub mod DocLemmas
 pub mod KeptLemmas

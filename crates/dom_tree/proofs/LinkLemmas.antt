@@ -49,7 +49,7 @@ parent_below list k p v l told =
     let (node, at, e) = node_read list k (Some p) l told in
     subst (IsParentAt k) e (parent_at list k node v at)
 
-few_children : (es : List Element) (p : ℕ) → length (children es p) ≤ length es
+pub few_children : (es : List Element) (p : ℕ) → length (children es p) ≤ length es
 few_children es p = omega (arith, length-map (filter (is_child_of p) es) (λ e. e.number), length-filter_both (is_child_of p) (λ e. not (is_child_of p e)) (λ _. refl) es)
 
 pub few_so_far : (list : List Node) (k p n : ℕ) (links : List Link) → AreLinksSoFar list k links → p < k → k ≤ length list → length list < n → IfSome (slice_get links p) (λ link. length link.children < n)

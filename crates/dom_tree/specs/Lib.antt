@@ -4,4 +4,5 @@ pub mod Classes
 pub mod Labels
 pub mod Depths
 pub mod Links
+pub mod TypePlaces
 pub mod Whole

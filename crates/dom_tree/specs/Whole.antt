@@ -1,5 +1,5 @@
 -- The document that is kept, and what holds of what is kept.
-use Rattle.std.specs.Prelude.{◌≡◌, ℕ, ◌≤◌, ◌&&◌, nat_lt, nat_le, List, length}
+use Rattle.std.specs.Prelude.{◌≡◌, ℕ, ◌≤◌, ◌&&◌, nat_lt, nat_le, false, true, List, length}
 use Rattle.std.specs.List.{filter_map}
 use Rattle.stylo_base.specs.NameList.{StandOnce}
 use Rattle.base_model.specs.Limits.{element_limit}
@@ -13,6 +13,7 @@ use Rattle.dom_tree.specs.declared.links.Link.{Link}
 use Rattle.dom_tree.specs.Kept.{Table}
 use Rattle.dom_tree.specs.Labels.{AreLabels}
 use Rattle.dom_tree.specs.Links.{AreLinks}
+use Rattle.dom_tree.specs.TypePlaces.{AreTypePlaces}
 
 -- the elements of nodes, numbered in list order, in tree order
 unfoldable pub in_order : List Node → List ℕ → List Element
@@ -22,15 +23,18 @@ in_order nodes order = filter_map (element_at (listed nodes)) order
 abbrev pub document : Table → List ℕ → Document
 document table order = record { elements = in_order table.nodes order; last = length table.nodes }
 
--- what holds of what is kept: each node is an element and found at its number, and the links and labels are its own
-pub record IsWhole (table : Table) (links : List Link) (labels : List Label) (lists : List (List Characters))
-    (order : List ℕ) : Type 0 where
+-- what holds of what is kept: each node is an element and found at its number, and the links, the places among the
+-- siblings of its type, from the first and from the last, and the labels are its own
+pub record IsWhole (table : Table) (links : List Link) (before after : List ℕ) (labels : List Label)
+    (lists : List (List Characters)) (order : List ℕ) : Type 0 where
   pub few : length table.nodes ≤ element_limit
   pub shape : IsNodeList table.nodes
   pub valid : IsValid (in_order table.nodes order)
   pub listed : numbers (in_order table.nodes order) ≡ order
   pub known : (x : ℕ) → is_element (in_order table.nodes order) x ≡ (nat_lt 0 x && nat_le x (length table.nodes))
   pub links_of : AreLinks (in_order table.nodes order) links
+  pub types_before : AreTypePlaces (in_order table.nodes order) false before
+  pub types_after : AreTypePlaces (in_order table.nodes order) true after
   pub count : length order ≡ length table.nodes
   pub once : StandOnce table.names
   pub labels_of : AreLabels table lists labels

@@ -1,11 +1,11 @@
 //! The document: its elements in tree order, and what is asked of one of them.
 
-ghost use Rattle.std.specs.Prelude.{◌≡◌, ◌<◌, ◌≤◌, ℕ, IfOk, codes, false, length, not, ◌&&◌, option_map};
+ghost use Rattle.std.specs.Prelude.{◌≡◌, ◌<◌, ◌≤◌, ℕ, IfOk, codes, false, true, length, not, ◌&&◌, option_map};
 ghost use Rattle.std.specs.Option.{option_map_or};
 ghost use Rattle.std.specs.Str.{chars};
 ghost use Rattle.base_model.specs.Limits.{element_limit};
 ghost use Rattle.base_model.specs.Text.{is_empty_text, same_text};
-ghost use Rattle.scene_model.specs.Lookups.{IsElement, attribute_of, children, has_class, is_element, numbers, parent_of, place_of, state_of, tag_of};
+ghost use Rattle.scene_model.specs.Lookups.{IsElement, attribute_of, children, has_class, is_element, numbers, parent_of, place_of, place_of_type, state_of, tag_of};
 ghost use Rattle.scene_model.specs.Document.{document_of};
 ghost use Rattle.scene_model.specs.Valid.{IsValid};
 ghost use Rattle.stylo_base.specs.StateView.{state_seen};
@@ -18,6 +18,7 @@ use crate::labels::{Label, label_nodes};
 use crate::links::Links;
 use crate::nodes::NodeList;
 use crate::start::walk;
+use crate::type_places::{TypePlaces, place_types};
 use std::alloc::Global;
 use std::marker::Model;
 use stylo_base::{Atom, NoMemory, State};
@@ -30,6 +31,7 @@ pub struct Doc {
     columns: Columns,
     /// By number, from 1.
     links: Links,
+    types: TypePlaces,
     /// By number, from 1.
     labels: Vec<Label>,
     /// The class lists that the labels name.
@@ -49,7 +51,8 @@ impl Model for Doc {
 
     ghost view = { λ d. document d.columns d.order.items };
 
-    ghost invariant = { λ d. IsWhole d.columns d.links d.labels.items d.lists d.order.items };
+    ghost invariant = { λ d. IsWhole d.columns d.links d.types.before.items d.types.after.items
+        d.labels.items d.lists d.order.items };
 }
 
 impl Doc {
@@ -70,11 +73,13 @@ impl Doc {
         let links = Links::of_list(alloc, &list)?;
         let order = walk(alloc, &list, &links)?;
         let columns = list.into_columns();
+        let types = place_types(alloc, &columns, &links)?;
         let mut lists = ClassLists::new(alloc);
         let labels = label_nodes(alloc, &columns, &mut lists)?;
         Ok(Doc {
             columns,
             links,
+            types,
             labels,
             lists,
             order,
@@ -149,6 +154,22 @@ impl Doc {
         self.links.place(x)
     }
 
+    /// How many siblings of its type are before `x`.
+    pub fn place_of_type(&self, x: u32) -> u32
+        requires { IsElement self.now.elements x }
+        ensures { result ≡ place_of_type self.now.elements false x }
+    {
+        self.types.before[x as usize - 1]
+    }
+
+    /// How many siblings of its type are after `x`.
+    pub fn place_of_type_from_last(&self, x: u32) -> u32
+        requires { IsElement self.now.elements x }
+        ensures { result ≡ place_of_type self.now.elements true x }
+    {
+        self.types.after[x as usize - 1]
+    }
+
     /// The tag of `x`.
     pub fn tag(&self, x: u32) -> &str
         requires { IsElement self.now.elements x }
@@ -166,16 +187,6 @@ impl Doc {
         self.columns
             .names()
             .is_atom(self.columns.tag(x as usize - 1), tag)
-    }
-
-    /// Whether `x` and `y` have the same tag.
-    #[inline]
-    pub fn same_tag(&self, x: u32, y: u32) -> bool
-        requires first { IsElement self.now.elements x }
-        requires second { IsElement self.now.elements y }
-        ensures { result ≡ same_text (tag_of self.now.elements x) (tag_of self.now.elements y) }
-    {
-        self.columns.tag(x as usize - 1) == self.columns.tag(y as usize - 1)
     }
 
     /// Whether `class` is one of the words of the `class` attribute of `x`.

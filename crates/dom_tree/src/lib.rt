@@ -13,6 +13,7 @@ mod nodes;
 mod numbers;
 mod span;
 mod start;
+mod type_places;
 mod words;
 
 pub use class_names::ClassNames;

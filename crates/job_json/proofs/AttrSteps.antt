@@ -7,8 +7,8 @@ use Rattle.serde_json.specs.Data.{Data, object, Members, no_members, member}
 use Rattle.serde_json.specs.Find.{as_str, as_object}
 use Rattle.base_model.specs.Limits.{attribute_limit, value_limit}
 use Rattle.scene_model.specs.Element.{Characters, Attributes}
-use Rattle.job_json.specs.Shape.{is_name, pairs_of, attrs_from}
-use Rattle.job_json.specs.Limits.{count_of, is_short, are_short, are_attrs_within}
+use Rattle.job_json.specs.Values.{is_name, pairs_of, attrs_from}
+use Rattle.job_json.specs.Fits.{count_of, is_short, are_short, are_attrs_within}
 use Rattle.job_json.specs.Slots.{pair_within, pairs_within, slots_of}
 use Rattle.job_json.specs.Within.{attrs_within}
 use Rattle.job_json.proofs.SlotSteps.{count_of-slots}

@@ -1,14 +1,20 @@
 -- What JSON values say, computed.
-use Rattle.std.specs.Prelude.{◌≡◌, ℕ, List, [], ◌∷◌, Bool, true, false, is_some, Some, pos, neg_ℤ, Float, replicate, codes}
+use Rattle.std.specs.Prelude.{◌≡◌, ℕ, zero, suc, List, [], ◌∷◌, Bool, true, false, is_some, Option, Some, None, pos, neg_ℤ, Float, replicate, codes}
 use Rattle.std.specs.List.{list_all, list_any}
+use Rattle.std.specs.Str.{chars}
+use Rattle.std.specs.Fmt.{digits}
 use Rattle.std.proofs.Common.{refl}
-use Rattle.serde_json.specs.Data.{Data, null, boolean, number, string, array, object, unsigned, negative, float, Items, no_items, item, Members, no_members, put}
+use Rattle.serde_json.specs.Data.{Data, null, boolean, number, string, array, object, unsigned, negative, float, Items, no_items, item, Members, no_members, member, put}
 use Rattle.base_model.specs.Ascii.{delete}
 use Rattle.scene_model.specs.Ancestors.{ancestors}
 use Rattle.scene_model.specs.Nodes.{scene_of, tree_order}
-use Rattle.job_json.specs.Shape.{is_name, states_from}
+use Rattle.job_json.specs.Values.{is_name, states_from}
 use Rattle.job_json.specs.Sheets.{sheet_from}
-use Rattle.job_json.specs.JobOf.{job_within}
+use Rattle.stylo_base.specs.declared.refusal.Kind.TheVariants.{Attributes, Depth}
+use Rattle.job_json.specs.Checked.{first_bad}
+use Rattle.job_json.specs.Shape.{job_in}
+use Rattle.job_json.specs.Limits.{nodes_past}
+use Rattle.job_json.specs.Within.{job_within}
 
 -- JSON values as they are read: of members with the same key the last stays
 
@@ -249,3 +255,107 @@ other_sheets =
 
 no_sheet_members : list_any is_sheet other_sheets ≡ false
 no_sheet_members = refl
+
+-- ---- where a job is bad, and which limit it passes
+
+abbrev bad_at : Data → Option (List ℕ)
+bad_at value = first_bad (job_in value)
+
+abbrev at : List ℕ → Option (List ℕ)
+at path = Some path
+
+no_object : bad_at (list []) ≡ at []
+no_object = refl
+
+no_version : bad_at (obj (alone ∷ [])) ≡ at (codes "/version")
+unfolding chars
+no_version = refl
+
+-- in reading order, whatever the order of the members
+version_first : bad_at (obj (batches null ∷ sheets null ∷ nodes null ∷ version null ∷ [])) ≡ at (codes "/version")
+unfolding chars
+version_first = refl
+
+nodes_next : bad_at (obj (batches null ∷ sheets null ∷ nodes (list []) ∷ version (n 1) ∷ [])) ≡ at (codes "/nodes")
+unfolding chars
+nodes_next = refl
+
+sheets_next : bad_at (obj (batches null ∷ sheets null ∷ alone ∷ version (n 1) ∷ [])) ≡ at (codes "/sheets")
+unfolding chars
+sheets_next = refl
+
+batches_last : bad_at (obj (batches (list (list [] ∷ [])) ∷ alone ∷ version (n 1) ∷ [])) ≡ at (codes "/batches")
+unfolding chars
+batches_last = refl
+
+abbrev node_bad_at : List (List ℕ × Data) → Option (List ℕ)
+node_bad_at entries = bad_at (obj (version (n 1) ∷ nodes (list (obj entries ∷ [])) ∷ []))
+
+tag_first : node_bad_at (parent null ∷ attrs null ∷ states null ∷ []) ≡ at (codes "/nodes/0/tag")
+unfolding chars digits
+tag_first = refl
+
+parent_next : node_bad_at (p ∷ parent null ∷ attrs null ∷ states null ∷ []) ≡ at (codes "/nodes/0/parent")
+unfolding chars digits
+parent_next = refl
+
+attrs_next : node_bad_at (p ∷ attrs null ∷ states null ∷ []) ≡ at (codes "/nodes/0/attrs")
+unfolding chars digits
+attrs_next = refl
+
+states_last : node_bad_at (p ∷ states (list (text (codes "hover") ∷ n 1 ∷ [])) ∷ []) ≡ at (codes "/nodes/0/states/1")
+unfolding chars digits
+states_last = refl
+
+second_node : bad_at (obj (version (n 1) ∷ nodes (list (two (n 1))) ∷ [])) ≡ at (codes "/nodes/1/parent")
+unfolding chars digits
+second_node = refl
+
+-- by the bytes of the keys, the name before its value
+pair_bad_at : node_bad_at (p ∷ attrs (obj ((codes "b b", empty) ∷ (codes "Z", empty) ∷ (codes "b/~", n 1) ∷ [])) ∷ []) ≡ at (codes "/nodes/0/attrs/b b")
+unfolding chars digits
+pair_bad_at = refl
+
+escaped_key : node_bad_at (p ∷ attrs (obj ((codes "a~/b", n 3) ∷ [])) ∷ []) ≡ at (codes "/nodes/0/attrs/a~0~1b")
+unfolding chars digits
+escaped_key = refl
+
+abbrev sheets_bad_at : List Data → Option (List ℕ)
+sheets_bad_at values = bad_at (obj (version (n 1) ∷ alone ∷ sheets (list values) ∷ []))
+
+text_before_next : sheets_bad_at (obj (author ∷ []) ∷ n 3 ∷ []) ≡ at (codes "/sheets/0/text")
+unfolding chars digits
+text_before_next = refl
+
+disabled : sheets_bad_at (obj (author ∷ css empty ∷ enabled (boolean false) ∷ []) ∷ []) ≡ at (codes "/sheets/0/enabled")
+unfolding chars digits
+disabled = refl
+
+user_sheet : sheets_bad_at (obj (origin (text (codes "user")) ∷ css (n 7) ∷ []) ∷ []) ≡ at (codes "/sheets/0/origin")
+unfolding chars digits
+user_sheet = refl
+
+second_sheet : sheets_bad_at (one ∷ one ∷ []) ≡ at (codes "/sheets/1")
+unfolding chars digits
+second_sheet = refl
+
+-- so many attributes
+abbrev many : ℕ → Members
+many zero = no_members
+many (suc k) = member [] empty (many k)
+
+abbrev with_many : ℕ → Data
+with_many k = object (member (codes "attrs") (object (many k)) no_members)
+
+-- node by node its attributes, and then its depth
+attributes_first : nodes_past (item (with_many 65) no_items) (257 ∷ []) ≡ Some (Attributes, 64)
+attributes_first = refl
+
+depth_last : nodes_past (item (with_many 64) no_items) (257 ∷ []) ≡ Some (Depth, 256)
+depth_last = refl
+
+earlier_node : nodes_past (item (with_many 64) (item (with_many 65) no_items)) (257 ∷ 1 ∷ []) ≡ Some (Depth, 256)
+earlier_node = refl
+
+none_past : nodes_past (item (with_many 64) no_items) (256 ∷ []) ≡ None
+none_past = refl

@@ -11,9 +11,10 @@ use Rattle.layer_order.specs.declared.sheet_input.SheetInput.{SheetInput}
 use Rattle.job_json.specs.declared.Job.{Job}
 use Rattle.job_json.specs.declared.document.JobParts.{JobParts}
 use Rattle.job_json.specs.Sheets.{sheets_from}
-use Rattle.job_json.specs.Shape.{whole, is_one, is_empty_list, is_version, nodes_of, parts_from, job_from}
-use Rattle.job_json.specs.Limits.{are_nodes_within, are_sheets_within}
-use Rattle.job_json.specs.JobOf.{node_items, items_or_none, nodes_within, sheets_within, job_within}
+use Rattle.job_json.specs.Values.{whole, is_one, is_empty_list, is_version, nodes_of, parts_from, job_from}
+use Rattle.job_json.specs.Fits.{are_nodes_within, are_sheets_within}
+use Rattle.job_json.specs.Within.{nodes_within, sheets_within, job_within}
+use Rattle.job_json.specs.Fits.{node_items, items_or_none}
 use Rattle.job_json.specs.Within.{nodes_in}
 use Rattle.job_json.specs.Kept.{IsJobOf}
 
@@ -87,11 +88,11 @@ passed : {A : Type 0} (b : Bool) (p : A → Bool) (x a : A) → p x ≡ b → co
 passed true p x a is e = ap p (sym (same_Some x a e)) ∙ is
 passed false p x a is e = absurd (cc)
 
-checked : {A : Type 0} (p : A → Bool) (o : Option A) (a : A) → option_and_then (λ x. cond (p x) (Some x) None) o ≡ Some a → p a ≡ true
+pub checked : {A : Type 0} (p : A → Bool) (o : Option A) (a : A) → option_and_then (λ x. cond (p x) (Some x) None) o ≡ Some a → p a ≡ true
 checked p None a e = absurd (cc)
 checked p (Some x) a e = passed (p x) p x a refl e
 
-both : (a b : Bool) → (a && b) ≡ true → (a ≡ true) × (b ≡ true)
+pub both : (a b : Bool) → (a && b) ≡ true → (a ≡ true) × (b ≡ true)
 both true b e = (refl, e)
 both false b e = absurd (cc)
 

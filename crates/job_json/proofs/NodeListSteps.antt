@@ -8,9 +8,9 @@ use Rattle.serde_json.specs.Find.{get, as_array}
 use Rattle.serde_json.specs.View.{items_of}
 use Rattle.base_model.specs.Limits.{element_limit}
 use Rattle.scene_model.specs.Nodes.{Node}
-use Rattle.job_json.specs.Shape.{node_at, nodes_from, nodes_of}
-use Rattle.job_json.specs.Limits.{are_attrs_within, are_items_within, are_depths_within, are_nodes_within}
-use Rattle.job_json.specs.JobOf.{nodes_within}
+use Rattle.job_json.specs.Values.{node_at, nodes_from, nodes_of}
+use Rattle.job_json.specs.Fits.{are_attrs_within, are_items_within, are_depths_within, are_nodes_within}
+use Rattle.job_json.specs.Within.{nodes_within}
 use Rattle.job_json.specs.Within.{node_within, nodes_in}
 use Rattle.job_json.specs.declared.node_list.Nodes.{Nodes}
 use Rattle.job_json.specs.Kept.{AreNodesOf, AreGoodNodes, HasNodes, IsAppended, flat_nodes, nodes_or_none}

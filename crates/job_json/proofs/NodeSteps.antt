@@ -6,8 +6,8 @@ use Rattle.serde_json.specs.Find.{get, get_member, as_object}
 use Rattle.scene_model.specs.Element.{Characters, Attributes, States}
 use Rattle.scene_model.specs.Nodes.{Node}
 use Rattle.job_json.specs.declared.node.NodeParts.{NodeParts}
-use Rattle.job_json.specs.Shape.{whole, name_of, parent_from, attrs_from, states_from}
-use Rattle.job_json.specs.Limits.{are_attrs_within}
+use Rattle.job_json.specs.Values.{whole, name_of, parent_from, attrs_from, states_from}
+use Rattle.job_json.specs.Fits.{are_attrs_within}
 use Rattle.job_json.specs.Within.{named_parent, parent_at, attrs_within, node_within}
 use Rattle.job_json.specs.Kept.{IsNodeOf, node_kept}
 

@@ -1,5 +1,5 @@
 -- What is said of bytes that have a reading, and of those that have none.
-use Rattle.std.proofs.Common.{◌≡◌, ℕ, List, [], ◌∷◌, Bool, true, false, cond, Option, Some, None, refl, ap, ◌∙◌}
+use Rattle.std.proofs.Common.{◌≡◌, ℕ, List, [], ◌∷◌, Bool, true, false, cond, Option, Some, None, Err, refl, ap}
 use Rattle.std.specs.Prelude.{is_some}
 use Rattle.std.specs.Str.{IsUtf8, is_utf8}
 use Rattle.std.proofs.lemmas.Str.{IsUtf8-from_is_utf8, is_utf8-from_IsUtf8}
@@ -8,8 +8,10 @@ use Rattle.json.specs.Reads.{token_of, Yields}
 use Rattle.json.specs.declared.token.Token.{Token}
 use Rattle.serde_json.specs.Data.{Data}
 use Rattle.serde_json.specs.Read.{read}
-use Rattle.job_json.specs.declared.Job.{Job}
-use Rattle.job_json.specs.JobOf.{reading, verdict_of, verdict_from, verdict_on, not_json, bad_shape, good, job_within}
+use Rattle.job_json.specs.JobOf.{Verdict, reading, verdict_of, verdict_from, verdict_on, not_json, bad_shape, over, good, answer_to}
+use Rattle.scene_model.specs.Element.{Characters}
+use Rattle.stylo_base.specs.declared.refusal.Kind.{Kind}
+use Rattle.job_json.specs.declared.JobFault.TheVariants.{NotJson, Shape, Limit}
 
 reading_of : (bytes : List ℕ) (value : Option Data) → IsUtf8 bytes → read bytes ≡ value → reading bytes ≡ value
 reading_of bytes value utf8 is = rw (is_utf8-from_IsUtf8 bytes utf8) is
@@ -28,13 +30,9 @@ module _ (bytes : List ℕ) where
   no_json utf8 is = ap verdict_from (reading_of bytes None utf8 is)
 
   module _ (d : Data) (utf8 : IsUtf8 bytes) (is : read bytes ≡ Some d) where
-    pub no_job_in : job_within d ≡ None → verdict_of bytes ≡ bad_shape []
+    pub verdict_is : verdict_of bytes ≡ verdict_on d
     unfolding verdict_of
-    no_job_in e = ap verdict_from (reading_of bytes (Some d) utf8 is) ∙ ap verdict_on e
-
-    pub job_in_is : (job : Job) → job_within d ≡ Some job → verdict_of bytes ≡ good job
-    unfolding verdict_of
-    job_in_is job e = ap verdict_from (reading_of bytes (Some d) utf8 is) ∙ ap verdict_on e
+    verdict_is = ap verdict_from (reading_of bytes (Some d) utf8 is)
 
 -- ---- what comes after a value
 
@@ -45,3 +43,23 @@ next_some (Some t) old new e y = (token_of t, y)
 pub next_none : (o : Option Token) (old new : List spec.Token) → is_some o ≡ false → Yields old o new → old ≡ []
 next_none None old new e y = y.0
 next_none (Some t) old new e y = absurd (cc)
+
+-- ---- what an answer says of the verdict
+
+pub answer_json : (v : Verdict) → Err NotJson ≡ answer_to v → v ≡ not_json
+answer_json not_json e = refl
+answer_json (bad_shape path) e = absurd (cc)
+answer_json (over kind number) e = absurd (cc)
+answer_json (good job) e = absurd (cc)
+
+pub answer_shape : (v : Verdict) (path : Characters) → Err (Shape path) ≡ answer_to v → v ≡ bad_shape path
+answer_shape not_json path e = absurd (cc)
+answer_shape (bad_shape p) path e = cc
+answer_shape (over kind number) path e = absurd (cc)
+answer_shape (good job) path e = absurd (cc)
+
+pub answer_limit : (v : Verdict) (kind : Kind) (number : ℕ) → Err (Limit kind number) ≡ answer_to v → v ≡ over kind number
+answer_limit not_json kind number e = absurd (cc)
+answer_limit (bad_shape path) kind number e = absurd (cc)
+answer_limit (over k n) kind number e = cc
+answer_limit (good job) kind number e = absurd (cc)

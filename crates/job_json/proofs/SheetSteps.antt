@@ -9,8 +9,8 @@ use Rattle.serde_json.specs.Find.{as_array}
 use Rattle.serde_json.specs.View.{items_of}
 use Rattle.layer_order.specs.declared.sheet_input.SheetInput.{SheetInput}
 use Rattle.job_json.specs.Sheets.{sheet_from, sheets_in}
-use Rattle.job_json.specs.Limits.{is_text_within, are_sheets_within}
-use Rattle.job_json.specs.JobOf.{sheets_within}
+use Rattle.job_json.specs.Fits.{is_text_within, are_sheets_within}
+use Rattle.job_json.specs.Within.{sheets_within}
 use Rattle.job_json.specs.declared.sheets.Sheets.{Sheets}
 use Rattle.job_json.specs.Kept.{AreSheetsOf}
 

@@ -11,7 +11,7 @@ use Rattle.serde_json.specs.Find.{as_str}
 use Rattle.base_model.specs.Limits.{attribute_limit}
 use Rattle.job_json.specs.declared.attributes.Slot.{Slot}
 use Rattle.job_json.specs.declared.attributes.Slots.{Slots}
-use Rattle.job_json.specs.Limits.{count_of}
+use Rattle.job_json.specs.Fits.{count_of}
 use Rattle.job_json.specs.Slots.{Pair, slot_pair, put_slot, slots_of}
 use Rattle.job_json.specs.Kept.{AreSlotsOf}
 

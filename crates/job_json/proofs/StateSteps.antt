@@ -4,7 +4,7 @@ use Rattle.serde_json.specs.Data.{Data}
 use Rattle.serde_json.specs.Find.{as_str}
 use Rattle.serde_json.specs.View.{items_of}
 use Rattle.scene_model.specs.Element.{States}
-use Rattle.job_json.specs.Shape.{with_state, states_with, has_no_items}
+use Rattle.job_json.specs.Values.{with_state, states_with, has_no_items}
 
 -- a step after a whole run
 after_one : {A B C : Type 0} (then : B → Option C) (q : A → Option B) (rc : A → Option C) → ((a : A) → rc a ≡ option_and_then then (q a)) → (p : Option A) → option_and_then rc p ≡ option_and_then then (option_and_then q p)

@@ -19,9 +19,9 @@ use Rattle.job_json.specs.declared.sheets.Sheets.{Sheets}
 use Rattle.job_json.specs.declared.outline.Nothing.{Nothing}
 use Rattle.job_json.specs.declared.document.JobParts.{JobParts}
 use Rattle.job_json.specs.Sheets.{origin_from, enabled_from, sheets_in}
-use Rattle.job_json.specs.Shape.{whole, name_of, no_states, states_with, states_from, nodes_from, is_one, has_no_items, is_empty_list}
-use Rattle.job_json.specs.Limits.{count_of, are_items_within, are_depths_within, are_sheets_within}
-use Rattle.job_json.specs.JobOf.{nodes_within, sheets_within}
+use Rattle.job_json.specs.Values.{whole, name_of, no_states, states_with, states_from, nodes_from, is_one, has_no_items, is_empty_list}
+use Rattle.job_json.specs.Fits.{count_of, are_items_within, are_depths_within, are_sheets_within}
+use Rattle.job_json.specs.Within.{nodes_within, sheets_within}
 use Rattle.job_json.specs.Within.{named_parent, parent_at, attrs_within, nodes_in}
 use Rattle.job_json.specs.Slots.{slot_pair, slots_of}
 

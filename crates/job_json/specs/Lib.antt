@@ -1,5 +1,8 @@
+pub mod Checked
 pub mod Sheets
+pub mod Values
 pub mod Shape
+pub mod Fits
 pub mod Limits
 pub mod JobOf
 pub mod Within

@@ -1,57 +1,63 @@
--- The limits of a job's document and of its sheets.
-use Rattle.std.specs.Prelude.{ℕ, ◌+◌, nat_le, ◌&&◌, Bool, true, List, length, Option, Some, None}
-use Rattle.std.specs.Prelude.{codes, encode_utf8_all}
-use Rattle.std.specs.List.{list_all}
+-- The limits of a job: which one is passed first.
+use Rattle.std.specs.Prelude.{ℕ, nat_le, if◌then◌else◌, List, [], ◌∷◌, length, Option, Some, None, option_and_then, codes, encode_utf8_all}
+use Rattle.std.specs.Option.{option_or}
 use Rattle.serde_json.specs.Data.{Data, Items, no_items, item, Members, no_members, member}
-use Rattle.serde_json.specs.Find.{get, as_object, as_str}
-use Rattle.base_model.specs.Limits.{element_limit, depth_limit, attribute_limit, value_limit, text_limit}
+use Rattle.serde_json.specs.Find.{get, as_str, as_object}
+use Rattle.base_model.specs.Limits.{element_limit, depth_limit, attribute_limit, value_limit, sheet_limit, text_limit}
+use Rattle.stylo_base.specs.declared.refusal.Kind.{Kind}
+use Rattle.stylo_base.specs.declared.refusal.Kind.TheVariants.{Elements, Depth, Attributes, Value, Sheets, Text}
 use Rattle.scene_model.specs.Nodes.{Node}
 use Rattle.dom_tree.specs.Depths.{depths_of}
 use Rattle.layer_order.specs.declared.sheet_input.SheetInput.{SheetInput}
+use Rattle.job_json.specs.declared.Job.{Job}
+use Rattle.job_json.specs.Fits.{count_of, node_items}
 
--- how many attributes a node has: an object has each key once
-abbrev pub count_of : Members → ℕ
-count_of no_members = 0
-count_of (member key value rest) = 1 + count_of rest
+-- the kind of a limit, with its number
+abbrev pub Passed : Type 0
+Passed = Kind × ℕ
 
--- a value's bytes
-abbrev pub is_short : Option (List ℕ) → Bool
-is_short None = true
-is_short (Some text) = nat_le (length text) value_limit
+abbrev pub past : Kind → ℕ → ℕ → Option Passed
+past kind most amount = if nat_le amount most then None else Some (kind, most)
 
-abbrev pub are_short : Members → Bool
-are_short no_members = true
-are_short (member key value rest) = is_short (as_str value) && are_short rest
+-- in bytes
+abbrev pub value_past : Option (List ℕ) → Option Passed
+value_past None = None
+value_past (Some text) = past Value value_limit (length text)
 
-abbrev pub has_room : Option Members → Bool
-has_room None = true
-has_room (Some members) = nat_le (count_of members) attribute_limit && are_short members
+abbrev pub values_past : Members → Option Passed
+values_past no_members = None
+values_past (member key value rest) = option_or (value_past (as_str value)) (values_past rest)
 
-abbrev pub are_attrs_within : Option Data → Bool
-are_attrs_within None = true
-are_attrs_within (Some value) = has_room (as_object value)
+abbrev pub attrs_past : Option Members → Option Passed
+attrs_past None = None
+attrs_past (Some members) = option_or (past Attributes attribute_limit (count_of members)) (values_past members)
 
--- no node has too many attributes, and no attribute too long a value
-abbrev pub are_items_within : Items → Bool
-are_items_within no_items = true
-are_items_within (item value rest) = are_attrs_within (get (codes "attrs") value) && are_items_within rest
+-- the limits of one node: its attributes, their values, its depth
+abbrev pub node_past : Data → ℕ → Option Passed
+node_past value depth =
+    option_or (attrs_past (option_and_then as_object (get (codes "attrs") value))) (past Depth depth_limit depth)
 
--- no element is too deep
-abbrev pub are_depths_within : List Node → Bool
-are_depths_within nodes = list_all (λ depth. nat_le depth depth_limit) (depths_of nodes)
-
--- not too many elements, each within its limits
-abbrev pub are_nodes_within : Items → List Node → Bool
-are_nodes_within items nodes =
-    nat_le (length nodes) element_limit && (are_items_within items && are_depths_within nodes)
+-- node by node
+abbrev pub nodes_past : Items → List ℕ → Option Passed
+nodes_past no_items depths = None
+nodes_past (item value rest) [] = None
+nodes_past (item value rest) (depth ∷ depths) = option_or (node_past value depth) (nodes_past rest depths)
 
 -- the bytes of its text in UTF-8
-abbrev pub is_text_within : SheetInput → Bool
-is_text_within sheet = nat_le (length (encode_utf8_all sheet.text)) text_limit
+abbrev pub text_past : SheetInput → Option Passed
+text_past sheet = past Text text_limit (length (encode_utf8_all sheet.text))
 
--- how many sheets there may be in this profile
-abbrev pub profile_sheets : ℕ
-profile_sheets = 1
+abbrev pub texts_past : List SheetInput → Option Passed
+texts_past [] = None
+texts_past (sheet ∷ sheets) = option_or (text_past sheet) (texts_past sheets)
 
-abbrev pub are_sheets_within : List SheetInput → Bool
-are_sheets_within sheets = nat_le (length sheets) profile_sheets && list_all is_text_within sheets
+abbrev pub sheets_past : List SheetInput → Option Passed
+sheets_past sheets = option_or (past Sheets sheet_limit (length sheets)) (texts_past sheets)
+
+-- the elements, and then each node
+abbrev pub nodes_passed : Items → List Node → Option Passed
+nodes_passed items nodes = option_or (past Elements element_limit (length nodes)) (nodes_past items (depths_of nodes))
+
+-- the document, and then the sheets
+abbrev pub first_passed : Data → Job → Option Passed
+first_passed value job = option_or (nodes_passed (node_items value) job.nodes) (sheets_past job.sheets)

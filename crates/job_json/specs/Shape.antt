@@ -1,142 +1,130 @@
--- The shape of a job: which JSON values are one, and what they say. Members other than those named are passed over.
-use Rattle.std.specs.Prelude.{ℕ, ◌+◌, ◌==◌, nat_lt, nat_le, ◌&&◌, Bool, true, false, not, if◌then◌else◌}
-use Rattle.std.specs.Prelude.{List, [], ◌∷◌, length, Option, Some, None, option_map, codes}
-use Rattle.std.specs.List.{list_all}
-use Rattle.std.specs.Str.{chars, bytes_eq}
+-- The shape of a job, in reading order: what a JSON value says as one, or the first place where it is none. Members
+-- other than those named are passed over.
+use Rattle.std.specs.Prelude.{⊤, ℕ, ◌+◌, nat_lt, not, if◌then◌else◌, List, [], ◌∷◌, Option, Some, None, is_some, option_and_then, codes}
+use Rattle.std.specs.Str.{chars}
 use Rattle.std.specs.FinMap as map
 use Rattle.serde_json.specs.Data.{Data, Items, no_items, item, Members, no_members, member}
-use Rattle.serde_json.specs.Find.{get, as_number, as_u64, as_str, as_array, as_object}
-use Rattle.base_model.specs.Ascii.{space, delete}
-use Rattle.base_model.specs.Limits.{name_limit}
-use Rattle.base_model.specs.Options.{◌>>=◌}
+use Rattle.serde_json.specs.Find.{get, as_str, as_array, as_object}
 use Rattle.scene_model.specs.Element.{Characters, Attributes, States}
 use Rattle.scene_model.specs.Nodes.{Node}
+use Rattle.layer_order.specs.declared.sheet_input.SheetInput.{SheetInput}
 use Rattle.job_json.specs.declared.Job.{Job}
-use Rattle.job_json.specs.Sheets.{sheets_from}
+use Rattle.job_json.specs.Checked.{Checked, got, bad, ◌>>=◌, wanted, right, at_member, at_index}
+use Rattle.job_json.specs.Values.{whole, name_of, parent_from, pair_from, no_states, with_state, is_one, has_no_items, is_empty_list}
+use Rattle.job_json.specs.Sheets.{origin_from, enabled_from}
 
--- Texts come as their bytes in UTF-8.
+-- A member may be absent; what is read of it says whether that is right.
+abbrev pub member_in : {A : Type 0} → List ℕ → (Option Data → Checked A) → Data → Checked A
+member_in key read value = at_member key (read (get key value))
 
--- no character up to the space and no delete; the bytes of all others but ASCII are above that
-abbrev pub is_visible : ℕ → Bool
-is_visible byte = nat_lt space byte && not (byte == delete)
+abbrev pub object_in : Data → Checked ⊤
+object_in value = right (is_some (as_object value))
 
--- a name is not empty
-abbrev pub is_name : List ℕ → Bool
-is_name bytes = (nat_lt 0 (length bytes) && nat_le (length bytes) name_limit) && list_all is_visible bytes
+abbrev pub version_in : Option Data → Checked ⊤
+version_in value = right (is_one (option_and_then whole value))
 
--- a whole number from 0 to 2^64 minus 1
-abbrev pub whole : Data → Option ℕ
-whole value = as_number value >>= as_u64
+abbrev pub tag_in : Option Data → Checked Characters
+tag_in value = wanted (option_and_then name_of value)
 
-abbrev pub name_of : Data → Option Characters
-name_of value = do
-  bytes ← as_str value
-  if is_name bytes then Some (chars bytes) else None
+abbrev pub parent_in : ℕ → Option Data → Checked (Option ℕ)
+parent_in k value = wanted (parent_from k value)
 
--- The first node has no parent, and each other one names an earlier node.
-abbrev pub parent_from : ℕ → Option Data → Option (Option ℕ)
-parent_from k None = if k == 0 then Some None else None
-parent_from k (Some value) = do
-  p ← whole value
-  if nat_lt p k then Some (Some p) else None
+-- a name, and a text under it
+abbrev pub pairs_in : Members → Checked (List (Characters × Characters))
+pairs_in no_members = got []
+pairs_in (member key value rest) = do
+  pair ← at_member key (wanted (pair_from key value))
+  pairs ← pairs_in rest
+  got (pair ∷ pairs)
 
--- a key that is a name, with a value that is a text
-abbrev pub pair_from : List ℕ → Data → Option (Characters × Characters)
-pair_from key value = if is_name key then option_map (λ text. (chars key, chars text)) (as_str value) else None
+abbrev pub attrs_in : Option Data → Checked Attributes
+attrs_in None = got map.empty
+attrs_in (Some value) = do
+  members ← wanted (as_object value)
+  pairs ← pairs_in members
+  got (map.from_entries pairs)
 
--- each member such a pair
-abbrev pub pairs_of : Members → Option (List (Characters × Characters))
-pairs_of no_members = Some []
-pairs_of (member key value rest) = do
-  pair ← pair_from key value
-  pairs ← pairs_of rest
-  Some (pair ∷ pairs)
+abbrev pub state_in : States → Data → Checked States
+state_in states value = wanted (option_and_then (with_state states) (as_str value))
 
-abbrev pub attrs_from : Option Data → Option Attributes
-attrs_from None = Some map.empty
-attrs_from (Some value) = do
-  members ← as_object value
-  pairs ← pairs_of members
-  Some (map.from_entries pairs)
+abbrev pub states_after : States → ℕ → Items → Checked States
+states_after states k no_items = got states
+states_after states k (item value rest) = do
+  more ← at_index k (state_in states value)
+  states_after more (k + 1) rest
 
-abbrev pub no_states : States
-no_states = record { hover = false; active = false; focus = false }
-
-abbrev pub with_state : States → List ℕ → Option States
-with_state states word =
-    if bytes_eq word (codes "hover") then Some (record states { hover = true })
-    else if bytes_eq word (codes "active") then Some (record states { active = true })
-    else if bytes_eq word (codes "focus") then Some (record states { focus = true })
-    else None
-
-abbrev pub states_with : States → Items → Option States
-states_with states no_items = Some states
-states_with states (item value rest) = do
-  word ← as_str value
-  more ← with_state states word
-  states_with more rest
-
-abbrev pub states_from : Option Data → Option States
-states_from None = Some no_states
-states_from (Some value) = as_array value >>= states_with no_states
-
--- a node, its parent left out
-abbrev pub node_from : Data → Option Node
-node_from value = do
-  tag ← get (codes "tag") value >>= name_of
-  attrs ← attrs_from (get (codes "attrs") value)
-  states ← states_from (get (codes "states") value)
-  Some (record { parent = None; tag = tag; attrs = attrs; states = states })
+abbrev pub states_in : Option Data → Checked States
+states_in None = got no_states
+states_in (Some value) = do
+  items ← wanted (as_array value)
+  states_after no_states 0 items
 
 -- the node at an index of the list
-abbrev pub node_at : ℕ → Data → Option Node
-node_at k value = do
-  parent ← parent_from k (get (codes "parent") value)
-  node ← node_from value
-  Some (record node { parent = parent })
+abbrev pub node_in : ℕ → Data → Checked Node
+node_in k value = do
+  object ← object_in value
+  tag ← member_in (codes "tag") tag_in value
+  parent ← member_in (codes "parent") (parent_in k) value
+  attrs ← member_in (codes "attrs") attrs_in value
+  states ← member_in (codes "states") states_in value
+  got (record { parent = parent; tag = tag; attrs = attrs; states = states })
 
-abbrev pub nodes_from : ℕ → Items → Option (List Node)
-nodes_from k no_items = Some []
-nodes_from k (item value rest) = do
-  node ← node_at k value
-  nodes ← nodes_from (k + 1) rest
-  Some (node ∷ nodes)
+abbrev pub nodes_after : ℕ → Items → Checked (List Node)
+nodes_after k no_items = got []
+nodes_after k (item value rest) = do
+  node ← at_index k (node_in k value)
+  nodes ← nodes_after (k + 1) rest
+  got (node ∷ nodes)
 
 -- the list is not empty
-abbrev pub nodes_of : Items → Option (List Node)
-nodes_of no_items = None
-nodes_of (item value rest) = nodes_from 0 (item value rest)
+abbrev pub some_nodes : Items → Checked (List Node)
+some_nodes items = do
+  some ← right (not (has_no_items (Some items)))
+  nodes_after 0 items
 
-abbrev pub is_one : Option ℕ → Bool
-is_one None = false
-is_one (Some n) = n == 1
+abbrev pub nodes_in : Option Data → Checked (List Node)
+nodes_in value = do
+  items ← wanted (option_and_then as_array value)
+  some_nodes items
 
-abbrev pub is_version : Data → Bool
-is_version value = is_one (get (codes "version") value >>= whole)
+abbrev pub sheet_in : Data → Checked SheetInput
+sheet_in value = do
+  object ← object_in value
+  origin ← member_in (codes "origin") (λ o. wanted (origin_from o)) value
+  enabled ← member_in (codes "enabled") (λ o. wanted (enabled_from o)) value
+  text ← member_in (codes "text") (λ o. wanted (option_and_then as_str o)) value
+  got (record { origin = origin; enabled = enabled; text = chars text })
 
--- a list with nothing in it
-abbrev pub has_no_items : Option Items → Bool
-has_no_items None = false
-has_no_items (Some no_items) = true
-has_no_items (Some (item value rest)) = false
+-- how many sheets there may be in this profile
+abbrev pub profile_sheets : ℕ
+profile_sheets = 1
 
-abbrev pub is_empty_array : Data → Bool
-is_empty_array value = has_no_items (as_array value)
+abbrev pub sheet_at : ℕ → Data → Checked SheetInput
+sheet_at k value = if nat_lt k profile_sheets then sheet_in value else bad []
+
+abbrev pub sheets_after : ℕ → Items → Checked (List SheetInput)
+sheets_after k no_items = got []
+sheets_after k (item value rest) = do
+  sheet ← at_index k (sheet_at k value)
+  sheets ← sheets_after (k + 1) rest
+  got (sheet ∷ sheets)
+
+-- the list may be absent
+abbrev pub sheets_in : Option Data → Checked (List SheetInput)
+sheets_in None = got []
+sheets_in (Some value) = do
+  items ← wanted (as_array value)
+  sheets_after 0 items
 
 -- a list that may be absent, and has nothing in it in this profile
-abbrev pub is_empty_list : Option Data → Bool
-is_empty_list None = true
-is_empty_list (Some value) = is_empty_array value
+abbrev pub batches_in : Option Data → Checked ⊤
+batches_in value = right (is_empty_list value)
 
--- its nodes and its sheets
-abbrev pub parts_from : Data → Option Job
-parts_from value = do
-  items ← get (codes "nodes") value >>= as_array
-  nodes ← nodes_of items
-  sheets ← sheets_from (get (codes "sheets") value)
-  Some (record { nodes = nodes; sheets = sheets })
-
--- what a JSON value says as a job, if it has the shape of one
-abbrev pub job_from : Data → Option Job
-job_from value =
-    if is_version value && is_empty_list (get (codes "batches") value) then parts_from value else None
+abbrev pub job_in : Data → Checked Job
+job_in value = do
+  object ← object_in value
+  version ← member_in (codes "version") version_in value
+  nodes ← member_in (codes "nodes") nodes_in value
+  sheets ← member_in (codes "sheets") sheets_in value
+  batches ← member_in (codes "batches") batches_in value
+  got (record { nodes = nodes; sheets = sheets })

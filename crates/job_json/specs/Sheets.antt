@@ -1,4 +1,4 @@
--- The style sheets of a job, as its JSON says them. Members other than those named are passed over.
+-- What JSON values say of the style sheets of a job, without their places.
 use Rattle.std.specs.Prelude.{ℕ, Bool, true, false, if◌then◌else◌, List, [], ◌∷◌, Option, Some, None, codes}
 use Rattle.std.specs.Str.{chars, bytes_eq}
 use Rattle.serde_json.specs.Data.{Data, Items, no_items, item}

@@ -11,7 +11,7 @@ use Rattle.scene_model.specs.Element.{Characters}
 use Rattle.dom_tree.specs.declared.nodes.Attr.{Attr}
 use Rattle.dom_tree.specs.View.{pair_of}
 use Rattle.job_json.specs.declared.attributes.Slot.{Slot}
-use Rattle.job_json.specs.Shape.{is_name}
+use Rattle.job_json.specs.Values.{is_name}
 
 -- a key, and its text where the value is one
 abbrev pub Pair : Type 0

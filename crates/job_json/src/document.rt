@@ -2,7 +2,7 @@
 
 ghost use Rattle.std.specs.Prelude.{◌≡◌, ◌<◌, length, None, IfOk, OnOk};
 ghost use Rattle.json_reader.specs.Taken.{taken, Says};
-ghost use Rattle.job_json.specs.JobOf.{job_within};
+ghost use Rattle.job_json.specs.Within.{job_within};
 
 use crate::Job;
 use crate::node_list::take_nodes;

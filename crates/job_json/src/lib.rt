@@ -3,30 +3,37 @@
 
 mod attributes;
 mod document;
+mod fault;
 mod limits;
 mod name;
 mod node;
+mod node_limits;
 mod node_list;
+mod node_walk;
 mod outline;
+mod pointer;
 mod sheet;
 mod sheet_list;
 mod sheets;
 mod states;
+mod walk;
 
-ghost use Rattle.std.specs.Prelude.{◌≡◌, ◌≢◌, ◌≤◌, List, ℕ, Ok, Err, IfOk, length};
+ghost use Rattle.std.specs.Prelude.{◌≡◌, ◌≤◌, List, ℕ, Ok, Err, IfOk, length};
 ghost use Rattle.serde_json.specs.Data.{Data};
 ghost use Rattle.serde_json.specs.Read.{read as read_json};
 ghost use Rattle.stylo_base.specs.declared.refusal.Kind.{Kind};
 ghost use Rattle.base_model.specs.Limits.{input_limit, element_limit, sheet_limit};
-ghost use Rattle.job_json.specs.JobOf.{verdict_of, job_within, not_json, bad_shape, good, IsDue};
+ghost use Rattle.job_json.specs.JobOf.{verdict_of, not_json, bad_shape, over, good, IsDue};
+ghost use Rattle.job_json.specs.Within.{job_within};
 
 use crate::document::take_job;
+use crate::fault::fault_in;
 use dom_tree::NodeList;
 use json::{Reader, Scratch};
 use json_reader::Stop;
 pub use sheet_list::SheetList;
 use std::alloc::Global;
-use stylo_base::{Kind, PathText};
+use stylo_base::{Kind, NoMemory, PathText};
 
 /// How deep arrays and objects may nest in a job, as in every value that `serde_json` reads.
 const MAX_DEPTH: usize = 127;
@@ -45,10 +52,9 @@ pub struct Job {
 pub enum JobFault {
     /// The bytes are not UTF-8, or no JSON value.
     NotJson,
-    /// The value has another shape, first at this JSON pointer. In this profile it is the empty
-    /// one, and a job that passes a limit counts as one of another shape.
+    /// The value has another shape, first at this JSON pointer.
     Shape(PathText),
-    /// The limit of this kind, with its number, is passed.
+    /// It has the shape of a job, and the limit of this kind, with its number, is passed first.
     Limit(Kind, u64),
     /// There was no memory.
     NoMemory,
@@ -62,7 +68,8 @@ pub fn read(alloc: Global, bytes: &[u8]) -> Result<Job, JobFault>
     ensures json { result ≡ Err JobFault.NotJson → verdict_of bytes.now ≡ not_json }
     ensures shape { (path : List ℕ) → result ≡ Err (JobFault.Shape path)
         → verdict_of bytes.now ≡ bad_shape path }
-    ensures unlimited { (kind : Kind) (number : ℕ) → result ≢ Err (JobFault.Limit kind number) }
+    ensures limit { (kind : Kind) (number : ℕ) → result ≡ Err (JobFault.Limit kind number)
+        → verdict_of bytes.now ≡ over kind number }
     ensures due { IsDue (verdict_of bytes.now) result }
     ensures fits { IfOk result (λ job. length job.nodes ≤ element_limit) }
     ensures few { IfOk result (λ job. length job.sheets ≤ sheet_limit) }
@@ -72,7 +79,10 @@ pub fn read(alloc: Global, bytes: &[u8]) -> Result<Job, JobFault>
     };
     match job_in(alloc, text) {
         Ok(Some(job)) => Ok(job),
-        Ok(None) => Err(JobFault::Shape(PathText::empty(alloc))),
+        Ok(None) => match fault_in(alloc, text) {
+            Ok(fault) => Err(fault),
+            Err(NoMemory) => Err(JobFault::NoMemory),
+        },
         Err(Stop::NotJson) => Err(JobFault::NotJson),
         Err(Stop::NoMemory) => Err(JobFault::NoMemory),
     }

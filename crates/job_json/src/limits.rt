@@ -1,7 +1,7 @@
 //! The limits of a job's document and of its sheets.
 
 ghost use Rattle.std.specs.Prelude.{◌≡◌, IfOk};
-ghost use Rattle.job_json.specs.Limits.{are_depths_within, is_text_within};
+ghost use Rattle.job_json.specs.Fits.{are_depths_within, is_text_within};
 
 use dom_tree::NodeList;
 use layer_order::SheetInput;

@@ -2,7 +2,7 @@
 
 ghost use Rattle.std.specs.Prelude.{◌≡◌, ◌<◌, length, None, IfOk, OnOk};
 ghost use Rattle.json_reader.specs.Taken.{taken, Says};
-ghost use Rattle.job_json.specs.Shape.{is_one, is_empty_array};
+ghost use Rattle.job_json.specs.Values.{is_one, is_empty_array};
 
 use json::Reader;
 use json_reader::{KeepItems, Stop, array, pass};

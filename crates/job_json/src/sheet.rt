@@ -69,7 +69,7 @@ pub fn take_sheet(
 }
 
 /// The origin that a word names.
-fn origin_in(word: Option<&str>) -> Option<Origin>
+pub fn origin_in(word: Option<&str>) -> Option<Origin>
     ensures { result ≡ option_and_then origin_named (option_map (λ t. t.now) word.entry) }
 {
     origin_named(word?)
@@ -85,7 +85,7 @@ fn origin_named(word: &str) -> Option<Origin>
 }
 
 /// In this profile each sheet is enabled.
-fn enabled_in(enabled: Option<bool>) -> Option<bool>
+pub fn enabled_in(enabled: Option<bool>) -> Option<bool>
     ensures { result ≡ option_and_then enabled_as enabled }
 {
     if enabled? { Some(true) } else { None }

@@ -2,7 +2,7 @@
 
 ghost use Rattle.std.specs.Prelude.{◌≡◌, ◌<◌, length, Some, None, IfOk, OnOk};
 ghost use Rattle.json_reader.specs.Taken.{taken, Says};
-ghost use Rattle.job_json.specs.JobOf.{sheets_within};
+ghost use Rattle.job_json.specs.Within.{sheets_within};
 
 use crate::limits::{PROFILE_SHEETS, is_text_within};
 use crate::sheet::take_sheet;

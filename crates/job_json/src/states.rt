@@ -3,7 +3,7 @@
 ghost use Rattle.std.specs.Prelude.{◌≡◌, ◌<◌, length, Some, None, option_map, option_and_then, IfOk, OnOk};
 ghost use Rattle.json_reader.specs.Taken.{taken, Says};
 ghost use Rattle.dom_tree.specs.View.{states_of};
-ghost use Rattle.job_json.specs.Shape.{no_states, with_state, states_from};
+ghost use Rattle.job_json.specs.Values.{no_states, with_state, states_from};
 
 use dom_tree::States;
 use json::{Invalid, Reader};
@@ -44,7 +44,8 @@ pub fn take_states(reader: &mut Reader<'_>, depth: usize) -> Result<Option<State
     }
 }
 
-fn with_word(states: Option<States>, word: Option<&str>) -> Option<States>
+/// The states with the one that `word` names. None: it names none.
+pub fn with_word(states: Option<States>, word: Option<&str>) -> Option<States>
     ensures { option_map states_of result ≡ option_and_then
         (λ s. option_and_then (with_state s) (option_map (λ t. t.now) word.entry))
         (option_map states_of states) }

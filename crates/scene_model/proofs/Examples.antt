@@ -10,7 +10,7 @@ use Rattle.std.specs.FinMap as finmap
 use Rattle.base_model.specs.Ascii.{tab, line_feed, form_feed, carriage_return}
 use Rattle.scene_model.specs.Element.{Characters, Attributes, States, hover_state, active_state, focus_state}
 use Rattle.scene_model.specs.Words.{words, has_word}
-use Rattle.scene_model.specs.Lookups.{numbers, is_element, parent_of, children, siblings, place_of, attribute_of, has_class, state_of}
+use Rattle.scene_model.specs.Lookups.{numbers, is_element, parent_of, children, siblings, place_of, place_of_type, attribute_of, has_class, state_of}
 use Rattle.scene_model.specs.Ancestors.{ancestors, depth_of}
 use Rattle.scene_model.specs.Nodes.{Node, tree_order, scene_of}
 
@@ -59,6 +59,18 @@ numbered_from_one = refl
 alone : siblings (scene_of four) 1 ≡ 1 ∷ []
 unfolding scene_of tree_order
 alone = refl
+
+-- a root, and below it p, q, p and p
+abbrev mixed : List Node
+mixed = node None ∷ node (Some 0) ∷ record (node (Some 0)) { tag = codes "q" } ∷ node (Some 0) ∷ node (Some 0) ∷ []
+
+first_places : map (place_of_type (scene_of mixed) false) (1 ∷ 2 ∷ 3 ∷ 4 ∷ 5 ∷ 6 ∷ []) ≡ 0 ∷ 0 ∷ 0 ∷ 1 ∷ 2 ∷ 0 ∷ []
+unfolding scene_of tree_order
+first_places = refl
+
+last_places : map (place_of_type (scene_of mixed) true) (1 ∷ 2 ∷ 3 ∷ 4 ∷ 5 ∷ 6 ∷ []) ≡ 0 ∷ 2 ∷ 0 ∷ 1 ∷ 0 ∷ 0 ∷ []
+unfolding scene_of tree_order
+last_places = refl
 
 above_four : ancestors (scene_of four) 4 ≡ 2 ∷ 1 ∷ []
 unfolding scene_of tree_order ancestors

@@ -1,14 +1,15 @@
 -- The siblings of an element, and those before it.
-use Rattle.std.proofs.Common.{◌≡◌, ℕ, zero, suc, ◌+◌, ◌-◌, ◌<◌, ◌≤◌, ◌==◌, Bool, true, false, cond, not, ◌||◌, List, [], ◌∷◌, ◌++◌, length, take, Option, Some, None, All, slice_get, refl, sym, ap, ◌∙◌, subst, arith, one-add}
+use Rattle.std.proofs.Common.{◌≡◌, ◌≢◌, ℕ, zero, suc, ◌+◌, ◌-◌, ◌<◌, ◌≤◌, ◌==◌, Bool, true, false, cond, not, ◌||◌, List, [], ◌∷◌, ◌++◌, length, take, Option, Some, None, slice_get, refl, sym, ap, ◌∙◌, arith, one-add, length-append, eq-eqb}
 use Rattle.std.specs.List.{AllByRecursion, prefix_len}
-use Rattle.std.proofs.lemmas.List.{drop_all}
-use Rattle.std.proofs.lemmas.List.Elements.{All-from_recursion}
+use Rattle.std.proofs.lemmas.Bool.{cond-true, cond-false, false≢true}
+use Rattle.std.proofs.lemmas.List.{drop_all, nil_from_length}
+use Rattle.std.proofs.lemmas.List.Elements.{filter-append}
 use Rattle.scene_model.specs.Element.{Element}
-use Rattle.scene_model.specs.Lookups.{is_element, IsElement, parent_of, children, beside, siblings, left_of, place_of}
+use Rattle.scene_model.specs.Lookups.{is_element, IsElement, parent_of, children, beside, siblings, left_of, right_of, place_of}
 use Rattle.scene_model.specs.Valid.{IsValid}
 use Rattle.scene_model.proofs.Found.{copies-children, each_child-parent, parent_of-element}
 use Rattle.scene_model.proofs.Lists.{each_weaker, split_at}
-use Rattle.scene_model.proofs.Numbers.{is_in, in_copied}
+use Rattle.scene_model.proofs.Numbers.{is_in, in_copied, copies, same_number, differs, each_failed}
 
 -- in any list
 
@@ -33,6 +34,19 @@ each-take P (suc n) (x ∷ xs) h = (h.0, each-take P n xs h.1)
 
 pub each-left : (P : ℕ → Type 0) (x : ℕ) (xs : List ℕ) → AllByRecursion P xs → AllByRecursion P (left_of x xs)
 each-left P x xs h = each-take P (prefix_len (λ y. not (y == x)) xs) xs h
+
+-- where a number is once, it is not before that
+pub once_before : (w : ℕ) (front after : List ℕ) → copies w (front ++ w ∷ after) ≡ w ∷ [] → AllByRecursion (λ y. y ≢ w) front
+once_before w front after h =
+    let parts = filter-append (λ y. y == w) front (w ∷ after) in
+    let here = cond-true (w == w) (w ∷ copies w after) (copies w after) (same_number w) in
+    let none : length (copies w front) ≡ 0 = omega (arith, ap length h, ap length parts, ap length here, length-append (copies w front) (copies w (w ∷ after))) in
+    each_weaker (λ y. (y == w) ≡ false) (λ y. y ≢ w) (λ y e same. false≢true (sym e ∙ eq-eqb y w same)) front (each_failed (λ y. y == w) front (nil_from_length (copies w front) none))
+
+pub right_of_split : (x : ℕ) (xs ys : List ℕ) → AllByRecursion (λ y. y ≢ x) xs → right_of x (xs ++ x ∷ ys) ≡ ys
+right_of_split x [] ys h = cond-true (x == x) ys (right_of x ys) (same_number x)
+right_of_split x (y ∷ xs) ys h =
+    cond-false (y == x) (xs ++ x ∷ ys) (right_of x (xs ++ x ∷ ys)) (differs y x h.0) ∙ right_of_split x xs ys h.1
 
 -- the last of a list, and what is before it
 pub last_split : (xs : List ℕ) (y : ℕ) → slice_get xs (length xs - 1) ≡ Some y → xs ≡ take (length xs - 1) xs ++ y ∷ []
@@ -69,6 +83,3 @@ module _ (doc : List Element) (v : IsValid doc) where
 
   pub each_left_sibling : (x : ℕ) → AllByRecursion (IsElement doc) (left_of x (siblings doc x))
   each_left_sibling x = each-left (IsElement doc) x (siblings doc x) (each_sibling x)
-
-  pub left-elements : (x : ℕ) (xs : List ℕ) → xs ≡ left_of x (siblings doc x) → All (IsElement doc) xs
-  left-elements x xs e = All-from_recursion (IsElement doc) xs (subst (AllByRecursion (IsElement doc)) (sym e) (each_left_sibling x))

@@ -5,6 +5,7 @@ use Rattle.std.specs.Prelude.{Option, Some, None, unwrap_or, option_and_then, op
 use Rattle.std.specs.List.{list_any, prefix_len}
 use Rattle.std.specs.Option.{option_map_or}
 use Rattle.std.specs.FinMap as map
+use Rattle.base_model.specs.Text.{same_text}
 use Rattle.scene_model.specs.Element.{Element, Characters, State, has_state}
 use Rattle.scene_model.specs.Words.{has_word}
 
@@ -46,12 +47,37 @@ siblings doc x = if is_element doc x then beside doc x (parent_of doc x) else []
 abbrev pub left_of : ℕ → List ℕ → List ℕ
 left_of x xs = take (prefix_len (λ y. not (y == x)) xs) xs
 
+-- what is after x in a list of numbers
+abbrev pub right_of : ℕ → List ℕ → List ℕ
+right_of x [] = []
+right_of x (y ∷ ys) = if y == x then ys else right_of x ys
+
 -- its sibling index: how many siblings are before it
 abbrev pub place_of : List Element → ℕ → ℕ
 place_of doc x = length (left_of x (siblings doc x))
 
 abbrev pub tag_of : List Element → ℕ → Characters
 tag_of doc x = unwrap_or (option_map (λ e. e.tag) (element_at doc x)) []
+
+-- y has the type of x
+abbrev pub same_type : List Element → ℕ → ℕ → Bool
+same_type doc x y = same_text (tag_of doc y) (tag_of doc x)
+
+-- the siblings after an element, as counted from the last, or those before it
+abbrev pub siblings_beyond : List Element → Bool → ℕ → List ℕ
+siblings_beyond doc from_last x = if from_last then right_of x (siblings doc x) else left_of x (siblings doc x)
+
+-- how many of a list pass a test
+abbrev pub counted : (ℕ → Bool) → List ℕ → ℕ
+counted test xs = length (filter test xs)
+
+-- its place among the siblings that pass a test: how many of them are before it, or after it
+abbrev pub place_by : List Element → Bool → (ℕ → Bool) → ℕ → ℕ
+place_by doc from_last test x = counted test (siblings_beyond doc from_last x)
+
+-- its place among the siblings of its type
+abbrev pub place_of_type : List Element → Bool → ℕ → ℕ
+place_of_type doc from_last x = place_by doc from_last (same_type doc x) x
 
 abbrev pub attribute_of : List Element → ℕ → Characters → Option Characters
 attribute_of doc x name = option_and_then (λ e. map.get e.attrs name) (element_at doc x)

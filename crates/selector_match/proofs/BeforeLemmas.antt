@@ -1,9 +1,8 @@
 -- The siblings before an element have its ancestors, and its ancestors no others than it has.
-use Rattle.std.proofs.Common.{◌≡◌, ◌≢◌, ℕ, zero, suc, ◌==◌, Bool, true, false, cond, List, [], ◌∷◌, ◌++◌, length, take, drop, Option, Some, None, refl, sym, ap, ◌∙◌, subst, arith, append_assoc, length-append, eq-eqb}
+use Rattle.std.proofs.Common.{◌≡◌, ℕ, zero, suc, Bool, true, false, cond, List, [], ◌∷◌, ◌++◌, take, drop, Option, Some, None, refl, sym, ap, ◌∙◌, subst, arith, append_assoc}
 use Rattle.std.specs.List.{AllByRecursion, list_any}
-use Rattle.std.proofs.lemmas.Bool.{cond-true, false≢true}
-use Rattle.std.proofs.lemmas.List.{take-append-drop, nil_from_length}
-use Rattle.std.proofs.lemmas.List.Elements.{filter-append}
+use Rattle.std.proofs.lemmas.Bool.{false≢true}
+use Rattle.std.proofs.lemmas.List.{take-append-drop}
 use Rattle.scene_model.specs.Element.{Element}
 use Rattle.scene_model.specs.Lookups.{is_element, parent_of, children, beside, siblings, left_of}
 use Rattle.scene_model.specs.Ancestors.{up, climb, ancestors, position_of}
@@ -12,17 +11,9 @@ use Rattle.scene_model.proofs.Any.{in_start, in_middle, none-append}
 use Rattle.scene_model.proofs.Climbing.{ancestors_climb, ancestors-up, ancestors-child}
 use Rattle.scene_model.proofs.Found.{copies-children, each_child-parent, parent_of-element}
 use Rattle.scene_model.proofs.Lists.{each_weaker}
-use Rattle.scene_model.proofs.Numbers.{is_in, copies, same_number, each_is_in, each_failed, split_in, left_of_split}
-use Rattle.scene_model.proofs.Siblings.{left_here, siblings-children}
+use Rattle.scene_model.proofs.Numbers.{is_in, copies, same_number, each_is_in, split_in, left_of_split}
+use Rattle.scene_model.proofs.Siblings.{left_here, once_before, siblings-children}
 use Rattle.selector_match.specs.Results.{before, IsUnder}
-
--- where a number is once, it is not before that
-once_before : (w : ℕ) (front after : List ℕ) → copies w (front ++ w ∷ after) ≡ w ∷ [] → AllByRecursion (λ y. y ≢ w) front
-once_before w front after h =
-    let parts = filter-append (λ y. y == w) front (w ∷ after) in
-    let here = cond-true (w == w) (w ∷ copies w after) (copies w after) (same_number w) in
-    let none : length (copies w front) ≡ 0 = omega (arith, ap length h, ap length parts, ap length here, length-append (copies w front) (copies w (w ∷ after))) in
-    each_weaker (λ y. (y == w) ≡ false) (λ y. y ≢ w) (λ y e same. false≢true (sym e ∙ eq-eqb y w same)) front (each_failed (λ y. y == w) front (nil_from_length (copies w front) none))
 
 up_each : (P : ℕ → Type 0) (f : ℕ → List ℕ) (o : Option ℕ) → ((p : ℕ) → o ≡ Some p → P p × AllByRecursion P (f p)) → AllByRecursion P (up f o)
 up_each P f None h = tt

@@ -1,5 +1,6 @@
 pub mod BeforeLemmas
 pub mod FoldedLemmas
+pub mod JoinedLemmas
 pub mod LowerLemmas
 pub mod NthLemmas
 pub mod PartLemmas

@@ -29,7 +29,15 @@ pub tells_here : (doc : List Element) (test : ℕ → Bool) (x : ℕ) (o : Match
 tells_here doc test x Matched h = h
 tells_here doc test x RestartFromSibling h = h
 tells_here doc test x RestartFromDescendant h = (or_parts (test x) (list_any test (before doc x)) h).0
-tells_here doc test x NotMatchedGlobally h = h x ([], refl)
+tells_here doc test x NotMatchedGlobally h = (or_parts (test x) (list_any test (before doc x)) h.0).0
+
+-- what fails wherever the ancestors are among those of x fails at the siblings before x too
+pub fails_under : (doc : List Element) → IsValid doc → (test : ℕ → Bool) (x : ℕ) → ((y : ℕ) → IsUnder doc x y → test y ≡ false) → Tells doc test x NotMatchedGlobally
+fails_under doc v test x h = (any_none test (x ∷ before doc x) (λ y i. h y (near y (x == y) refl i)), h)
+  where
+    near : (y : ℕ) (b : Bool) → (x == y) ≡ b → (b || is_in y (before doc x)) ≡ true → IsUnder doc x y
+    near y true same i = ([], ap (ancestors doc) (eqb-true x y same))
+    near y false other i = ([], sym (same_ancestors doc v x y i))
 
 -- a try that failed at the parent failed for the siblings too
 abbrev pub raised : MatchResult → MatchResult
@@ -73,7 +81,7 @@ module _ (doc : List Element) (v : IsValid doc) (test : ℕ → Bool) where
       only_parent y (Some r) f ∙ no_or (test r) (h r (above_each q r front (sym (ancestors-child doc v x q e) ∙ (u ∙ ap (λ l. front ++ l) (ancestors-child doc v y r f)))))
 
   pub child_none : (x : ℕ) → parent_of doc x ≡ None → Tells doc (to_left child) x NotMatchedGlobally
-  child_none x e y (front, u) = only_parent y None (root y (parent_of doc y) refl front (sym (ancestors-root doc v x e) ∙ u))
+  child_none x e = fails_under doc v (to_left child) x (λ y (front, u). only_parent y None (root y (parent_of doc y) refl front (sym (ancestors-root doc v x e) ∙ u)))
     where
       root : (y : ℕ) (o : Option ℕ) → parent_of doc y ≡ o → (front : List ℕ) → [] ≡ front ++ ancestors doc y → parent_of doc y ≡ None
       root y None f front u = f
@@ -87,7 +95,7 @@ module _ (doc : List Element) (v : IsValid doc) (test : ℕ → Bool) where
   child_told x q Matched e h = only_parent x (Some q) e ∙ ap (λ b. b || false) h
   child_told x q RestartFromSibling e h = parent_fails x q e h
   child_told x q RestartFromDescendant e h = parent_fails x q e (tells_here doc test q RestartFromDescendant h)
-  child_told x q NotMatchedGlobally e h = λ y u. parent_above x q y (parent_of doc y) e h u refl
+  child_told x q NotMatchedGlobally e h = fails_under doc v (to_left child) x (λ y u. parent_above x q y (parent_of doc y) e h.1 u refl)
 
   raised_other : (o : MatchResult) → (o ≡ RestartFromSibling → ⊥) → raised o ≡ o
   raised_other Matched n = refl
@@ -101,7 +109,8 @@ module _ (doc : List Element) (v : IsValid doc) (test : ℕ → Bool) where
   -- the ancestors
 
   pub above_none : (x : ℕ) → list_any test (ancestors doc x) ≡ false → Tells doc (to_left descendant) x NotMatchedGlobally
-  above_none x h y (front, e) = (none-append test front (ancestors doc y) (sym (ap (list_any test) e) ∙ h)).1
+  above_none x h =
+      fails_under doc v (to_left descendant) x (λ y (front, e). (none-append test front (ancestors doc y) (sym (ap (list_any test) e) ∙ h)).1)
 
   above_here : (y q : ℕ) (b : Bool) → parent_of doc y ≡ Some q → (test q || list_any test (ancestors doc q)) ≡ b → list_any test (ancestors doc y) ≡ b
   above_here y q b e h = ap (list_any test) (ancestors-child doc v y q e) ∙ h
@@ -113,7 +122,7 @@ module _ (doc : List Element) (v : IsValid doc) (test : ℕ → Bool) where
   above_told x y q RestartFromSibling e same n m h = absurd (n refl)
   above_told x y q RestartFromDescendant e same n m h = absurd (m refl)
   above_told x y q NotMatchedGlobally e same n m h =
-      above_none x (sym same ∙ above_here y q false e (ap (λ b. b || list_any test (ancestors doc q)) (h q ([], refl)) ∙ any_none test (ancestors doc q) (λ w i. h w (each_is_in (IsUnder doc q) w (ancestors doc q) (each_under doc v q) i))))
+      above_none x (sym same ∙ above_here y q false e (ap (λ b. b || list_any test (ancestors doc q)) (h.1 q ([], refl)) ∙ any_none test (ancestors doc q) (λ w i. h.1 w (each_is_in (IsUnder doc q) w (ancestors doc q) (each_under doc v q) i))))
 
   pub above_passed : (x y q : ℕ) (o : MatchResult) → parent_of doc y ≡ Some q → list_any test (ancestors doc y) ≡ list_any test (ancestors doc x) → is_match o ≡ false → Tells doc test q o → list_any test (ancestors doc q) ≡ list_any test (ancestors doc x)
   above_passed x y q o e same f h =
@@ -156,8 +165,8 @@ module _ (doc : List Element) (v : IsValid doc) (test : ℕ → Bool) where
       let parts = or_parts (test w) (list_any test (before doc w)) h in
       let front = sym (ap (list_any test) (before-split doc v x w (take (length (before doc x) - 1) (before doc x)) [] split)) ∙ parts.1 in
       none_for next_sibling x asks_nearest (ap (list_any test) split ∙ append-none test (take (length (before doc x) - 1) (before doc x)) (w ∷ []) front (no_or (test w) parts.0))
-  nearest_told x w NotMatchedGlobally e h = λ y u.
-      under_for next_sibling x w y asks_nearest (ap (is_in w) (last_split (before doc x) w e) ∙ in_middle w (take (length (before doc x) - 1) (before doc x)) []) h u
+  nearest_told x w NotMatchedGlobally e h =
+      fails_under doc v (to_left next_sibling) x (λ y u. under_for next_sibling x w y asks_nearest (ap (is_in w) (last_split (before doc x) w e) ∙ in_middle w (take (length (before doc x) - 1) (before doc x)) []) h.1 u)
 
   pub before_none : (x : ℕ) → list_any test (before doc x) ≡ false → Tells doc (to_left later_sibling) x RestartFromDescendant
   before_none x h = none_for later_sibling x asks_later h
@@ -179,7 +188,7 @@ module _ (doc : List Element) (v : IsValid doc) (test : ℕ → Bool) where
           let parts = or_parts (test w) (list_any test (before doc w)) h in
           let front = sym (ap (list_any test) (before-split doc v x w farther rest whole)) ∙ parts.1 in
           before_none x (sym same ∙ (ap (list_any test) f ∙ append-none test farther (w ∷ []) front (no_or (test w) parts.0)))
-      told NotMatchedGlobally n h = λ y u. under_for later_sibling x w y asks_later here h u
+      told NotMatchedGlobally n h = fails_under doc v (to_left later_sibling) x (λ y u. under_for later_sibling x w y asks_later here h.1 u)
 
 -- a selector with another to the left of it
 
@@ -196,4 +205,4 @@ module _ (doc : List Element) (v : IsValid doc) where
   combined_told c k r x RestartFromSibling m h = combined_fails c k r x h
   combined_told c k r x RestartFromDescendant m h =
       any_none (holds doc (combined c k r)) (x ∷ before doc x) (λ y i. combined_fails c k r y (none_any (holds_left doc k r) y (x ∷ before doc x) h i))
-  combined_told c k r x NotMatchedGlobally m h = λ y u. combined_fails c k r y (h y u)
+  combined_told c k r x NotMatchedGlobally m h = fails_under doc v (holds doc (combined c k r)) x (λ y u. combined_fails c k r y (h.1 y u))

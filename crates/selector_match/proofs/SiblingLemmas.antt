@@ -1,15 +1,10 @@
 -- What is after an element among its siblings.
-use Rattle.std.proofs.Common.{◌≡◌, ℕ, suc, ◌+◌, ◌<◌, ◌==◌, Bool, true, false, cond, List, [], ◌∷◌, length, drop, get_or, filter, Some, All, refl, sym, ap, ◌∙◌, subst, add-one, one-add, zero-add}
-use Rattle.std.specs.List.{AllByRecursion}
-use Rattle.std.proofs.lemmas.Bool.{cond_both}
-use Rattle.std.proofs.lemmas.List.{at_drop_more}
-use Rattle.std.proofs.lemmas.List.Elements.{All-from_recursion}
-use Rattle.base_model.specs.Text.{same_text}
+use Rattle.std.proofs.Common.{◌≡◌, ℕ, suc, ◌+◌, ◌==◌, Bool, true, false, cond, List, [], ◌∷◌, length, drop, filter, Some, refl, sym, ap, ◌∙◌, add-one}
 use Rattle.scene_model.specs.Element.{Element}
-use Rattle.scene_model.specs.Lookups.{IsElement, parent_of, children, siblings, left_of, place_of, tag_of}
+use Rattle.scene_model.specs.Lookups.{IsElement, parent_of, children, siblings, siblings_beyond, left_of, right_of, place_of, place_by}
 use Rattle.scene_model.specs.Valid.{IsValid}
-use Rattle.scene_model.proofs.Siblings.{left_here, left_on, siblings-children, each_sibling}
-use Rattle.selector_model.specs.Holds.{right_of, same_type}
+use Rattle.scene_model.proofs.Siblings.{left_here, left_on, siblings-children}
+use Rattle.selector_model.specs.Holds.{counts}
 
 -- in any list
 
@@ -29,23 +24,11 @@ module _ (doc : List Element) (v : IsValid doc) (x p : ℕ) (there : IsElement d
   pub right_of-siblings : drop (place_of doc x + 1) (children doc p) ≡ right_of x (siblings doc x)
   right_of-siblings = ap (λ l. drop (place_of doc x + 1) l) (sym (siblings-children doc v x p there parent)) ∙ sym (right_of-drop x (siblings doc x))
 
--- one more sibling, of the type or not
+-- all of them are counted
 
-kept_one : (p : ℕ → Bool) (b : Bool) (y : ℕ) (ys : List ℕ) → p y ≡ b → length (filter p (y ∷ ys)) ≡ cond b 1 0 + length (filter p ys)
-kept_one p true y ys e = rw e (sym (one-add (length (filter p ys))))
-kept_one p false y ys e = rw e (sym (zero-add (length (filter p ys))))
+all_pass : (xs : List ℕ) → filter (λ y. true) xs ≡ xs
+all_pass [] = refl
+all_pass (x ∷ xs) = ap (λ l. x ∷ l) (all_pass xs)
 
-pub same_type-drop : (doc : List Element) (x : ℕ) (others : List ℕ) (i : ℕ) (b : Bool) → i < length others → same_text (tag_of doc (get_or others i 0)) (tag_of doc x) ≡ b → length (same_type doc x (drop i others)) ≡ cond b 1 0 + length (same_type doc x (drop (i + 1) others))
-same_type-drop doc x others i b l e =
-    at_drop_more (λ ys. length (same_type doc x ys)) others i 0 l
-    ∙ kept_one (λ y. same_text (tag_of doc y) (tag_of doc x)) b (get_or others i 0) (drop (i + 1) others) e
-
--- the siblings are elements
-
-each-right : (P : ℕ → Type 0) (x : ℕ) (xs : List ℕ) → AllByRecursion P xs → AllByRecursion P (right_of x xs)
-each-right P x [] h = tt
-each-right P x (y ∷ xs) h = cond_both (y == x) xs (right_of x xs) (AllByRecursion P) (λ e. h.1) (λ e. each-right P x xs h.1)
-
-module _ (doc : List Element) (v : IsValid doc) where
-  pub right-elements : (x : ℕ) (xs : List ℕ) → xs ≡ right_of x (siblings doc x) → All (IsElement doc) xs
-  right-elements x xs e = All-from_recursion (IsElement doc) xs (subst (AllByRecursion (IsElement doc)) (sym e) (each-right (IsElement doc) x (siblings doc x) (each_sibling doc v x)))
+pub place_by_all : (doc : List Element) (from_last : Bool) (x : ℕ) (xs : List ℕ) → xs ≡ siblings_beyond doc from_last x → length xs ≡ place_by doc from_last (counts doc false x) x
+place_by_all doc from_last x xs e = ap length (e ∙ sym (all_pass (siblings_beyond doc from_last x)))

@@ -1,10 +1,10 @@
 //! Indexes among siblings (selectors-4, section 13).
 
-ghost use Rattle.std.specs.Prelude.{◌≡◌, ◌+◌, ◌==◌, ◌&&◌, ◌<◌, ◌≤◌, ◌^◌, ◌↔◌, ◌*ℤ◌, ℕ, pos, All, IsTrue, false, if◌then◌else◌, length, true};
-ghost use Rattle.scene_model.specs.Lookups.{IsElement, left_of, siblings};
+ghost use Rattle.std.specs.Prelude.{◌≡◌, ◌+◌, ◌==◌, ◌&&◌, ◌<◌, ◌^◌, ◌↔◌, ◌*ℤ◌, ℕ, pos, IsTrue, false, true};
+ghost use Rattle.scene_model.specs.Lookups.{IsElement, left_of, place_by as model_place_by, right_of, siblings};
 ghost use Rattle.scene_model.specs.Valid.{IsValid};
 ghost use Rattle.selector_model.specs.Comparisons.{is_nth as model_is_nth};
-ghost use Rattle.selector_model.specs.Holds.{index_by as model_index_by, right_of, same_type as model_same_type};
+ghost use Rattle.selector_model.specs.Holds.{counts, index_by as model_index_by};
 ghost use Rattle.selector_types.specs.SimpleView.{formula_of};
 
 use dom_tree::Doc;
@@ -34,33 +34,17 @@ fn right_siblings(doc: &Doc, x: u32) -> &[u32]
     }
 }
 
-/// How many of the elements `others` have the type of `x`.
-fn same_type(doc: &Doc, x: u32, others: &[u32]) -> usize
-    requires there { IsElement doc.now.elements x }
-    requires others { All (IsElement doc.now.elements) others.now }
-    ensures count { result ≡ length (model_same_type doc.now.elements x others.now) }
-    ensures bound { result ≤ length others.now }
-{
-    let mut count = 0;
-    for other in others {
-        if doc.same_tag(*other, x) {
-            count += 1;
-        }
-    }
-    count
-}
-
-/// The siblings after `x`, or those before it.
-fn side_of(doc: &Doc, from_last: bool, x: u32) -> &[u32]
+/// The place of `x` among its siblings, or among those of its type: how many of them are before it, or after it.
+fn place_by(doc: &Doc, from_last: bool, of_type: bool, x: u32) -> usize
     requires { IsElement doc.now.elements x }
-    ensures side { let all = siblings doc.now.elements x in
-        result.now ≡ (if from_last then right_of x all else left_of x all) }
-    ensures elements { All (IsElement doc.now.elements) result.now }
+    ensures place { result ≡ model_place_by doc.now.elements from_last (counts doc.now.elements of_type x) x }
+    ensures bound { result < 2 ^ 61 }
 {
-    if from_last {
-        right_siblings(doc, x)
-    } else {
-        left_siblings(doc, x)
+    match (from_last, of_type) {
+        (false, false) => left_siblings(doc, x).len(),
+        (false, true) => doc.place_of_type(x) as usize,
+        (true, false) => right_siblings(doc, x).len(),
+        (true, true) => doc.place_of_type_from_last(x) as usize,
     }
 }
 
@@ -71,12 +55,7 @@ pub(crate) fn index_by(doc: &Doc, from_last: bool, of_type: bool, x: u32) -> usi
     ensures index { result ≡ model_index_by doc.now.elements from_last of_type x }
     ensures bound { result < 2 ^ 62 }
 {
-    let side = side_of(doc, from_last, x);
-    if of_type {
-        same_type(doc, x, side) + 1
-    } else {
-        side.len() + 1
-    }
+    place_by(doc, from_last, of_type, x) + 1
 }
 
 /// Whether `x` is the only one of its siblings, or the only one of its type.

@@ -29,8 +29,9 @@ pub(crate) fn tried(doc: &Doc, complex: &Complex, x: u32) -> MatchResult
     requires { IsElement doc.now.elements x }
     ensures { Tells doc.now.elements (holds doc.now.elements (complex_of complex.now)) x result }
 {
-    if !meets(doc, &complex.subject, x) {
-        return MatchResult::RestartFromSibling;
+    match meets(doc, &complex.subject, x) {
+        MatchResult::Matched => {}
+        told => return told,
     }
     let Some(left) = &complex.left else {
         return MatchResult::Matched;
@@ -107,42 +108,49 @@ fn at_siblings(doc: &Doc, rest: &Complex, x: u32) -> MatchResult
     MatchResult::RestartFromDescendant
 }
 
-/// Whether `x` passes each test of a compound.
+/// Tries the tests of a compound at `x`, until one fails.
 #[cycle(matches)]
-fn meets(doc: &Doc, compound: &Compound, x: u32) -> bool
+fn meets(doc: &Doc, compound: &Compound, x: u32) -> MatchResult
     requires { IsElement doc.now.elements x }
-    ensures { result ≡ model_meets doc.now.elements (compound_of compound.now) x }
+    ensures { Tells doc.now.elements (model_meets doc.now.elements (compound_of compound.now)) x result }
 {
     for test in &compound.tests {
-        if !test_holds(doc, test, x) {
-            return false;
+        match test_holds(doc, test, x) {
+            MatchResult::Matched => {}
+            told => return told,
         }
     }
-    true
+    MatchResult::Matched
 }
 
+/// Tries a test at `x`.
 #[cycle(matches)]
-fn test_holds(doc: &Doc, test: &Test, x: u32) -> bool
+fn test_holds(doc: &Doc, test: &Test, x: u32) -> MatchResult
     requires { IsElement doc.now.elements x }
-    ensures { result ≡ model_test_holds doc.now.elements (test_of test.now) x }
+    ensures { Tells doc.now.elements (model_test_holds doc.now.elements (test_of test.now)) x result }
 {
     match test {
-        Test::Simple(simple) => passes(doc, simple, x),
+        Test::Simple(simple) => MatchResult::told(passes(doc, simple, x)),
         Test::Is(list) | Test::Where(list) => holds_some(doc, list, x),
-        Test::Not(list) => !holds_some(doc, list, x),
+        Test::Not(list) => match holds_some(doc, list, x) {
+            MatchResult::Matched => MatchResult::RestartFromSibling,
+            _ => MatchResult::Matched,
+        },
     }
 }
 
-/// Whether one of the selectors holds at `x`.
+/// Tries the selectors of a list at `x`, until one holds. Where all fail, so much is told as the one that tells least.
 #[cycle(matches)]
-fn holds_some(doc: &Doc, list: &[Complex], x: u32) -> bool
+fn holds_some(doc: &Doc, list: &[Complex], x: u32) -> MatchResult
     requires { IsElement doc.now.elements x }
-    ensures { result ≡ model_holds_some doc.now.elements (complexes_of list.now) x }
+    ensures { Tells doc.now.elements (model_holds_some doc.now.elements (complexes_of list.now)) x result }
 {
+    let mut told = MatchResult::NotMatchedGlobally;
     for complex in list {
-        if tried(doc, complex, x) == MatchResult::Matched {
-            return true;
+        match tried(doc, complex, x) {
+            MatchResult::Matched => return MatchResult::Matched,
+            failed => told = told.weakest(failed),
         }
     }
-    false
+    told
 }

@@ -1,13 +1,13 @@
 -- Where a selector holds (selectors-4, sections 3 and 4), as a test that computes.
-use Rattle.std.specs.Prelude.{ℕ, ◌+◌, ◌-◌, ◌==◌, List, [], ◌∷◌, length, filter, slice_get, codes}
+use Rattle.std.specs.Prelude.{ℕ, ◌+◌, ◌-◌, ◌==◌, List, length, slice_get, codes}
 use Rattle.std.specs.Prelude.{Bool, true, false, not, ◌&&◌, ◌||◌, if◌then◌else◌}
 use Rattle.std.specs.Prelude.{Option, is_none, is_some as is_there, option_to_list}
 use Rattle.std.specs.List.{list_any}
 use Rattle.std.specs.Option.{option_map_or}
 use Rattle.base_model.specs.Text.{Characters, same_text, is_empty_text}
 use Rattle.scene_model.specs.Element.{Element}
-use Rattle.scene_model.specs.Lookups.{numbers, parent_of, children, siblings, left_of, tag_of, attribute_of, has_class}
-use Rattle.scene_model.specs.Lookups.{state_of}
+use Rattle.scene_model.specs.Lookups.{numbers, parent_of, children, siblings, left_of, tag_of, same_type, place_by}
+use Rattle.scene_model.specs.Lookups.{attribute_of, has_class, state_of}
 use Rattle.scene_model.specs.Ancestors.{ancestors}
 use Rattle.selector_model.specs.Comparisons.{folded, compared, is_nth}
 use Rattle.selector_model.specs.Selector.{Combinator, descendant, child, next_sibling, later_sibling}
@@ -31,23 +31,13 @@ leftwards doc later_sibling x = left_of x (siblings doc x)
 abbrev pub is_in_relation : List Element → Combinator → ℕ → ℕ → Bool
 is_in_relation doc combinator y x = list_any (λ z. z == y) (leftwards doc combinator x)
 
--- what comes after x in a list of numbers
-abbrev pub right_of : ℕ → List ℕ → List ℕ
-right_of x [] = []
-right_of x (y ∷ ys) = if y == x then ys else right_of x ys
-
-abbrev pub same_type : List Element → ℕ → List ℕ → List ℕ
-same_type doc x ys = filter (λ y. same_text (tag_of doc y) (tag_of doc x)) ys
-
 -- the siblings that count for an index: all, or those of the same type
-abbrev pub counted : List Element → Bool → ℕ → List ℕ → List ℕ
-counted doc by_type x ys = if by_type then same_type doc x ys else ys
+abbrev pub counts : List Element → Bool → ℕ → ℕ → Bool
+counts doc by_type x y = if by_type then same_type doc x y else true
 
 -- the index from 1, from the first or from the last
 abbrev pub index_by : List Element → Bool → Bool → ℕ → ℕ
-index_by doc from_last by_type x =
-    let others = if from_last then right_of x (siblings doc x) else left_of x (siblings doc x) in
-    length (counted doc by_type x others) + 1
+index_by doc from_last by_type x = place_by doc from_last (counts doc by_type x) x + 1
 
 -- an id that is empty is none
 abbrev pub is_id : Characters → Characters → Bool

@@ -3,3 +3,4 @@ pub mod Comparisons
 pub mod Holds
 pub mod SpecificityOf
 pub mod Key
+pub mod Compounds

@@ -1,2 +1,6 @@
-pub mod CompoundLemmas
+pub mod InsideLemmas
+pub mod NameLemmas
+pub mod IntegerLemmas
 pub mod ListLemmas
+pub mod CompoundLemmas
+pub mod ComplexLemmas

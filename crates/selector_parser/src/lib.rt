@@ -1,9 +1,23 @@
 //! Reads tokens as a list of selectors (selectors-4).
-//!
-//! In this profile a selector is one compound: a type or `*`, and then classes.
 #![tactic(auto)]
 
+mod an_plus_b;
+mod attribute;
+mod combinator;
+mod complex;
 mod compound;
+mod count;
+mod function;
+mod inside;
+mod integer;
+mod kinds;
 mod list;
+mod names;
+mod nested;
+mod offset;
+mod pseudo;
+mod pseudo_class;
+mod single;
+mod start;
 
 pub use list::selector_list;

@@ -173,3 +173,27 @@ fn many_siblings(rt: HostRuntime) -> Result<(), Fail> {
     assert_eq!(rt; text.as_str(), "");
     Ok(())
 }
+
+/// `.none`, in sixteen lists one in the other, each `:is(..) ~ p`.
+fn nested(alloc: Global) -> Result<Complex, NoMemory> {
+    let mut complex = alone(alloc, Simple::Class(atom(alloc, "none")?))?;
+    for _ in 0..16 {
+        let list = vec![in alloc; complex]?;
+        let left = Complex::alone(vec![in alloc; Test::Is(list)]?);
+        let tests = vec![in alloc; Test::Simple(Simple::Type(atom(alloc, "p")?))]?;
+        complex = Complex::combined(alloc, tests, Combinator::LaterSibling, left)?;
+    }
+    Ok(complex)
+}
+
+fn found_nested(rt: &impl Abort, alloc: Global) -> Result<String, Fail> {
+    let doc = sixty(rt, alloc, false)?;
+    held(rt, alloc, &doc, nested(alloc)?)
+}
+
+#[test]
+fn many_lists(rt: HostRuntime) -> Result<(), Fail> {
+    let text = found_nested(&rt, rt.alloc())?;
+    assert_eq!(rt; text.as_str(), "");
+    Ok(())
+}

@@ -17,7 +17,7 @@ use Rattle.sheet_model.specs.Declared.{declares}
 use Rattle.sheet_model.specs.StyleRules.{style_rules_in}
 use Rattle.sheet_model.specs.Sources.{PlacedRule, rules_of_sheets}
 
-two_rules : style_rules_in (codes "p.note, * { color: Red; display: block } i { colour: lime; clear: 3 } p > i {color: red}") ≡ record {
+two_rules : style_rules_in (codes "p.note, * { color: Red; display: block } i { colour: lime; clear: 3 } p > {color: red}") ≡ record {
   selectors = subject (with_test (simple (type_selector (codes "p"))) (with_test (simple (class_selector (codes "note"))) any)) ∷ subject any ∷ [];
   declarations = declares 0 (color (opaque 255 0 0)) ∷ declares 1 (keyword (codes "block")) ∷ [];
 } ∷ record {
@@ -75,9 +75,9 @@ closer_between : shape (codes "p{color:red}}i{color:red}b{clear:both}") ≡ (1, 
 unfolding style_rules_in rules_in tokens_in declarations_in selectors_in value_in table named_colors
 closer_between = refl
 
-profile_combinator : shape (codes "p>i{color:red}*{VISIBILITY:Hidden}") ≡ (1, 1) ∷ []
+bad_combinator : shape (codes "p>{color:red}*{VISIBILITY:Hidden}") ≡ (1, 1) ∷ []
 unfolding style_rules_in rules_in tokens_in declarations_in selectors_in value_in table named_colors
-profile_combinator = refl
+bad_combinator = refl
 
 profile_layer : shape (codes "@layer a{p{color:red}}p{}") ≡ (1, 0) ∷ []
 unfolding style_rules_in rules_in tokens_in declarations_in selectors_in value_in table named_colors
@@ -93,7 +93,7 @@ given number origin enabled text = record { number = number; origin = origin; en
 
 abbrev five : List Sheet
 five =
-    given 1 author true (codes "p{color:red;clear:left}i>b{color:red}i{}b{color:lime}")
+    given 1 author true (codes "p{color:red;clear:left}i>{color:red}i{}b{color:lime}")
     ∷ given 2 author false (codes "p{color:red}")
     ∷ given 3 user true (codes "p{color:red}")
     ∷ given 4 user_agent true []

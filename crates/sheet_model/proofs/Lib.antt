@@ -1,3 +1,5 @@
 mod Examples
 mod ValueExamples
 mod SelectorExamples
+mod AnPlusBExamples
+mod LimitExamples

@@ -1,3 +1,6 @@
+pub mod SelectorTokens
+pub mod AttributeIn
+pub mod AnPlusB
 pub mod SelectorsIn
 pub mod ValueIn
 pub mod Declared

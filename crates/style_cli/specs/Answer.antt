@@ -4,20 +4,16 @@ use Rattle.std.specs.Prelude.{Bool, Option, Some, None, option_map, IfSome, IsSo
 use Rattle.std.specs.Io.KnownBytes.{Appends}
 use Rattle.base_model.specs.Limits.{input_limit}
 use Rattle.job_json.specs.declared.Job.{Job}
-use Rattle.job_json.specs.JobOf.{Verdict, not_json, bad_shape, good, verdict_of}
+use Rattle.job_json.specs.JobOf.{Verdict, not_json, bad_shape, over, good, verdict_of, job_if_good}
+use Rattle.stylo_base.specs.declared.refusal.Kind.{Kind}
 use Rattle.stylo_base.specs.declared.refusal.Kind.TheVariants.{Input}
 use Rattle.style_cli.specs.declared.status.Status.{Status}
 use Rattle.style_cli.specs.declared.status.Status.TheVariants.{Done, ReadFault, Usage, NotJson, NotAJob, Limit}
 use Rattle.style_cli.specs.declared.status.Status.TheVariants.{WriteFault, NoMemory}
 use Rattle.style_cli.specs.declared.words.Line.{Line}
 use Rattle.style_cli.specs.declared.words.Line.TheVariants.{Run}
-use Rattle.style_cli.specs.Loops.{GrewByFront}
+use Rattle.style_cli.specs.Loops.{GrewByFront, LosesFront}
 use Rattle.style_cli.specs.Text.{text_of}
-
-abbrev pub job_if_good : Verdict → Option Job
-job_if_good not_json = None
-job_if_good (bad_shape path) = None
-job_if_good (good job) = Some job
 
 -- the job that an input within the limit spells
 abbrev pub job_in : List ℕ → Option Job
@@ -31,6 +27,7 @@ due_text (Some Run) bytes = option_map text_of (job_in bytes)
 abbrev pub due_by : Verdict → Status
 due_by not_json = NotJson
 due_by (bad_shape path) = NotAJob path
+due_by (over kind number) = Limit kind number
 due_by (good job) = Done
 
 -- the status that an input calls for, where nothing fails
@@ -46,13 +43,20 @@ IsReadAs left verdict = IfSome left (λ bytes. (length bytes ≤ input_limit) ×
 abbrev pub IsTooLong : Option (List ℕ) → Type 0
 IsTooLong left = IfSome left (λ bytes. input_limit + 1 ≤ length bytes)
 
--- it is a job
-abbrev pub IsJob : Option (List ℕ) → Type 0
-IsJob left = IfSome left (λ bytes. (job : Job) × (job_in bytes ≡ Some job))
-
 -- it was read to its end
 abbrev pub IsReadToEnd : Option (List ℕ) → Option (List ℕ) → Type 0
 IsReadToEnd old new = IfSome old (λ bytes. new ≡ Some [])
+
+-- It has more bytes than the limit and lost the first ones up to one past it, or it was read to its end, has the shape
+-- of a job, and passes first the limit of this kind, with its number.
+abbrev pub IsPast : Kind → ℕ → Option (List ℕ) → Option (List ℕ) → Type 0
+IsPast kind number old new =
+    ((kind ≡ Input) × ((number ≡ input_limit) × (IsTooLong old × LosesFront (input_limit + 1) old new)))
+    ⊎ (IsReadAs old (over kind number) × IsReadToEnd old new)
+
+-- it is a job
+abbrev pub IsJob : Option (List ℕ) → Type 0
+IsJob left = IfSome left (λ bytes. (job : Job) × (job_in bytes ≡ Some job))
 
 -- an output grew by the whole text that is due
 abbrev pub IsPrinted : Option Line → Option (List ℕ) → Option (List ℕ) → Option (List ℕ) → Type 0
@@ -96,7 +100,8 @@ abbrev pub IsRefused : Status → List ℕ → Type 0
 IsRefused NotJson bytes = (length bytes ≤ input_limit) × (verdict_of bytes ≡ not_json)
 IsRefused (NotAJob path) bytes = (length bytes ≤ input_limit) × (verdict_of bytes ≡ bad_shape path)
 IsRefused (Limit kind number) bytes =
-    (kind ≡ Input) × ((number ≡ input_limit) × (input_limit + 1 ≤ length bytes))
+    ((kind ≡ Input) × ((number ≡ input_limit) × (input_limit + 1 ≤ length bytes)))
+    ⊎ ((length bytes ≤ input_limit) × (verdict_of bytes ≡ over kind number))
 IsRefused status bytes = Unit {0}
 
 -- with these two the input was read to its end

@@ -5,9 +5,9 @@ ghost use Rattle.io_edges.specs.Cause.{HasCause, Rose};
 ghost use Rattle.stylo_base.specs.declared.refusal.Kind.{Kind};
 ghost use Rattle.job_json.specs.JobOf.{not_json, bad_shape};
 ghost use Rattle.style_cli.specs.Words.{line_of};
-ghost use Rattle.style_cli.specs.Answer.{IsReadAs, IsTooLong, IsJob, IsPrinted, IsFrontPrinted, IsReadToEnd, IsAnswerTo, IsEarly, IsUnread, IsRefused, IsTold, job_in};
+ghost use Rattle.style_cli.specs.Answer.{IsReadAs, IsPast, IsJob, IsPrinted, IsFrontPrinted, IsReadToEnd, IsAnswerTo, IsEarly, IsUnread, IsRefused, IsTold, job_in};
 ghost use Rattle.base_model.specs.Limits.{element_limit, input_limit, sheet_limit};
-ghost use Rattle.style_cli.specs.Loops.{LosesAtMost, LosesFront};
+ghost use Rattle.style_cli.specs.Loops.{LosesAtMost};
 
 use crate::input::{Stop, read_all};
 use crate::printing::print_job;
@@ -47,8 +47,7 @@ pub fn run<R: Threads + Sync, S: Source, K: Sink>(
     ensures not_a_job { (path : List ℕ) → result ≡ Status.NotAJob path
         → IsReadAs (S.left source.old) (bad_shape path) × IsReadToEnd (S.left source.old) (S.left source.new) }
     ensures limit { (kind : Kind) (number : ℕ) → result ≡ Status.Limit kind number
-        → (kind ≡ Kind.Input) × ((number ≡ input_limit) × (IsTooLong (S.left source.old)
-        × LosesFront (input_limit + 1) (S.left source.old) (S.left source.new))) }
+        → IsPast kind number (S.left source.old) (S.left source.new) }
     ensures job { result ≡ Status.WriteFault → IsJob (S.left source.old)
         × IsReadToEnd (S.left source.old) (S.left source.new) }
 
@@ -107,8 +106,7 @@ fn read_job<S: Source>(alloc: Global, source: &mut S) -> Result<Job, Status>
     ensures refused { IfErr result (λ status. IfSome (S.left source.old) (IsRefused status)) }
     ensures told { IfErr result (λ status. IsTold status (S.left source.old) (S.left source.new)) }
     ensures limit { (kind : Kind) (number : ℕ) → result ≡ Err (Status.Limit kind number)
-        → (kind ≡ Kind.Input) × ((number ≡ input_limit)
-        × LosesFront (input_limit + 1) (S.left source.old) (S.left source.new)) }
+        → IsPast kind number (S.left source.old) (S.left source.new) }
     ensures most { LosesAtMost (input_limit + 1) (S.left source.old) (S.left source.new) }
     ensures fault { result ≡ Err Status.ReadFault → LosesAtMost input_limit (S.left source.old) (S.left source.new) }
     ensures cause { HasCause (S.faults source.old) (S.faults source.new) (result ≡ Err Status.ReadFault) }

@@ -1,6 +1,8 @@
-use Rattle.std.proofs.Common.{◌≡◌, ℕ, zero, suc, true, List, [], ◌∷◌, ◌++◌, encode_utf8_all, sym, ap, ◌∙◌, arith}
+use Rattle.std.proofs.Common.{◌≡◌, ℕ, zero, suc, true, List, [], ◌∷◌, ◌++◌, encode_utf8, encode_utf8_all, refl, sym, ap, ◌∙◌, arith, append-nil}
+use Rattle.std.specs.Char.{IsScalar}
+use Rattle.std.proofs.lemmas.Bool.{and_from}
 use Rattle.std.specs.Str.{chars, bytes_eq, IsUtf8, IsAscii}
-use Rattle.std.proofs.lemmas.Str.{chars-IsAscii, chars-append, encodes-chars}
+use Rattle.std.proofs.lemmas.Str.{chars-IsAscii, chars-append, chars-encodes, encodes-chars}
 use Rattle.std.proofs.lemmas.Bool.Decides.{nat_tests, same_from_decides}
 use Rattle.std.proofs.lemmas.Slice.Eq.{bytes_eq-Decides}
 use Rattle.stylo_base.specs.Ascii.{is_all_ascii}
@@ -32,3 +34,8 @@ pub same_test : (a b : List ℕ) → IsUtf8 a → IsUtf8 b → bytes_eq a b ≡ 
 same_test a b u v =
     let by_chars = bytes_eq-Decides (chars a) (chars b) in
     same_from_decides _ _ (bytes_eq-Decides a b) (λ e. chars_same a b u v (by_chars.0 e), λ e. by_chars.1 (ap chars e))
+
+-- a character that is appended to a text
+pub chars_push_one : (old new now : List ℕ) (c : ℕ) → IsScalar c → IsUtf8 old → new ≡ old ++ encode_utf8 c → chars old ≡ now → chars new ≡ now ++ c ∷ []
+chars_push_one old new now c scalar u e v =
+    chars_push old new (encode_utf8 c) now u e v ∙ ap (λ cs. now ++ cs) (ap chars (sym (append-nil (encode_utf8 c))) ∙ chars-encodes (c ∷ []) (and_from _ true scalar refl))

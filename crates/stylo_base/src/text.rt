@@ -1,6 +1,6 @@
 //! A text that contracts see as the list of its characters.
 
-ghost use Rattle.std.specs.Prelude.{◌≡◌, ◌++◌, ◌↔◌, [], IfOk, IsTrue, OnErr, OnOk, length, encode_utf8_all, decimal, true};
+ghost use Rattle.std.specs.Prelude.{◌≡◌, ◌++◌, ◌↔◌, ◌∷◌, [], IfOk, IsTrue, OnErr, OnOk, length, encode_utf8_all, decimal, true};
 ghost use Rattle.std.specs.Str.{chars};
 ghost use Rattle.std.specs.String.{string_bytes};
 ghost use Rattle.stylo_base.specs.Ascii.{is_all_ascii};
@@ -74,6 +74,14 @@ impl Text {
         ensures err { OnErr result (self.new ≡ self.old) }
     {
         self.inner.push_str(text)?;
+        Ok(())
+    }
+
+    /// Appends a character.
+    pub fn push_char(&mut self, c: char) -> Result<(), NoMemory>
+        ensures { OnOk result (self.new ≡ self.old ++ c ∷ []) }
+    {
+        self.inner.push(c)?;
         Ok(())
     }
 

@@ -1,10 +1,10 @@
-use Rattle.std.proofs.Common.{◌≡◌, ℕ, List, ◌++◌, length, map, drop}
+use Rattle.std.proofs.Common.{◌≡◌, ℕ, List, ◌++◌, length, map, take, drop}
 use Rattle.std.specs.List.{list_any}
 use Rattle.scene_model.specs.Lookups.{IsElement}
 use Rattle.scene_model.specs.Ancestors.{ancestors, position_of}
 use Rattle.selector_model.specs.Holds.{holds, holds_some, meets}
 use Rattle.selector_types.specs.ComplexView.{complex_of, complexes_of, compound_of, test_of, tested}
-use Rattle.selector_match.specs.Results.{before}
+use Rattle.selector_match.specs.Results.{Tells, before}
 use Rattle.selector_match.proofs.matching.+matches.Given as goal
 
 -- what is above decides
@@ -27,11 +27,14 @@ invariant-at_siblings-loop-nearest l = record {
 abbrev pub decreases-at_siblings-loop-nearest : goal.decreases-at_siblings-loop-nearest
 decreases-at_siblings-loop-nearest l = length l.before
 
--- what is left decides
+-- what is told of those so far
 abbrev pub invariant-holds_some-loop-complex : goal.invariant-holds_some-loop-complex
 invariant-holds_some-loop-complex l =
-    holds_some l.doc.elements (complexes_of (drop l.complex-index l.list)) l.x ≡ holds_some l.doc.elements (complexes_of l.list) l.x
+    Tells l.doc.elements (holds_some l.doc.elements (complexes_of (take l.complex-index l.list))) l.x l.told
 
+-- what is left decides
 abbrev pub invariant-meets-loop-test : goal.invariant-meets-loop-test
-invariant-meets-loop-test l =
-    meets l.doc.elements (tested (map test_of (drop l.test-index l.test-items))) l.x ≡ meets l.doc.elements (compound_of l.compound) l.x
+invariant-meets-loop-test l = record {
+  whole : compound_of l.compound ≡ tested (map test_of l.test-items);
+  left : meets l.doc.elements (tested (map test_of (drop l.test-index l.test-items))) l.x ≡ meets l.doc.elements (compound_of l.compound) l.x;
+}

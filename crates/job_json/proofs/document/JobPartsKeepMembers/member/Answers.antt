@@ -1,7 +1,7 @@
 use Rattle.std.proofs.Common.{refl, sym, ap, ◌∙◌, option_and_then}
 use Rattle.std.specs.Prelude.{codes}
-use Rattle.job_json.specs.Shape.{whole, is_one, is_empty_list}
-use Rattle.job_json.specs.JobOf.{sheets_within}
+use Rattle.job_json.specs.Values.{whole, is_one, is_empty_list}
+use Rattle.job_json.specs.Within.{sheets_within}
 use Rattle.job_json.specs.Within.{nodes_in}
 use Rattle.job_json.proofs.Puts.{here, there, beside}
 use Rattle.job_json.proofs.document.JobPartsKeepMembers.member.Goals as goal

@@ -1,6 +1,6 @@
 use Rattle.std.proofs.Common.{refl, sym, ap, ◌∙◌, option_and_then}
 use Rattle.std.specs.Prelude.{ℕ, codes, Option, Some, option_map}
-use Rattle.job_json.specs.Shape.{name_of, states_from}
+use Rattle.job_json.specs.Values.{name_of, states_from}
 use Rattle.job_json.specs.Within.{name_said, named_parent, attrs_within}
 use Rattle.job_json.proofs.Puts.{here, there, beside}
 use Rattle.job_json.proofs.node.NodePartsKeepMembers.member.Goals as goal

@@ -2,7 +2,7 @@ use Rattle.std.proofs.Common.{sym, ap, ◌∙◌}
 use Rattle.std.specs.Prelude.{option_map}
 use Rattle.serde_json.specs.Find.{as_str}
 use Rattle.dom_tree.specs.View.{states_of}
-use Rattle.job_json.specs.Shape.{no_states}
+use Rattle.job_json.specs.Values.{no_states}
 use Rattle.job_json.proofs.StateSteps.{next_word, states_with-push}
 use Rattle.job_json.proofs.states.StateWordsKeepItems.item.Goals as goal
 

@@ -1,0 +1,52 @@
+//! Compounds and what combines them.
+
+ghost use Rattle.std.specs.Prelude.{◌≡◌, IfOk, option_map};
+ghost use Rattle.selector_types.specs.ComplexView.{complex_of};
+ghost use Rattle.sheet_model.specs.SelectorsIn.{complex_in, reader_of};
+ghost use Rattle.selector_parser.specs.Member.{selector_within};
+
+use crate::combinator::combinator;
+use crate::compound::compound;
+use crate::count::with_one_more;
+use css_tokens::{Token, trimmed};
+use selector_types::Complex;
+use std::alloc::Global;
+use stylo_base::NoMemory;
+
+/// Reads tokens as a selector in which lists may be nested so deep, with whitespace around it. None:
+/// they are none.
+#[tactic(auto, unfolding(crate::specs::Member::selector_within))]
+pub fn selector(alloc: Global, depth: u32, tokens: &[Token]) -> Result<Option<Complex>, NoMemory>
+    ensures { IfOk result (λ found. option_map complex_of found ≡ selector_within depth tokens.now) }
+{
+    complex(alloc, depth, tokens)
+}
+
+/// The same, for the lists in it.
+#[cycle(selector)]
+pub fn complex(alloc: Global, depth: u32, tokens: &[Token]) -> Result<Option<Complex>, NoMemory>
+    ensures { IfOk result (λ found. option_map complex_of found ≡ complex_in (reader_of depth) tokens.now) }
+{
+    let Some((tests, mut rest)) = compound(alloc, depth, trimmed(tokens))? else {
+        return Ok(None);
+    };
+    let Some(mut count) = with_one_more(0, &tests) else {
+        return Ok(None);
+    };
+    let mut complex = Complex::alone(tests);
+    'compounds: while !rest.is_empty() {
+        let Some((combinator, after)) = combinator(rest) else {
+            return Ok(None);
+        };
+        let Some((tests, left)) = compound(alloc, depth, after)? else {
+            return Ok(None);
+        };
+        let Some(sum) = with_one_more(count, &tests) else {
+            return Ok(None);
+        };
+        complex = Complex::combined(alloc, tests, combinator, complex)?;
+        count = sum;
+        rest = left;
+    }
+    Ok(Some(complex))
+}

@@ -1,0 +1,80 @@
+//! Integers, by their spelling.
+
+ghost use Rattle.std.specs.Prelude.{◌≡◌, ◌+◌, ◌-◌, ◌*◌, ◌≤◌, ◌≤ℤ◌, min, pos};
+ghost use Rattle.std.specs.List.{list_all};
+ghost use Rattle.base_model.specs.Ascii.{digit_zero};
+ghost use Rattle.sheet_model.specs.AnPlusB as model;
+ghost use Rattle.sheet_model.specs.AnPlusB.{greatest_index, size_of};
+ghost use Rattle.syntax_model.specs.Letters.{begins, is_digit, is_sign};
+ghost use Rattle.syntax_model.specs.Numbers.{after_sign, is_minus};
+
+/// What digits say, at most 2,147,483,647.
+pub fn size(digits: &[char]) -> i32
+    ensures value { result ≡ pos (size_of digits.now) }
+    ensures positive { pos 0 ≤ℤ result }
+{
+    let mut size: u64 = 0;
+    for c in digits {
+        size = next(size, *c);
+    }
+    size as i32
+}
+
+// The size with one more digit.
+fn next(size: u64, digit: char) -> u64
+    requires { size ≤ greatest_index }
+    ensures value { result ≡ min greatest_index (10 * size + (digit - digit_zero)) }
+    ensures small { result ≤ greatest_index }
+{
+    let value = u64::from(u32::from(digit).saturating_sub(48));
+    (10 * size + value).min(2_147_483_647)
+}
+
+/// What an integer says, which may have a sign.
+pub fn integer(text: &[char]) -> i32
+    ensures { result ≡ model.integer text.now }
+{
+    let size = size(without_sign(text));
+    if is_minus(text) { -size } else { size }
+}
+
+/// Whether a sign is first.
+pub fn is_signed(text: &[char]) -> bool
+    ensures { result ≡ begins is_sign text.now }
+{
+    match text.first() {
+        Some(c) => *c == '+' || *c == '-',
+        None => false,
+    }
+}
+
+// Whether a minus is first.
+fn is_minus(text: &[char]) -> bool
+    ensures { result ≡ is_minus text.now }
+{
+    match text.first() {
+        Some(c) => *c == '-',
+        None => false,
+    }
+}
+
+// The text after its sign.
+fn without_sign(text: &[char]) -> &[char]
+    ensures { result.now ≡ after_sign text.now }
+{
+    if is_signed(text) { &text[1..] } else { text }
+}
+
+/// Whether all are digits.
+pub fn are_digits(text: &[char]) -> bool
+    ensures { result ≡ list_all is_digit text.now }
+{
+    text.iter().all(|c| is_digit(*c))
+}
+
+// Whether it is a digit.
+fn is_digit(c: char) -> bool
+    ensures { result ≡ is_digit c }
+{
+    '0' <= c && c <= '9'
+}
