@@ -9,3 +9,4 @@ pub mod SiblingLemmas
 pub mod TextLemmas
 pub mod TriedLemmas
 pub mod WordLemmas
+pub mod KeyLemmas

@@ -1,1 +1,2 @@
+pub mod Bears
 pub mod Results

@@ -3,6 +3,7 @@
 
 mod compared;
 mod index;
+mod key;
 mod match_result;
 mod matching;
 mod simple;

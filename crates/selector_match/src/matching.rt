@@ -10,17 +10,19 @@ ghost use Rattle.selector_types.specs.ComplexView.{complex_of, complexes_of, com
 ghost use Rattle.selector_types.specs.View.{selector_of};
 
 use crate::index::left_siblings;
+use crate::key::bears;
 use crate::match_result::MatchResult;
 use crate::simple::passes;
 use dom_tree::Doc;
-use selector_types::{Combinator, Complex, Compound, Selector, Test};
+use selector_types::{Combinator, Complex, Compound, Selector, Test, key_of};
 
-/// Whether the selector holds at the element `x` (selectors-4, section 3.1). It takes no memory.
+/// Whether the selector holds at the element `x` (selectors-4, section 3.1). Most that do not are told
+/// by their key. It takes no memory.
 pub fn matches(doc: &Doc, selector: &Selector, x: u32) -> bool
     requires { IsElement doc.now.elements x }
     ensures { result ≡ holds doc.now.elements (selector_of selector.now) x }
 {
-    tried(doc, selector.complex(), x) == MatchResult::Matched
+    bears(doc, key_of(selector), x) && tried(doc, selector.complex(), x) == MatchResult::Matched
 }
 
 /// Tries a selector at `x`.
