@@ -1,13 +1,17 @@
 -- The winner of each property, as declarations come one by one.
-use Rattle.std.proofs.Common.{◌≡◌, ◌≢◌, ◌==◌, false, ℕ, ◌<◌, List, [], ◌∷◌, ◌++◌, Option, Some, slice_get, length, map, get_or, set, sym, ap, ◌∙◌, ⊎_elim, arith}
+use Rattle.std.proofs.Common.{◌≡◌, ◌≢◌, ◌==◌, false, ℕ, ◌<◌, List, [], ◌∷◌, ◌++◌, Option, Some, None, filter, slice_get, length, map, get_or, set, sym, ap, ◌∙◌, ⊎_elim, arith}
 use Rattle.std.proofs.lemmas.Bool.{cases_eq, eqb-true, false_from_ne_true}
 use Rattle.std.proofs.lemmas.List.{length-map, length-set, get_or-map, get_or-set_same, get_or-set_other, map-set, same_lists}
 use Rattle.std.proofs.lemmas.List.FromFn.{length-range_with_len, get_or-range_with_len}
-use Rattle.std.proofs.lemmas.Option.{slice_get_within, get_or_from_slice_get}
+use Rattle.std.proofs.lemmas.Option.{slice_get_within, get_or_from_slice_get, none-some, same_Some}
 use Rattle.std.specs.List.{range_with_len}
+use Rattle.std.specs.Option.{option_map_or}
 use Rattle.cascade_model.specs.Key.{Matched}
 use Rattle.cascade_model.specs.Winner.{winner, declares_longhand}
-use Rattle.cascade_model.specs.Ending.{ending, ending_of}
+use Rattle.syntax_model.specs.Wide.{inherit, initial, unset, revert, revert_layer}
+use Rattle.cascade_model.specs.Ending.{Ending, unsets, Meaning, keyword, value, meaning_of, ending, ending_of, ending_on}
+use Rattle.cascade_model.proofs.EndingLemmas.{ending_of-step}
+use Rattle.cascade_core.specs.Rollback.{settled}
 use Rattle.sheet_model.specs.Declared.{longhand, is_longhand}
 use Rattle.cascade_model.proofs.WinnerLemmas.{winner_other}
 use Rattle.value_model.specs.Table.{table}
@@ -61,6 +65,26 @@ winner_at ds winners p best is at =
     sym (get_or-along (won ds) (length table) p best within)
     ∙ get_or_from_slice_get (winners_of ds) p best best found
 
--- and the property comes to what it is given
-pub ending_at : (ds : List Matched) (winners : List (Option Matched)) (p : ℕ) (best : Option Matched) → winners ≡ winners_of ds → slice_get winners p ≡ Some best → ending p ds ≡ ending_of best
-ending_at ds winners p best is at = ap ending_of (winner_at ds winners p best is at)
+-- and the property comes to what it means
+pub ending_at : (ds : List Matched) (winners : List (Option Matched)) (p : ℕ) (best : Option Matched) → winners ≡ winners_of ds → slice_get winners p ≡ Some best → ending p ds ≡ option_map_or (λ w. ending_on (ending_of meaning_of) (filter (declares_longhand p) ds) w (meaning_of w.given)) best unsets
+unfolding winner
+ending_at ds winners p best is at =
+    ending_of-step meaning_of (filter (declares_longhand p) ds)
+    ∙ ap (λ (o : Option Matched). option_map_or (λ w. ending_on (ending_of meaning_of) (filter (declares_longhand p) ds) w (meaning_of w.given)) o unsets) (winner_at ds winners p best is at)
+
+-- where the winner does not take the cascade back, that is all
+settled_on : (again : List Matched → Ending) (ds : List Matched) (w : Matched) (meaning : Meaning) (end : Ending) → settled meaning ≡ Some end → end ≡ ending_on again ds w meaning
+settled_on again ds w (keyword inherit) end is = sym (same_Some _ _ is)
+settled_on again ds w (keyword initial) end is = sym (same_Some _ _ is)
+settled_on again ds w (keyword unset) end is = sym (same_Some _ _ is)
+settled_on again ds w (keyword revert) end is = absurd (none-some end is)
+settled_on again ds w (keyword revert_layer) end is = absurd (none-some end is)
+settled_on again ds w (value given) end is = sym (same_Some _ _ is)
+
+pub settled_at : (ds : List Matched) (winners : List (Option Matched)) (p : ℕ) (w : Matched) (end : Ending) → winners ≡ winners_of ds → slice_get winners p ≡ Some (Some w) → settled (meaning_of w.given) ≡ Some end → end ≡ ending p ds
+settled_at ds winners p w end is at ends =
+    settled_on (ending_of meaning_of) (filter (declares_longhand p) ds) w (meaning_of w.given) end ends
+    ∙ sym (ending_at ds winners p (Some w) is at)
+
+pub unset_at : (ds : List Matched) (winners : List (Option Matched)) (p : ℕ) → winners ≡ winners_of ds → slice_get winners p ≡ Some None → unsets ≡ ending p ds
+unset_at ds winners p is at = sym (ending_at ds winners p None is at)

@@ -9,8 +9,8 @@ use Rattle.value_model.specs.Style.{Style, inherited_values}
 use Rattle.value_model.proofs.ByRow.{by_row, by_row-at, by_row-unsets, inherited-at, length-by_row, by_row-within, map_is, IsFilled, filled_set, filled_kept}
 use Rattle.value_model.proofs.ByRow as rows_model
 use Rattle.cascade_model.specs.Key.{Matched}
-use Rattle.cascade_model.specs.Ending.{Ending, unsets, ends_at, ending}
-use Rattle.cascade_model.specs.Cascade.{value_at, values_from, computed}
+use Rattle.cascade_model.specs.Ending.{Ending, unsets, ending}
+use Rattle.cascade_model.specs.Cascade.{value_at, values_from}
 use Rattle.property_table.specs.View.{property_of, row_seen}
 use Rattle.property_table.specs.declared.property.Row.{Row}
 use Rattle.property_table.proofs.RowLemmas.{row_at, property_at}
@@ -53,11 +53,11 @@ module _ (ds : List Matched) (parents : List Value) (rows : List Row) (i : ℕ) 
       ∙ (by_row-at (of_declarations ds) table parents i row (row_at rows i d all within)
       ∙ ap (λ (e : Ending). option_map (λ v. value_at i row v e) (slice_get parents i)) (ap (λ k. ending k ds) (sym (property_at rows i d order within)) ∙ is))
 
-  -- a value is computed
-  pub sets_one : (old new : Style) (given x : Value) → ending property ds ≡ ends_at given → IfSome (slice_get parents property) (λ v. x ≡ computed property v given) → new ≡ record { values = set old.values property x } → IsPartly ds parents old.values i → IsPartly ds parents new.values (i + 1)
-  sets_one old new given x ends is put filled =
+  -- a value is set
+  pub sets_one : (old new : Style) (end : Ending) (x : Value) → ending property ds ≡ end → IfSome (slice_get parents property) (λ v. x ≡ value_at property row v end) → new ≡ record { values = set old.values property x } → IsPartly ds parents old.values i → IsPartly ds parents new.values (i + 1)
+  sets_one old new end x ends is put filled =
       let at : property ≡ i = property_at rows i d order within in
-      let one : (y : Value) → slice_get (values_from ds 0 table parents) i ≡ Some y → x ≡ y = λ y here. map_is (λ v. value_at i row v (ends_at given)) (slice_get parents i) x y (λ v found. MatchOption-at_some _ (λ u. x ≡ computed property u given) v (ap (slice_get parents) at ∙ found) is ∙ ap (λ k. computed k v given) at) (sym (values-at (ends_at given) ends) ∙ here) in
+      let one : (y : Value) → slice_get (values_from ds 0 table parents) i ≡ Some y → x ≡ y = λ y here. map_is (λ v. value_at i row v end) (slice_get parents i) x y (λ v found. MatchOption-at_some _ (λ u. x ≡ value_at property row u end) v (ap (slice_get parents) at ∙ found) is ∙ ap (λ k. value_at k row v end) at) (sym (values-at end ends) ∙ here) in
       let done : new ≡ record { values = set old.values i x } = put ∙ ap (λ k. record { values = set old.values k x }) at in
       subst (λ (s : Style). IsPartly ds parents s.values (i + 1)) (sym done) (filled_set _ _ old.values i x one filled)
 

@@ -1,2 +1,4 @@
 pub mod BestLemmas
+pub mod SortedLemmas
+pub mod RollbackLemmas
 pub mod FilledLemmas

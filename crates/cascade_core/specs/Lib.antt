@@ -1,1 +1,2 @@
+pub mod Rollback
 pub mod View

@@ -2,7 +2,9 @@
 #![tactic(auto)]
 
 mod ending;
+mod level;
 mod matched;
+mod rollback;
 mod styled;
 mod winners;
 

@@ -5,9 +5,9 @@ ghost use Rattle.cascade_model.specs.Key.{band, key_cmp, layer_cmp};
 ghost use Rattle.cascade_core.specs.View.{matched_of};
 
 use layer_order::Origin;
-use property_table::Declared;
 use std::cmp::Ordering;
 use stylo_base::Specificity;
+use value_parser::Declared;
 
 /// One declaration that applies to an element, with what the cascade compares. It borrows the
 /// declaration from what it was read into: for a rule that is the sheet, and for a `style` attribute

@@ -1,6 +1,6 @@
 //! The declaration that wins, for each property.
 
-ghost use Rattle.std.specs.Prelude.{◌≡◌, ◌∷◌, [], ◌++◌, List, Some, map, option_copied, option_map, slice_get};
+ghost use Rattle.std.specs.Prelude.{◌≡◌, ◌∷◌, [], ◌++◌, List, Some, IfSome, map, option_copied, option_map, slice_get};
 ghost use Rattle.cascade_model.specs.Key.{Matched as Declaration};
 ghost use Rattle.cascade_model.specs.Winner.{winner, declares_longhand};
 ghost use Rattle.cascade_model.specs.Ending.{ending};
@@ -45,14 +45,14 @@ impl<'a> Winners<'a> {
         winners
     }
 
-    /// What the declarations of a property come to.
-    pub(crate) fn ending(&self, id: PropId) -> Ending
+    /// What the declarations of a property come to. None: the one that wins takes the cascade back.
+    pub(crate) fn ending(&self, id: PropId) -> Option<Ending>
         ensures { (ds : List Declaration) → self.now ≡ winners_of ds
-            → ending_seen result ≡ ending (property_of id) ds }
+            → IfSome result (λ end. ending_seen end ≡ ending (property_of id) ds) }
     {
         match self.of(id) {
-            Some(d) => Ending::EndsAt(d.declared.value),
-            None => Ending::Unsets,
+            Some(d) => Ending::settled(d.declared.given),
+            None => Some(Ending::Unsets),
         }
     }
 

@@ -2,3 +2,4 @@ mod Examples
 pub mod KeyOrder
 pub mod StyleAlong
 pub mod WinnerLemmas
+pub mod EndingLemmas

@@ -25,12 +25,12 @@ and_implied : (a b : Bool) → (a ≡ true → b ≡ true) → (a && b) ≡ a
 and_implied true b h = h refl
 and_implied false b h = refl
 
-not_gt : (o : Ordering) → is_le o ≡ true → is_gt o ≡ false
+pub not_gt : (o : Ordering) → is_le o ≡ true → is_gt o ≡ false
 not_gt Less h = refl
 not_gt Equal h = refl
 not_gt Greater h = sym h
 
-le_from_not_gt : (o : Ordering) → is_gt o ≡ false → is_le o ≡ true
+pub le_from_not_gt : (o : Ordering) → is_gt o ≡ false → is_le o ≡ true
 le_from_not_gt Less h = refl
 le_from_not_gt Equal h = refl
 le_from_not_gt Greater h = sym h
@@ -51,20 +51,20 @@ not_back Equal h = sym h
 not_back Greater h = sym h
 
 -- the first of a list is found, or what is found in the rest
-first_or_rest : {K : Type 0} (b : Bool) (y x : K) (rest : Option K) → cond b (Some y) rest ≡ Some x → ((b ≡ true) × (y ≡ x)) ⊎ (rest ≡ Some x)
+pub first_or_rest : {K : Type 0} (b : Bool) (y x : K) (rest : Option K) → cond b (Some y) rest ≡ Some x → ((b ≡ true) × (y ≡ x)) ⊎ (rest ≡ Some x)
 first_or_rest true y x rest h = inl (refl, same_Some y x h)
 first_or_rest false y x rest h = inr h
 
 module _ {K : Type 0} where
   -- what all pass, what is found passes too
-  found_within : (p q : K → Bool) (xs : List K) (x : K) → find p xs ≡ Some x → list_all q xs ≡ true → q x ≡ true
+  pub found_within : (p q : K → Bool) (xs : List K) (x : K) → find p xs ≡ Some x → list_all q xs ≡ true → q x ≡ true
   found_within p q [] x h all = absurd (none-some x h)
   found_within p q (y ∷ ys) x h all =
       let parts = and_parts (q y) (list_all q ys) all in
       ⊎_elim (λ (e : (p y ≡ true) × (y ≡ x)). ap q (sym e.1) ∙ parts.0) (λ (e : find p ys ≡ Some x). found_within p q ys x e parts.1) (first_or_rest (p y) y x (find p ys) h)
 
   -- what is found passes
-  found_passes : (p : K → Bool) (xs : List K) (x : K) → find p xs ≡ Some x → p x ≡ true
+  pub found_passes : (p : K → Bool) (xs : List K) (x : K) → find p xs ≡ Some x → p x ≡ true
   found_passes p [] x h = absurd (none-some x h)
   found_passes p (y ∷ ys) x h =
       ⊎_elim (λ (e : (p y ≡ true) × (y ≡ x)). ap p (sym e.1) ∙ e.0) (λ (e : find p ys ≡ Some x). found_passes p ys x e) (first_or_rest (p y) y x (find p ys) h)
@@ -77,12 +77,12 @@ module _ {K : Type 0} where
       ap (λ b. cond b (Some y) (find q ys)) (fails y parts.0) ∙ none_found p q fails ys parts.1
 
   -- tests that agree find the same
-  found_alike : (p q : K → Bool) → ((x : K) → p x ≡ q x) → (xs : List K) → find p xs ≡ find q xs
+  pub found_alike : (p q : K → Bool) → ((x : K) → p x ≡ q x) → (xs : List K) → find p xs ≡ find q xs
   found_alike p q alike [] = refl
   found_alike p q alike (y ∷ ys) =
       ap (λ b. cond b (Some y) (find p ys)) (alike y) ∙ ap (cond (q y) (Some y)) (found_alike p q alike ys)
 
-  all_through : (p q : K → Bool) → ((x : K) → p x ≡ true → q x ≡ true) → (xs : List K) → list_all p xs ≡ true → list_all q xs ≡ true
+  pub all_through : (p q : K → Bool) → ((x : K) → p x ≡ true → q x ≡ true) → (xs : List K) → list_all p xs ≡ true → list_all q xs ≡ true
   all_through p q through [] all = refl
   all_through p q through (y ∷ ys) all =
       let parts = and_parts (p y) (list_all p ys) all in
@@ -90,10 +90,10 @@ module _ {K : Type 0} where
 
 -- In a total order of anything: the first of those that none is greater than.
 module _ {K : Type 0} (R : K → K → Ordering) (o : IsTotalOrder R) where
-  abbrev is_top : List K → K → Bool
+  abbrev pub is_top : List K → K → Bool
   is_top ds d = list_all (λ other. is_le (R other d)) ds
 
-  abbrev top_of : List K → Option K
+  abbrev pub top_of : List K → Option K
   top_of ds = find (is_top ds) ds
 
   -- of two the greater, and of equal ones the first
@@ -104,7 +104,7 @@ module _ {K : Type 0} (R : K → K → Ordering) (o : IsTotalOrder R) where
   with_one None d = Some d
   with_one (Some w) d = Some (greater_of w d)
 
-  at_most-trans : (x y z : K) → is_le (R x y) ≡ true → is_le (R y z) ≡ true → is_le (R x z) ≡ true
+  pub at_most-trans : (x y z : K) → is_le (R x y) ≡ true → is_le (R y z) ≡ true → is_le (R x z) ≡ true
   at_most-trans x y z h k =
       le_from_not_gt (R x z) (upto o x y z (not_gt (R x y) h) (not_gt (R y z) k))
 

@@ -1,20 +1,27 @@
 //! The cascade.
 
 use cascade_core::{Matched, cascade};
+use css_tokens::Wide;
 use layer_order::Origin;
-use property_table::{Declared, Keyword, PropId, Value};
+use property_table::{Keyword, PropId, Value};
 use std::alloc::Global;
 use std::test::Fail;
 use style_value::Style;
 use stylo_base::{Fixed, NoMemory, Specificity};
+use value_parser::{Declared, Given};
 
 // a declaration of `display`
-fn display(keyword: Keyword) -> Declared {
+fn given(given: Given) -> Declared {
     Declared {
         property: PropId::Display,
-        value: Value::Keyword(keyword),
+        given,
         important: false,
     }
+}
+
+// a declaration of `display` with a keyword of its own
+fn display(keyword: Keyword) -> Declared {
+    given(Given::Exactly(Value::Keyword(keyword)))
 }
 
 // what a rule with the selector `*` in an author's sheet declares
@@ -28,6 +35,14 @@ fn by_rule(declared: &Declared, index: u64) -> Matched<'_> {
         sheet: 1,
         position: 0,
         index,
+    }
+}
+
+// what such a rule declares in the layer of this rank
+fn in_layer(declared: &Declared, layer: u32) -> Matched<'_> {
+    Matched {
+        layer,
+        ..by_rule(declared, 0)
     }
 }
 
@@ -67,5 +82,15 @@ fn the_attribute(rt: HostRuntime) -> Result<(), Fail> {
 fn the_root(rt: HostRuntime) -> Result<(), Fail> {
     let found = styled(rt.alloc(), &[], &[], true)?;
     assert_eq!(rt; found, Value::Keyword(Keyword::Block));
+    Ok(())
+}
+
+#[test]
+fn rolled_back(rt: HostRuntime) -> Result<(), Fail> {
+    let (none, flex) = (display(Keyword::None), display(Keyword::Flex));
+    let back = given(Given::Wide(Wide::RevertLayer));
+    let matched = [in_layer(&none, 0), in_layer(&flex, 1), in_layer(&back, 2)];
+    let found = styled(rt.alloc(), &matched, &[], false)?;
+    assert_eq!(rt; found, Value::Keyword(Keyword::Flex));
     Ok(())
 }

@@ -1,8 +1,10 @@
-//! Tests of the public calls from the table of properties up to the cascade, and of the printed lines.
+//! Tests of the public calls from the table of properties and the layers up to the cascade, and of the printed lines.
 #![tactic(auto)]
 
 #[cfg(test)]
 mod cascade;
+#[cfg(test)]
+mod layers;
 #[cfg(test)]
 mod lines;
 #[cfg(test)]

@@ -1,11 +1,11 @@
 //! What is read as a value, and how it is printed.
 
-use css_tokens::{preprocess, tokens};
+use css_tokens::{Wide, preprocess, tokens};
 use property_table::{Color, Keyword, PropId, Value};
 use std::alloc::Global;
 use std::test::Fail;
 use stylo_base::{NoMemory, Text};
-use value_parser::value;
+use value_parser::{Given, declared_value, value, wide_keyword};
 
 const HALF_LIME: Value = Value::Color(Color {
     red: 0,
@@ -51,6 +51,17 @@ fn name(rt: HostRuntime) -> Result<(), Fail> {
 fn no_value(rt: HostRuntime) -> Result<(), Fail> {
     let found = read(rt.alloc(), PropId::Clear, "block")?;
     assert_eq!(rt; found, None);
+    Ok(())
+}
+
+#[test]
+fn wide(rt: HostRuntime) -> Result<(), Fail> {
+    let text = preprocess(rt.alloc(), "Revert-LAYER")?;
+    let list = tokens(rt.alloc(), text.as_str())?;
+    let word = wide_keyword(list.as_slice());
+    let given = declared_value(PropId::Clear, list.as_slice());
+    let wanted = Wide::RevertLayer;
+    assert_eq!(rt; (word, given), (Some(wanted), Some(Given::Wide(wanted))));
     Ok(())
 }
 

@@ -1,2 +1,9 @@
+pub mod BlockLemmas
+pub mod BracketLemmas
 pub mod DeclarationLemmas
-pub mod ParserLemmas
+pub mod EnterLemmas
+pub mod FoundLemmas
+pub mod LayerLemmas
+pub mod ReadLemmas
+pub mod RunLemmas
+pub mod WalkLemmas

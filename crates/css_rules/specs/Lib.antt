@@ -1,2 +1,4 @@
+pub mod Layers
 pub mod Parser
 pub mod View
+pub mod Walk

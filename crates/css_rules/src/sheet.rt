@@ -1,45 +1,72 @@
 //! The rules of a sheet.
 
-ghost use Rattle.std.specs.Prelude.{◌≡◌, IfOk, filter_map, true};
+ghost use Rattle.std.specs.Prelude.{◌≡◌, IfOk};
 ghost use Rattle.std.specs.Str.{chars};
-ghost use Rattle.syntax_model.specs.RulesIn.{pieces_in, rule_in, rules_in, sheet_rules_in};
-ghost use Rattle.css_rules.specs.View.{rules_of};
+ghost use Rattle.syntax_model.specs.Brackets.{closed};
+ghost use Rattle.syntax_model.specs.SheetRules.{rules_in, sheet_rules_in};
+ghost use Rattle.css_rules.specs.View.{edition_of, no_edition, rules_of};
+ghost use Rattle.css_rules.specs.Walk.{finished, start, steps};
 
-use crate::Rule;
 use crate::closed::close;
 use crate::rule_parser::RuleParser;
+use crate::{Rule, SheetEdition};
 use css_tokens::{Token, preprocess, tokens};
 use std::alloc::Global;
 use stylo_base::NoMemory;
 
-/// The qualified rules of a sheet's text, in its order. A rule is kept where it has a block, and
-/// its prelude has brackets nested at most 64 deep.
+/// The rules of a text that is of no sheet: its anonymous layers are of a sheet with the number 0.
 pub fn sheet_rules(alloc: Global, text: &str) -> Result<Vec<Rule>, NoMemory>
-    ensures { IfOk result (λ rules. rules_of rules.items ≡ sheet_rules_in (chars text.now)) }
+    ensures { IfOk result (λ rules. rules_of rules.items ≡ sheet_rules_in no_edition (chars text.now)) }
+{
+    let edition = SheetEdition {
+        sheet: 0,
+        edition: 0,
+    };
+    edition_rules(alloc, edition, text)
+}
+
+/// The rules of a sheet's text and the layers that it declares, in its order. A qualified rule is kept where it has a
+/// block, and its prelude has brackets nested at most 64 deep; an `@layer` is dropped whole where one of its names is
+/// no name, or has more than 64 parts with those of the layers that it is in.
+pub fn edition_rules(
+    alloc: Global,
+    edition: SheetEdition,
+    text: &str,
+) -> Result<Vec<Rule>, NoMemory>
+    ensures { IfOk result (λ rules. rules_of rules.items
+        ≡ sheet_rules_in (edition_of edition) (chars text.now)) }
 {
     let text = preprocess(alloc, text)?;
     let list = tokens(alloc, text.as_str())?;
-    let rules = parse_rules(alloc, list)?;
+    let rules = parse_rules(alloc, edition, list)?;
     Ok(rules)
 }
 
 // The rules of the tokens.
-fn parse_rules(alloc: Global, mut list: Vec<Token>) -> Result<Vec<Rule>, NoMemory>
-    ensures { IfOk result (λ rules. rules_of rules.items ≡ rules_in list.items) }
+fn parse_rules(
+    alloc: Global,
+    edition: SheetEdition,
+    mut list: Vec<Token>,
+) -> Result<Vec<Rule>, NoMemory>
+    ensures { IfOk result (λ rules. rules_of rules.items ≡ rules_in (edition_of edition) list.items) }
 {
     close(alloc, &mut list)?;
-    let rules = parse_closed(alloc, list)?;
+    let rules = parse_closed(alloc, edition, list)?;
     Ok(rules)
 }
 
-// The rules of tokens that leave nothing open.
-fn parse_closed(alloc: Global, list: Vec<Token>) -> Result<Vec<Rule>, NoMemory>
+// What is found token by token.
+fn parse_closed(
+    alloc: Global,
+    edition: SheetEdition,
+    list: Vec<Token>,
+) -> Result<Vec<Rule>, NoMemory>
     ensures { IfOk result (λ rules.
-        rules_of rules.items ≡ filter_map rule_in (pieces_in true list.items)) }
+        rules_of rules.items ≡ finished (steps (start (edition_of edition)) list.items)) }
 {
-    let mut parser = RuleParser::new(alloc);
+    let mut parser = RuleParser::new(alloc, edition);
     for token in list {
         parser.take(alloc, token)?;
     }
-    Ok(parser.finish())
+    parser.finish(alloc)
 }

@@ -39,9 +39,6 @@ read_all g text len rest up none = omega (arith, up.value, ap (λ (r : Run). r.t
 pub said_more : (g : Grammar) (rest : Characters) → 0 < (unit_by g rest).taken → said_of (unit_by g) rest ≡ option_to_list (unit_by g rest).said ++ said_of (unit_by g) (drop (unit_by g rest).taken rest)
 said_more g rest some = ap (λ (r : Run). r.said) (run_of_more (unit_by g) (grammar_fits g) rest some)
 
-pub said_none : (g : Grammar) (rest : Characters) → (unit_by g rest).taken ≡ 0 → said_of (unit_by g) rest ≡ []
-said_none g rest none = ap (λ (r : Run). r.said) (run_of_none (unit_by g) rest none)
-
 pub said_on : (g : Grammar) (text rest after old new : Characters) (taken : ℕ) (said : Option ℕ) → old ++ said_of (unit_by g) rest ≡ said_of (unit_by g) text → record { taken = taken; said = said } ≡ unit_by g rest → 0 < taken → after ≡ drop taken rest → new ≡ old ++ option_to_list said → new ++ said_of (unit_by g) after ≡ said_of (unit_by g) text
 said_on g text rest after old new taken said up is some is_after is_new =
     let taken_is : taken ≡ (unit_by g rest).taken = ap (λ (u : Unit). u.taken) is in

@@ -13,6 +13,9 @@ use Rattle.syntax_model.specs.Kinds.{is_comma, is_semicolon}
 use Rattle.css_tokens.specs.declared.token.Span.{Span}
 use Rattle.css_tokens.specs.declared.separator.Separator.{Separator}
 use Rattle.css_tokens.specs.declared.separator.Separator.TheVariants as separator
+use Rattle.syntax_model.specs.Wide as model_wide
+use Rattle.css_tokens.specs.declared.wide.Wide.{Wide}
+use Rattle.css_tokens.specs.declared.wide.Wide.TheVariants as wide
 use Rattle.css_tokens.specs.declared.bracket.Bracket.{Bracket}
 use Rattle.css_tokens.specs.declared.bracket.Bracket.TheVariants.{Square, Round, Curly}
 
@@ -61,3 +64,11 @@ span_of span = record { start = span.start; end = span.end }
 -- the token of these parts
 abbrev pub token_seen : model.Kind → Characters → Characters → Option model.Span → model.Token
 token_seen kind name spelling span = record { kind = kind; name = name; spelling = spelling; span = span }
+
+-- the keyword that a `Wide` is
+abbrev pub wide_of : Wide → model_wide.Wide
+wide_of wide.Inherit = model_wide.inherit
+wide_of wide.Initial = model_wide.initial
+wide_of wide.Unset = model_wide.unset
+wide_of wide.Revert = model_wide.revert
+wide_of wide.RevertLayer = model_wide.revert_layer

@@ -5,7 +5,6 @@ ghost use Rattle.std.specs.Str.{chars};
 ghost use Rattle.std.specs.String.{string_bytes};
 
 use std::alloc::{AllocError, Global};
-use stylo_base::{NoMemory, Text};
 
 /// The characters of a text.
 pub fn characters_of(alloc: Global, text: &str) -> Result<Vec<char>, AllocError>
@@ -21,15 +20,4 @@ pub fn push_character(text: &mut String, c: char) -> Result<(), AllocError>
 {
     text.push(c)?;
     Ok(())
-}
-
-/// The text of these characters.
-pub fn text_of(alloc: Global, characters: &[char]) -> Result<Text, NoMemory>
-    ensures { IfOk result (λ text. text ≡ characters.now) }
-{
-    let mut text = String::with_capacity(alloc, characters.len())?;
-    for c in characters {
-        push_character(&mut text, *c)?;
-    }
-    Ok(Text::of_string(text))
 }

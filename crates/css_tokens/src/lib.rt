@@ -24,6 +24,7 @@ mod trim;
 mod unit;
 mod url;
 mod value;
+mod wide;
 
 pub use bracket::Bracket;
 pub use cursor::{Cursor, Part};
@@ -36,3 +37,4 @@ pub use token_list::TokenList;
 pub use tokenizer::tokens;
 pub use trim::{trimmed, without_white, without_white_end};
 pub use value::value_of;
+pub use wide::Wide;

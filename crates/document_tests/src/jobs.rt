@@ -59,6 +59,24 @@ fn sheet_text(rt: HostRuntime) -> Result<(), Fail> {
 }
 
 #[test]
+fn origins(rt: HostRuntime) -> Result<(), Fail> {
+    let job = job(
+        rt.alloc(),
+        r#"{"version":1,"nodes":[{"tag":"p"}],
+        "sheets":[{"origin":"user","text":"","enabled":false},{"origin":"ua","text":""}]}"#,
+    )?;
+    let mut origins = Vec::new(rt.alloc());
+    for sheet in job.sheets.as_slice() {
+        origins.push((sheet.origin, sheet.enabled))?;
+    }
+    assert_eq!(rt;
+        origins.as_slice(),
+        [(Origin::User, false), (Origin::UserAgent, true)].as_slice()
+    );
+    Ok(())
+}
+
+#[test]
 fn no_sheets(rt: HostRuntime) -> Result<(), Fail> {
     let job = job(rt.alloc(), r#"{"version":1,"nodes":[{"tag":"p"}]}"#)?;
     assert_eq!(rt; job.sheets.into_vec().len(), 0);

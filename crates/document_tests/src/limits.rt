@@ -85,6 +85,20 @@ fn sheet_text_in_bytes(rt: HostRuntime) -> Result<(), Fail> {
     Ok(())
 }
 
+/// The answer to a sheet of the user agent and `count` of the user.
+fn sheets_as(alloc: Global, count: u32) -> Result<Answer, AllocError> {
+    let rest = repeated(alloc, r#",{"origin":"user","text":""}"#, count)?;
+    let sheets = format!(in alloc; ",\"sheets\":[{{\"origin\":\"ua\",\"text\":\"\"}}{rest}]")?;
+    nodes_as(alloc, r#"{"tag":"p"}"#, sheets.as_str())
+}
+
+#[test]
+fn sheets(rt: HostRuntime) -> Result<(), Fail> {
+    let answers = (sheets_as(rt.alloc(), 255)?, sheets_as(rt.alloc(), 256)?);
+    assert_eq!(rt; answers, (Answer::Good, Answer::Over(Kind::Sheets, 256)));
+    Ok(())
+}
+
 /// The answer to a chain of `count` nodes, each below the one before it.
 fn chain_as(alloc: Global, count: u32) -> Result<Answer, AllocError> {
     let mut nodes = r#"{"tag":"p"}"#.to_string(alloc)?;

@@ -112,7 +112,7 @@ item_at k (x ∷ ds) list (suc i) m d e less is =
     let at = item_at (k + 1) ds s.rest i m d s.more (omega arith) (omega arith) in
     record { node = at.node; there = ap (λ l. slice_get l (suc i)) s.both ∙ at.there; said = at.said }
 
-count_is : (values : List Data) → count_items (items_of values) ≡ length values
+pub count_is : (values : List Data) → count_items (items_of values) ≡ length values
 count_is [] = refl
 count_is (d ∷ values) = let more = count_is values in omega arith
 

@@ -8,12 +8,14 @@ use Rattle.serde_json.specs.Data.{Data, null, boolean, number, string, array, ob
 use Rattle.base_model.specs.Ascii.{delete}
 use Rattle.scene_model.specs.Ancestors.{ancestors}
 use Rattle.scene_model.specs.Nodes.{scene_of, tree_order}
+use Rattle.layer_order.specs.declared.origin.Origin.TheVariants.{UserAgent, User}
+use Rattle.layer_order.specs.declared.sheet_input.SheetInput.{SheetInput}
 use Rattle.job_json.specs.Values.{is_name, states_from}
-use Rattle.job_json.specs.Sheets.{sheet_from}
-use Rattle.stylo_base.specs.declared.refusal.Kind.TheVariants.{Attributes, Depth}
+use Rattle.job_json.specs.Sheets.{sheet_from, sheets_from}
+use Rattle.stylo_base.specs.declared.refusal.Kind.TheVariants.{Attributes, Depth, Sheets}
 use Rattle.job_json.specs.Checked.{first_bad}
 use Rattle.job_json.specs.Shape.{job_in}
-use Rattle.job_json.specs.Limits.{nodes_past}
+use Rattle.job_json.specs.Limits.{nodes_past, texts_past, sheets_past}
 use Rattle.job_json.specs.Within.{job_within}
 
 -- JSON values as they are read: of members with the same key the last stays
@@ -195,6 +197,15 @@ origin value = (codes "origin", value)
 abbrev author : List ℕ × Data
 author = origin (text (codes "author"))
 
+abbrev ua : List ℕ × Data
+ua = origin (text (codes "ua"))
+
+abbrev user : List ℕ × Data
+user = origin (text (codes "user"))
+
+abbrev other : List ℕ × Data
+other = origin (text (codes "other"))
+
 abbrev enabled : Data → List ℕ × Data
 enabled value = (codes "enabled", value)
 
@@ -209,7 +220,10 @@ good_sheets =
     (author ∷ css empty ∷ [])
     ∷ (css rule ∷ enabled (boolean true) ∷ author ∷ [])
     ∷ (author ∷ css rule ∷ (codes "title", null) ∷ (codes "media", list (obj [] ∷ [])) ∷ [])
-    ∷ (origin (text (codes "ua")) ∷ enabled (boolean false) ∷ css (n 7) ∷ author ∷ enabled (boolean true) ∷ css rule ∷ [])
+    ∷ (ua ∷ css empty ∷ [])
+    ∷ (user ∷ css rule ∷ enabled (boolean false) ∷ [])
+    ∷ (author ∷ enabled (boolean true) ∷ enabled (boolean false) ∷ css empty ∷ [])
+    ∷ (other ∷ enabled null ∷ css (n 7) ∷ author ∷ enabled (boolean true) ∷ css rule ∷ [])
     ∷ []
 
 sheet_members : list_all is_sheet good_sheets ≡ true
@@ -222,9 +236,20 @@ no_sheets = refl
 abbrev one : Data
 one = obj (author ∷ css empty ∷ [])
 
+abbrev two_sheets : List Data
+two_sheets = obj (ua ∷ css rule ∷ []) ∷ obj (enabled (boolean false) ∷ user ∷ css empty ∷ []) ∷ []
+
+sheets_said : sheets_from (Some (list two_sheets)) ≡ Some (record { origin = UserAgent; enabled = true; text = codes "p{}" } ∷ record { origin = User; enabled = false; text = [] } ∷ [])
+unfolding chars
+sheets_said = refl
+
+two_lists : list_all are_sheets (list (obj (ua ∷ css empty ∷ []) ∷ obj (user ∷ enabled (boolean false) ∷ css empty ∷ []) ∷ []) ∷ list (one ∷ one ∷ one ∷ []) ∷ []) ≡ true
+unfolding scene_of tree_order ancestors chars
+two_lists = refl
+
 abbrev other_lists : List Data
 other_lists =
-    null ∷ obj [] ∷ one ∷ list (null ∷ []) ∷ list (list [] ∷ []) ∷ list (rule ∷ []) ∷ list (one ∷ one ∷ []) ∷ list (one ∷ n 7 ∷ []) ∷ list (n 7 ∷ []) ∷ []
+    null ∷ obj [] ∷ one ∷ list (null ∷ []) ∷ list (list [] ∷ []) ∷ list (rule ∷ []) ∷ list (one ∷ n 7 ∷ []) ∷ list (n 7 ∷ []) ∷ []
 
 no_lists : list_any are_sheets other_lists ≡ false
 unfolding scene_of tree_order ancestors
@@ -234,18 +259,18 @@ abbrev other_sheets : List (List (List ℕ × Data))
 other_sheets =
     []
     ∷ (css empty ∷ [])
-    ∷ (origin (text (codes "ua")) ∷ css empty ∷ [])
-    ∷ (origin (text (codes "user")) ∷ css empty ∷ [])
+    ∷ (other ∷ css empty ∷ [])
     ∷ (origin (text (codes "Author")) ∷ css empty ∷ [])
+    ∷ (origin (text (codes "UA")) ∷ css empty ∷ [])
+    ∷ (origin (text (codes "user ")) ∷ css empty ∷ [])
     ∷ (origin empty ∷ css empty ∷ [])
     ∷ (origin null ∷ css empty ∷ [])
     ∷ (origin (n 2) ∷ css empty ∷ [])
-    ∷ (author ∷ origin (text (codes "user")) ∷ css empty ∷ [])
-    ∷ (author ∷ enabled (boolean false) ∷ css empty ∷ [])
+    ∷ (author ∷ other ∷ css empty ∷ [])
     ∷ (author ∷ enabled null ∷ css empty ∷ [])
     ∷ (author ∷ enabled (n 1) ∷ css empty ∷ [])
     ∷ (author ∷ enabled (text (codes "true")) ∷ css empty ∷ [])
-    ∷ (author ∷ enabled (boolean true) ∷ enabled (boolean false) ∷ css empty ∷ [])
+    ∷ (author ∷ enabled (boolean true) ∷ enabled null ∷ css empty ∷ [])
     ∷ (author ∷ [])
     ∷ (author ∷ css (n 7) ∷ [])
     ∷ (author ∷ css null ∷ [])
@@ -327,17 +352,21 @@ text_before_next : sheets_bad_at (obj (author ∷ []) ∷ n 3 ∷ []) ≡ at (co
 unfolding chars digits
 text_before_next = refl
 
-disabled : sheets_bad_at (obj (author ∷ css empty ∷ enabled (boolean false) ∷ []) ∷ []) ≡ at (codes "/sheets/0/enabled")
+other_origin : sheets_bad_at (obj (other ∷ enabled null ∷ css (n 7) ∷ []) ∷ []) ≡ at (codes "/sheets/0/origin")
 unfolding chars digits
-disabled = refl
+other_origin = refl
 
-user_sheet : sheets_bad_at (obj (origin (text (codes "user")) ∷ css (n 7) ∷ []) ∷ []) ≡ at (codes "/sheets/0/origin")
+enabled_next : sheets_bad_at (obj (ua ∷ enabled null ∷ css (n 7) ∷ []) ∷ []) ≡ at (codes "/sheets/0/enabled")
 unfolding chars digits
-user_sheet = refl
+enabled_next = refl
 
-second_sheet : sheets_bad_at (one ∷ one ∷ []) ≡ at (codes "/sheets/1")
+second_sheet : sheets_bad_at (obj (ua ∷ css rule ∷ enabled (boolean false) ∷ []) ∷ obj (user ∷ css (n 7) ∷ []) ∷ n 3 ∷ []) ≡ at (codes "/sheets/1/text")
 unfolding chars digits
 second_sheet = refl
+
+no_bad_sheet : sheets_bad_at two_sheets ≡ None
+unfolding chars
+no_bad_sheet = refl
 
 -- so many attributes
 abbrev many : ℕ → Members
@@ -359,3 +388,10 @@ earlier_node = refl
 
 none_past : nodes_past (item (with_many 64) no_items) (256 ∷ []) ≡ None
 none_past = refl
+
+-- one sheet more than there may be is past that limit, however long the texts are
+sheets_first : (sheet : SheetInput) → sheets_past (replicate 257 sheet) ≡ Some (Sheets, 256)
+sheets_first sheet = refl
+
+texts_last : (sheet : SheetInput) → sheets_past (replicate 256 sheet) ≡ texts_past (replicate 256 sheet)
+texts_last sheet = refl

@@ -105,6 +105,5 @@ job_fits d job e =
 pub job_few : (d : Data) (job : Job) → job_within d ≡ Some job → length job.sheets ≤ sheet_limit
 job_few d job e =
     let within = both (are_nodes_within (node_items d) job.nodes) (are_sheets_within job.sheets) (checked (λ (j : Job). are_nodes_within (node_items d) j.nodes && are_sheets_within j.sheets) (job_from d) job e) in
-    let few = (both (nat_le (length job.sheets) 1) _ within.1).0 in
-    let one : length job.sheets ≤ 1 = grind (arith, nat_tests) in
-    omega arith
+    let few = (both (nat_le (length job.sheets) sheet_limit) _ within.1).0 in
+    grind (arith, nat_tests)

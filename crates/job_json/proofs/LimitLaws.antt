@@ -8,8 +8,8 @@ use Rattle.serde_json.specs.Find.{get, as_object, as_str}
 use Rattle.base_model.specs.Limits.{depth_limit, attribute_limit}
 use Rattle.stylo_base.specs.declared.refusal.Kind.{Kind}
 use Rattle.layer_order.specs.declared.sheet_input.SheetInput.{SheetInput}
-use Rattle.job_json.specs.Fits.{count_of, is_short, are_short, has_room, are_attrs_within, are_items_within, is_text_within}
-use Rattle.job_json.specs.Limits.{Passed, past, value_past, values_past, attrs_past, node_past, nodes_past, text_past, texts_past}
+use Rattle.job_json.specs.Fits.{count_of, is_short, are_short, has_room, are_attrs_within, are_items_within, is_text_within, are_sheets_within}
+use Rattle.job_json.specs.Limits.{Passed, past, value_past, values_past, attrs_past, node_past, nodes_past, text_past, texts_past, count_past, sheets_past}
 
 abbrev pub is_none : {A : Type 0} → Option A → Bool
 is_none None = true
@@ -66,3 +66,6 @@ nodes_none (item value rest) (depth ∷ depths) e =
 pub texts_none : (sheets : List SheetInput) → is_none (texts_past sheets) ≡ list_all is_text_within sheets
 texts_none [] = refl
 texts_none (sheet ∷ sheets) = or_none (text_past sheet) (texts_past sheets) ∙ ap₂ (λ a b. a && b) (past_none _ _ _) (texts_none sheets)
+
+pub sheets_none : (sheets : List SheetInput) → is_none (sheets_past sheets) ≡ are_sheets_within sheets
+sheets_none sheets = or_none (count_past sheets) (texts_past sheets) ∙ ap₂ (λ a b. a && b) (past_none _ _ _) (texts_none sheets)

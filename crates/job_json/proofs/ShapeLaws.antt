@@ -1,7 +1,6 @@
 -- The value of each part whose shape is right is what is kept of it.
-use Rattle.std.proofs.Common.{◌≡◌, ℕ, ◌+◌, ◌≤◌, nat_le, ◌&&◌, List, [], ◌∷◌, length, Bool, true, false, cond, if◌then◌else◌, Option, Some, None, option_and_then, refl, ap, ap₂, ◌∙◌, arith}
+use Rattle.std.proofs.Common.{◌≡◌, ℕ, ◌+◌, ◌&&◌, List, ◌∷◌, Bool, true, false, cond, if◌then◌else◌, Option, Some, None, option_and_then, refl, ap, ap₂, ◌∙◌}
 use Rattle.std.specs.Prelude.{codes, decimal}
-use Rattle.std.proofs.lemmas.Bool.Decides.{nat_tests}
 use Rattle.std.specs.Str.{chars}
 use Rattle.std.specs.FinMap as map
 use Rattle.serde_json.specs.Data.{Data, null, boolean, number, string, array, object, Items, no_items, item, Members, no_members, member}
@@ -164,61 +163,27 @@ kept-sheet (string s) = refl
 kept-sheet (array js) = refl
 kept-sheet (object ms) = sheet_alike (origin_from (get_member (codes "origin") ms)) (enabled_from (get_member (codes "enabled") ms)) (option_and_then as_str (get_member (codes "text") ms)) _ _ _
 
--- at most as many as there may be
-abbrev pub few : List SheetInput → Option (List SheetInput)
-few sheets = if nat_le (length sheets) shape.profile_sheets then Some sheets else None
+sheet_first : (c : Checked SheetInput) (cs : Checked (List SheetInput)) (o : Option SheetInput) (os : Option (List SheetInput)) → kept c ≡ o → kept cs ≡ os
+    → kept (c >>= (λ a. cs >>= (λ xs. got (a ∷ xs)))) ≡ option_and_then (λ a. option_and_then (λ xs. Some (a ∷ xs)) os) o
+sheet_first c cs o os e f = kept-both (λ a xs. a ∷ xs) c cs ∙ ap₂ (λ o os. option_and_then (λ a. option_and_then (λ xs. Some (a ∷ xs)) os) o) e f
 
-one_sheet : (c : Checked SheetInput) → kept (c >>= (λ a. got (a ∷ []))) ≡ option_and_then few (option_and_then (λ a. Some (a ∷ [])) (kept c))
-one_sheet (got a) = refl
-one_sheet (bad path) = refl
+kept-sheets : (k : ℕ) (items : Items) → kept (shape.sheets_after k items) ≡ sheets_old items
+kept-sheets k no_items = refl
+kept-sheets k (item value rest) =
+    sheet_first _ (shape.sheets_after (k + 1) rest) (sheet_from value) (sheets_old rest) (kept-step_to _ (shape.sheet_in value) ∙ kept-sheet value) (kept-sheets (k + 1) rest)
 
-no_few : (l : List SheetInput) → 2 ≤ length l → None ≡ few l
-no_few l many =
-    let past : nat_le (length l) 1 ≡ false = grind (arith, nat_tests) in
-    rw past refl
-
-too_many : (o p : Option SheetInput) (os : Option (List SheetInput)) → None ≡ option_and_then few (option_and_then (λ a. option_and_then (λ xs. Some (a ∷ xs)) (option_and_then (λ b. option_and_then (λ bs. Some (b ∷ bs)) os) p)) o)
-too_many None p os = refl
-too_many (Some a) None os = refl
-too_many (Some a) (Some b) None = refl
-too_many (Some a) (Some b) (Some cs) = no_few (a ∷ b ∷ cs) (omega arith)
-
-never : (c : Checked SheetInput) (path : Characters) → kept {A = List SheetInput} (c >>= (λ a. bad path)) ≡ None
-never (got a) path = refl
-never (bad p) path = refl
-
-kept-sheets : (items : Items) → kept (shape.sheets_after 0 items) ≡ option_and_then few (sheets_old items)
-kept-sheets no_items = refl
-kept-sheets (item value no_items) =
-    one_sheet (step_to (decimal 0) (shape.sheet_in value)) ∙ ap (λ o. option_and_then few (option_and_then (λ a. Some (a ∷ [])) o)) (kept-step_to (decimal 0) (shape.sheet_in value) ∙ kept-sheet value)
-kept-sheets (item value (item other rest)) =
-    never (step_to (decimal 0) (shape.sheet_in value)) _ ∙ too_many (sheet_from value) (sheet_from other) (sheets_old rest)
-
-sheets_of_items : (o : Option Items) → kept (wanted o >>= shape.sheets_after 0) ≡ option_and_then few (option_and_then sheets_old o)
+sheets_of_items : (o : Option Items) → kept (wanted o >>= shape.sheets_after 0) ≡ option_and_then sheets_old o
 sheets_of_items None = refl
-sheets_of_items (Some items) = kept-sheets items
+sheets_of_items (Some items) = kept-sheets 0 items
 
-pub kept-sheet_list : (o : Option Data) → kept (shape.sheets_in o) ≡ option_and_then few (sheets_from o)
+pub kept-sheet_list : (o : Option Data) → kept (shape.sheets_in o) ≡ sheets_from o
 kept-sheet_list None = refl
 kept-sheet_list (Some value) = sheets_of_items (as_array value)
 
 -- ---- the job
 
-abbrev pub few_of : Job → Option Job
-few_of job = if nat_le (length job.sheets) shape.profile_sheets then Some job else None
-
 abbrev job_of : Bool → Option (List Node) → Option (List SheetInput) → Option Job
 job_of good nodes sheets = if good then option_and_then (λ n. option_and_then (λ s. Some (record { nodes = n; sheets = s })) sheets) nodes else None
-
-few_alike : (b : Bool) (n : List Node) (s : List SheetInput) → option_and_then (λ s. Some (record { nodes = n; sheets = s })) (cond b (Some s) None) ≡ cond {A = Option Job} b (Some (record { nodes = n; sheets = s })) None
-few_alike true n s = refl
-few_alike false n s = refl
-
-few_out : (good : Bool) (nodes : Option (List Node)) (sheets : Option (List SheetInput)) → job_of good nodes (option_and_then few sheets) ≡ option_and_then few_of (job_of good nodes sheets)
-few_out false nodes sheets = refl
-few_out true None sheets = refl
-few_out true (Some n) None = refl
-few_out true (Some n) (Some s) = few_alike (nat_le (length s) shape.profile_sheets) n s
 
 job_last : (batches : Bool) (job : Job) (d : Characters) → kept (step_to d (right batches) >>= (λ x. got job)) ≡ cond batches (Some job) None
 job_last true job d = refl
@@ -245,7 +210,7 @@ joined false items sheets = refl
 joined true None sheets = refl
 joined true (Some js) sheets = refl
 
-pub kept-job : (d : Data) → kept (shape.job_in d) ≡ option_and_then few_of (old.job_from d)
+pub kept-job : (d : Data) → kept (shape.job_in d) ≡ old.job_from d
 kept-job null = refl
 kept-job (boolean b) = refl
 kept-job (number n) = refl
@@ -257,5 +222,4 @@ kept-job (object ms) =
     let items = option_and_then as_array (get_member (codes "nodes") ms) in
     let sheets = get_member (codes "sheets") ms in
     job_alike version batches (shape.nodes_in (get_member (codes "nodes") ms)) (shape.sheets_in sheets) _ _ _ _
-    ∙ (ap₂ (job_of (version && batches)) (nodes_of_items items) (kept-sheet_list sheets)
-    ∙ (few_out (version && batches) (option_and_then old.nodes_of items) (sheets_from sheets) ∙ ap (option_and_then few_of) (joined (version && batches) items (sheets_from sheets))))
+    ∙ (ap₂ (job_of (version && batches)) (nodes_of_items items) (kept-sheet_list sheets) ∙ joined (version && batches) items (sheets_from sheets))

@@ -1,12 +1,14 @@
 -- The sheets that the items say.
 use Rattle.std.proofs.Common.{◌≡◌, ◌+◌, ◌<◌, ◌≤◌, nat_le, ◌&&◌, List, [], ◌∷◌, ◌++◌, length, Bool, true, false, cond, Option, Some, None, option_and_then, refl, sym, ap, ap₂, ◌∙◌, append_assoc, append-nil, length-append, ◌⊎◌, inl, inr, true≢false, arith}
 use Rattle.std.proofs.lemmas.List.Folds.{list_all-append}
+use Rattle.std.proofs.lemmas.List.{length_push}
 use Rattle.std.proofs.lemmas.Bool.Decides.{nat_tests}
 use Rattle.std.proofs.lemmas.Option.{same_Some}
 use Rattle.std.specs.List.{list_all}
 use Rattle.serde_json.specs.Data.{Data, array}
 use Rattle.serde_json.specs.Find.{as_array}
 use Rattle.serde_json.specs.View.{items_of}
+use Rattle.base_model.specs.Limits.{sheet_limit}
 use Rattle.layer_order.specs.declared.sheet_input.SheetInput.{SheetInput}
 use Rattle.job_json.specs.Sheets.{sheet_from, sheets_in}
 use Rattle.job_json.specs.Fits.{is_text_within, are_sheets_within}
@@ -55,26 +57,34 @@ split_all : (a : List SheetInput) (s : SheetInput) (b : Option (List SheetInput)
 split_all a s None l e = absurd (cc)
 split_all a s (Some r) l e = (r, same_Some l (a ++ s ∷ r) (sym e))
 
-too_many : (a : List SheetInput) (first : Option SheetInput) (b : Option (List SheetInput)) (l : List SheetInput) → 1 ≤ length a → join (Some a) (cons_all first b) ≡ Some l → are_sheets_within l ≡ false
+too_many : (a : List SheetInput) (first : Option SheetInput) (b : Option (List SheetInput)) (l : List SheetInput) → sheet_limit ≤ length a → join (Some a) (cons_all first b) ≡ Some l → are_sheets_within l ≡ false
 too_many a None b l some e = absurd (cc)
 too_many a (Some s) b l some e =
     let (r, is) = split_all a s b l e in
     let long : length l ≡ length a + (length r + 1) = ap length is ∙ (length-append a (s ∷ r) ∙ omega arith) in
-    let past : nat_le (length l) 1 ≡ false = grind (arith, nat_tests) in
-    and_first (nat_le (length l) 1) (list_all is_text_within l) past
+    let past : nat_le (length l) sheet_limit ≡ false = grind (arith, nat_tests) in
+    and_first (nat_le (length l) sheet_limit) (list_all is_text_within l) past
 
 too_long : (a : List SheetInput) (s : SheetInput) (b : Option (List SheetInput)) (l : List SheetInput) → is_text_within s ≡ false → join (Some a) (cons_all (Some s) b) ≡ Some l → are_sheets_within l ≡ false
 too_long a s b l long e =
     let (r, is) = split_all a s b l e in
-    and_last (nat_le (length l) 1) (list_all is_text_within l) (ap (list_all is_text_within) is ∙ not_all is_text_within a s r long)
+    and_last (nat_le (length l) sheet_limit) (list_all is_text_within l) (ap (list_all is_text_within) is ∙ not_all is_text_within a s r long)
 
 join_no_first : (a b : Option (List SheetInput)) → join a (cons_all None b) ≡ None
 join_no_first None b = refl
 join_no_first (Some l) b = refl
 
-first_of_one : (a : List SheetInput) (s : SheetInput) → length a < 1 → is_text_within s ≡ true → are_sheets_within (a ++ s ∷ []) ≡ true
-first_of_one [] s few fits = rw fits refl
-first_of_one (x ∷ a) s few fits = absurd (omega arith)
+both_true : (a b : Bool) → (a && b) ≡ true → b ≡ true
+both_true true b e = e
+both_true false b e = absurd (cc)
+
+-- one more sheet within its limit, where there is room
+one_more : (a : List SheetInput) (s : SheetInput) → length a < sheet_limit → are_sheets_within a ≡ true → is_text_within s ≡ true → are_sheets_within (a ++ s ∷ []) ≡ true
+one_more a s few within fits =
+    let count : length (a ++ s ∷ []) ≡ length a + 1 = length_push a s in
+    let room : nat_le (length (a ++ s ∷ [])) sheet_limit ≡ true = grind (arith, nat_tests) in
+    let texts : list_all is_text_within a ≡ true = both_true (nat_le (length a) sheet_limit) _ within in
+    rw (room, list_all-append is_text_within a (s ∷ []), texts, fits) refl
 
 -- ---- a sheet after others
 
@@ -85,13 +95,13 @@ module _ (old new : Sheets) (ds : List Data) (d : Data) (kept : AreSheetsOf old 
   past_more : old.is_good ≡ false → (more : List Data) → sheets_within (Some (array (items_of ((ds ++ d ∷ []) ++ more)))) ≡ None
   past_more bad more = ap (λ es. sheets_within (Some (array (items_of es)))) (append_assoc ds (d ∷ []) more) ∙ kept.bad bad (d ∷ more)
 
-  many_more : (b : Bool) → old.is_good ≡ b → 1 ≤ length old.list.items → (more : List Data) → sheets_within (Some (array (items_of ((ds ++ d ∷ []) ++ more)))) ≡ None
+  many_more : (b : Bool) → old.is_good ≡ b → sheet_limit ≤ length old.list.items → (more : List Data) → sheets_within (Some (array (items_of ((ds ++ d ∷ []) ++ more)))) ≡ None
   many_more false is some more = past_more is more
   many_more true is some more =
       none_kept are_sheets_within (sheets_in (items_of ((ds ++ d ∷ []) ++ more))) (λ l e.
       too_many old.list.items (sheet_from d) (sheets_in (items_of more)) l some (ap (λ o. join o (cons_all (sheet_from d) (sheets_in (items_of more)))) (sym (kept.good is).0) ∙ (sym (split more) ∙ e)))
 
-  pub sheets_full : new.is_good ≡ false → old.is_good ≡ false ⊎ 1 ≤ length old.list.items → AreSheetsOf new (ds ++ d ∷ [])
+  pub sheets_full : new.is_good ≡ false → old.is_good ≡ false ⊎ sheet_limit ≤ length old.list.items → AreSheetsOf new (ds ++ d ∷ [])
   sheets_full is (inl bad) = record { good = λ e. absurd (true≢false (sym e ∙ is)); bad = λ e. past_more bad }
   sheets_full is (inr some) = record { good = λ e. absurd (true≢false (sym e ∙ is)); bad = λ e. many_more old.is_good refl some }
 
@@ -101,11 +111,11 @@ module _ (old new : Sheets) (ds : List Data) (d : Data) (kept : AreSheetsOf old 
     bad = λ e more. ap (option_and_then (λ l. cond (are_sheets_within l) (Some l) None)) (split more ∙ (ap (λ o. join (sheets_in (items_of ds)) (cons_all o (sheets_in (items_of more)))) none ∙ join_no_first (sheets_in (items_of ds)) (sheets_in (items_of more))));
   }
 
-  sheet_at : (b : Bool) (s : SheetInput) → new.is_good ≡ b → is_text_within s ≡ b → old.is_good ≡ true → length old.list.items < 1 → sheet_from d ≡ Some s → new.list.items ≡ old.list.items ++ s ∷ [] → AreSheetsOf new (ds ++ d ∷ [])
+  sheet_at : (b : Bool) (s : SheetInput) → new.is_good ≡ b → is_text_within s ≡ b → old.is_good ≡ true → length old.list.items < sheet_limit → sheet_from d ≡ Some s → new.list.items ≡ old.list.items ++ s ∷ [] → AreSheetsOf new (ds ++ d ∷ [])
   sheet_at true s is fits good few said list = record {
     good = λ e. (
       sheets_in-append ds (d ∷ []) ∙ (ap₂ (λ o f. join o (cons_all f (Some []))) (kept.good good).0 said ∙ ap (λ l. Some l) (sym list)),
-      ap are_sheets_within list ∙ first_of_one old.list.items s few fits,
+      ap are_sheets_within list ∙ one_more old.list.items s few (kept.good good).1 fits,
     );
     bad = λ e. absurd (true≢false (sym is ∙ e));
   }
@@ -116,7 +126,7 @@ module _ (old new : Sheets) (ds : List Data) (d : Data) (kept : AreSheetsOf old 
         too_long old.list.items s (sheets_in (items_of more)) l long (ap₂ (λ o g. join o (cons_all g (sheets_in (items_of more)))) (sym (kept.good good).0) (sym said) ∙ (sym (split more) ∙ f)));
   }
 
-  pub one_sheet : (s : SheetInput) → new.is_good ≡ is_text_within s → old.is_good ≡ true → length old.list.items < 1 → sheet_from d ≡ Some s → new.list.items ≡ old.list.items ++ s ∷ [] → AreSheetsOf new (ds ++ d ∷ [])
+  pub one_sheet : (s : SheetInput) → new.is_good ≡ is_text_within s → old.is_good ≡ true → length old.list.items < sheet_limit → sheet_from d ≡ Some s → new.list.items ≡ old.list.items ++ s ∷ [] → AreSheetsOf new (ds ++ d ∷ [])
   one_sheet s is good few said list = sheet_at (is_text_within s) s is refl good few said list
 
 -- ---- the whole list

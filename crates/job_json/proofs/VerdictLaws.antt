@@ -1,15 +1,13 @@
 -- The verdict is a job exactly where the value is a job within its limits, and that job.
-use Rattle.std.proofs.Common.{◌≡◌, ℕ, ◌≤◌, ◌+◌, nat_le, ◌&&◌, List, [], ◌∷◌, length, Bool, true, false, cond, Option, Some, None, option_and_then, refl, sym, ap, ap₂, ◌∙◌, arith}
+use Rattle.std.proofs.Common.{◌≡◌, ℕ, ◌+◌, nat_le, ◌&&◌, List, [], ◌∷◌, length, Bool, true, false, cond, Option, Some, None, option_and_then, refl, sym, ap, ap₂, ◌∙◌, arith}
 use Rattle.std.specs.Prelude.{codes, map, encode_utf8_all}
-use Rattle.std.specs.List.{list_all}
 use Rattle.std.specs.Option.{option_or, unwrap_or}
-use Rattle.std.proofs.lemmas.Bool.Decides.{nat_tests}
 use Rattle.std.proofs.lemmas.Option.{same_Some}
 use Rattle.std.proofs.lemmas.List.FromFn.{length-map-range_with_len}
 use Rattle.serde_json.specs.Data.{Data, Items, no_items, item}
 use Rattle.serde_json.specs.Find.{get, as_array}
-use Rattle.base_model.specs.Limits.{element_limit, sheet_limit, text_limit}
-use Rattle.stylo_base.specs.declared.refusal.Kind.TheVariants.{Sheets, Text}
+use Rattle.base_model.specs.Limits.{element_limit, text_limit}
+use Rattle.stylo_base.specs.declared.refusal.Kind.TheVariants.{Text}
 use Rattle.scene_model.specs.Element.{Characters}
 use Rattle.scene_model.specs.Ancestors.{depth_of}
 use Rattle.scene_model.specs.Nodes.{Node, scene_of}
@@ -20,18 +18,17 @@ use Rattle.job_json.specs.declared.Job.{Job}
 use Rattle.job_json.specs.Checked.{Checked, got, bad, first_bad}
 use Rattle.job_json.specs.Sheets.{sheets_from}
 use Rattle.job_json.specs.Values.{is_version, is_empty_list, node_at, nodes_from, nodes_of, job_from}
-use Rattle.job_json.specs.Shape.{job_in, profile_sheets}
-use Rattle.job_json.specs.Fits.{node_items, are_nodes_within, are_sheets_within, is_text_within, items_or_none}
-use Rattle.job_json.specs.Limits.{Passed, past, nodes_past, texts_past, sheets_past, first_passed, nodes_passed}
+use Rattle.job_json.specs.Shape.{job_in}
+use Rattle.job_json.specs.Fits.{node_items, are_nodes_within, are_sheets_within, items_or_none}
+use Rattle.job_json.specs.Limits.{Passed, past, nodes_past, texts_past, count_past, sheets_past, first_passed, nodes_passed}
 use Rattle.job_json.specs.JobOf.{Verdict, not_json, bad_shape, over, good, verdict_within, verdict_by, verdict_on, job_if_good}
 use Rattle.job_json.specs.Within.{job_within}
-use Rattle.job_json.proofs.JobSteps.{checked}
-use Rattle.job_json.proofs.ShapeLaws.{kept, few_of, kept-job}
-use Rattle.job_json.proofs.LimitLaws.{is_none, count_items, or_none, past_none, nodes_none, texts_none}
+use Rattle.job_json.proofs.ShapeLaws.{kept, kept-job}
+use Rattle.job_json.proofs.LimitLaws.{is_none, count_items, or_none, past_none, nodes_none, sheets_none}
 
 -- ---- the nodes of a job
 
-first_of : (node : Option Node) (nodes : Option (List Node)) (all : List Node) (k : ℕ) → ((rest : List Node) → nodes ≡ Some rest → k ≡ length rest) → option_and_then (λ n. option_and_then (λ ns. Some (n ∷ ns)) nodes) node ≡ Some all → 1 + k ≡ length all
+pub first_of : {A : Type 0} (node : Option A) (nodes : Option (List A)) (all : List A) (k : ℕ) → ((rest : List A) → nodes ≡ Some rest → k ≡ length rest) → option_and_then (λ n. option_and_then (λ ns. Some (n ∷ ns)) nodes) node ≡ Some all → 1 + k ≡ length all
 first_of None nodes all k count e = absurd (cc)
 first_of (Some n) None all k count e = absurd (cc)
 first_of (Some n) (Some ns) all k count e =
@@ -64,54 +61,45 @@ parts_nodes true (Some js) sheets job e = nodes_part (nodes_of js) sheets job e
 pub job_nodes : (d : Data) (job : Job) → job_from d ≡ Some job → nodes_of (node_items d) ≡ Some job.nodes
 job_nodes d job e = parts_nodes (is_version d && is_empty_list (get (codes "batches") d)) (option_and_then as_array (get (codes "nodes") d)) (sheets_from (get (codes "sheets") d)) job e
 
+sheets_part : (nodes : Option (List Node)) (sheets : Option (List SheetInput)) (job : Job) → option_and_then (λ n. option_and_then (λ s. Some (record { nodes = n; sheets = s })) sheets) nodes ≡ Some job → sheets ≡ Some job.sheets
+sheets_part None sheets job e = absurd (cc)
+sheets_part (Some n) None job e = absurd (cc)
+sheets_part (Some n) (Some s) job e = ap (λ (j : Job). Some j.sheets) (same_Some (record { nodes = n; sheets = s }) job e)
+
+parts_sheets : (good : Bool) (items : Option Items) (sheets : Option (List SheetInput)) (job : Job)
+    → cond good (option_and_then (λ js. option_and_then (λ n. option_and_then (λ s. Some (record { nodes = n; sheets = s })) sheets) (nodes_of js)) items) None ≡ Some job → sheets ≡ Some job.sheets
+parts_sheets false items sheets job e = absurd (cc)
+parts_sheets true None sheets job e = absurd (cc)
+parts_sheets true (Some js) sheets job e = sheets_part (nodes_of js) sheets job e
+
+pub job_sheets : (d : Data) (job : Job) → job_from d ≡ Some job → sheets_from (get (codes "sheets") d) ≡ Some job.sheets
+job_sheets d job e = parts_sheets (is_version d && is_empty_list (get (codes "batches") d)) (option_and_then as_array (get (codes "nodes") d)) (sheets_from (get (codes "sheets") d)) job e
+
 -- ---- what passes no limit
-
-few_enough : (sheets : List SheetInput) → length sheets ≤ 1 → nat_le (length sheets) sheet_limit ≡ true
-few_enough sheets few = grind (arith, nat_tests)
-
-few_sheets : (sheets : List SheetInput) → length sheets ≤ 1 → is_none (sheets_past sheets) ≡ list_all is_text_within sheets
-few_sheets sheets few =
-    or_none (past _ sheet_limit (length sheets)) (texts_past sheets) ∙ (ap₂ (λ a b. a && b) (past_none _ _ _ ∙ few_enough sheets few) (texts_none sheets))
 
 nodes_within_is : (d : Data) (job : Job) → nodes_of (node_items d) ≡ Some job.nodes → is_none (nodes_passed (node_items d) job.nodes) ≡ are_nodes_within (node_items d) job.nodes
 nodes_within_is d job nodes =
     or_none (past _ element_limit (length job.nodes)) (nodes_past (node_items d) (depths_of job.nodes))
     ∙ ap₂ (λ a b. a && b) (past_none _ _ _) (nodes_none (node_items d) (depths_of job.nodes) (some_count (node_items d) job.nodes nodes ∙ sym (depth_count job.nodes)))
 
-pub none_passed : (d : Data) (job : Job) → nodes_of (node_items d) ≡ Some job.nodes → length job.sheets ≤ 1 → is_none (first_passed d job) ≡ (are_nodes_within (node_items d) job.nodes && list_all is_text_within job.sheets)
-none_passed d job nodes few =
-    or_none (nodes_passed (node_items d) job.nodes) (sheets_past job.sheets) ∙ ap₂ (λ a b. a && b) (nodes_within_is d job nodes) (few_sheets job.sheets few)
+pub none_passed : (d : Data) (job : Job) → nodes_of (node_items d) ≡ Some job.nodes → is_none (first_passed d job) ≡ (are_nodes_within (node_items d) job.nodes && are_sheets_within job.sheets)
+none_passed d job nodes =
+    or_none (nodes_passed (node_items d) job.nodes) (sheets_past job.sheets) ∙ ap₂ (λ a b. a && b) (nodes_within_is d job nodes) (sheets_none job.sheets)
 
 -- ---- the verdict
 
 abbrev fits : Data → Job → Option Job
-fits d job = cond (are_nodes_within (node_items d) job.nodes && list_all is_text_within job.sheets) (Some job) None
-
-split_one : (f : Job → Option Job) (job : Job) (nodes few texts : Bool) → f job ≡ cond (nodes && texts) (Some job) None → cond (nodes && (few && texts)) (Some job) None ≡ option_and_then f (cond few (Some job) None)
-split_one f job nodes true texts e = sym e
-split_one f job true false texts e = refl
-split_one f job false false texts e = refl
-
-split : (d : Data) (o : Option Job) → option_and_then (λ (job : Job). cond (are_nodes_within (node_items d) job.nodes && are_sheets_within job.sheets) (Some job) None) o ≡ option_and_then (fits d) (option_and_then few_of o)
-split d None = refl
-split d (Some job) = split_one (fits d) job (are_nodes_within (node_items d) job.nodes) (nat_le (length job.sheets) profile_sheets) (list_all is_text_within job.sheets) refl
+fits d job = cond (are_nodes_within (node_items d) job.nodes && are_sheets_within job.sheets) (Some job) None
 
 within_is : (d : Data) → job_within d ≡ option_and_then (fits d) (kept (job_in d))
-within_is d = split d (job_from d) ∙ ap (option_and_then (fits d)) (sym (kept-job d))
+within_is d = ap (option_and_then (fits d)) (sym (kept-job d))
 
-few_one : (b : Bool) (j job : Job) → cond b (Some j) None ≡ Some job → Some j ≡ Some job
-few_one true j job e = e
-few_one false j job e = absurd (cc)
+pub job_shape : (d : Data) (job : Job) → job_in d ≡ got job → nodes_of (node_items d) ≡ Some job.nodes
+job_shape d job e = job_nodes d job (sym (kept-job d) ∙ ap kept e)
 
-few_same : (o : Option Job) (job : Job) → option_and_then few_of o ≡ Some job → o ≡ Some job
-few_same None job e = absurd (cc)
-few_same (Some j) job e = few_one (nat_le (length j.sheets) profile_sheets) j job e
-
-pub job_shape : (d : Data) (job : Job) → job_in d ≡ got job → (nodes_of (node_items d) ≡ Some job.nodes) × (length job.sheets ≤ 1)
-job_shape d job e =
-    let same : option_and_then few_of (job_from d) ≡ Some job = sym (kept-job d) ∙ ap kept e in
-    let few : nat_le (length job.sheets) profile_sheets ≡ true = checked (λ (j : Job). nat_le (length j.sheets) profile_sheets) (job_from d) job same in
-    (job_nodes d job (few_same (job_from d) job same), grind (arith, nat_tests))
+-- the sheets of a job of the right shape
+pub sheets_said : (d : Data) (job : Job) → job_in d ≡ got job → sheets_from (get (codes "sheets") d) ≡ Some job.sheets
+sheets_said d job e = job_sheets d job (sym (kept-job d) ∙ ap kept e)
 
 one_verdict : (passed : Option Passed) (job : Job) (b : Bool) → is_none passed ≡ b → job_if_good (verdict_within passed job) ≡ cond b (Some job) None
 one_verdict None job true e = refl
@@ -121,7 +109,7 @@ one_verdict (Some passed) job false e = refl
 
 by_shape : (d : Data) (c : Checked Job) → job_in d ≡ c → job_if_good (verdict_by d c) ≡ option_and_then (fits d) (kept c)
 by_shape d (bad path) e = refl
-by_shape d (got job) e = let s = job_shape d job e in one_verdict (first_passed d job) job _ (none_passed d job s.0 s.1)
+by_shape d (got job) e = one_verdict (first_passed d job) job _ (none_passed d job (job_shape d job e))
 
 pub good_within : (d : Data) → job_if_good (verdict_on d) ≡ job_within d
 good_within d = by_shape d (job_in d) refl ∙ sym (within_is d)
@@ -149,43 +137,50 @@ found (bad path) e = absurd (cc)
 pub shape_found : (d : Data) → first_bad (job_in d) ≡ None → (job : Job) × (job_in d ≡ got job)
 shape_found d e = found (job_in d) e
 
-pub over_verdict : (d : Data) (job : Job) (passed : Passed) → job_in d ≡ got job → nodes_passed (node_items d) job.nodes ≡ Some passed → verdict_on d ≡ over passed.0 passed.1
-over_verdict d job passed shape e = ap (verdict_by d) shape ∙ ap (λ o. verdict_within (option_or o (sheets_past job.sheets)) job) e
-
 -- ---- the texts come last
 
-one_text : (b : Bool) (sheets : List SheetInput) → (is_none (texts_past sheets) ≡ false → texts_past sheets ≡ Some (Text, text_limit)) → is_none (option_or (cond b None (Some (Text, text_limit))) (texts_past sheets)) ≡ false
-    → option_or (cond b None (Some (Text, text_limit))) (texts_past sheets) ≡ Some (Text, text_limit)
-one_text true sheets more e = more e
-one_text false sheets more e = refl
+either_none : {A : Type 0} (a b c : Option A) → option_or (option_or a b) c ≡ option_or a (option_or b c)
+either_none None b c = refl
+either_none (Some a) b c = refl
+
+-- the limits before those of the texts
+abbrev pub before_texts : Data → Job → Option Passed
+before_texts d job = option_or (nodes_passed (node_items d) job.nodes) (count_past job.sheets)
+
+first_is : (d : Data) (job : Job) → first_passed d job ≡ option_or (before_texts d job) (texts_past job.sheets)
+first_is d job = sym (either_none (nodes_passed (node_items d) job.nodes) (count_past job.sheets) (texts_past job.sheets))
+
+one_text : (b : Bool) (more : Option Passed) → (is_none more ≡ false → more ≡ Some (Text, text_limit)) → is_none (option_or (cond b None (Some (Text, text_limit))) more) ≡ false
+    → option_or (cond b None (Some (Text, text_limit))) more ≡ Some (Text, text_limit)
+one_text true more only e = only e
+one_text false more only e = refl
 
 only_text : (sheets : List SheetInput) → is_none (texts_past sheets) ≡ false → texts_past sheets ≡ Some (Text, text_limit)
 only_text [] e = absurd (cc)
-only_text (sheet ∷ sheets) e = one_text (nat_le (length (encode_utf8_all sheet.text)) text_limit) sheets (λ f. only_text sheets f) e
+only_text (sheet ∷ sheets) e = one_text (nat_le (length (encode_utf8_all sheet.text)) text_limit) (texts_past sheets) (λ f. only_text sheets f) e
 
 no_within : (b : Bool) (job : Job) → cond b (Some job) None ≡ None → b ≡ false
 no_within true job e = absurd (cc)
 no_within false job e = refl
 
-nodes_fit : (a b : Bool) → a ≡ true → (a && b) ≡ false → b ≡ false
-nodes_fit true b e f = f
-nodes_fit false b e f = absurd (cc)
+-- some limit is passed where there is no job
+some_passed : (d : Data) (job : Job) → job_in d ≡ got job → job_within d ≡ None → is_none (first_passed d job) ≡ false
+some_passed d job shape none =
+    let within : fits d job ≡ None = ap (λ c. option_and_then (fits d) (kept c)) (sym shape) ∙ (sym (within_is d) ∙ none) in
+    none_passed d job (job_shape d job shape) ∙ no_within _ job within
 
-pub text_verdict : (d : Data) (job : Job) → job_in d ≡ got job → job_within d ≡ None → nodes_passed (node_items d) job.nodes ≡ None → verdict_on d ≡ over Text text_limit
-text_verdict d job shape none fit =
-    let s = job_shape d job shape in
-    let within : cond (are_nodes_within (node_items d) job.nodes && list_all is_text_within job.sheets) (Some job) None ≡ None = ap (λ c. option_and_then (fits d) (kept c)) (sym shape) ∙ (sym (within_is d) ∙ none) in
-    let nodes : are_nodes_within (node_items d) job.nodes ≡ true = sym (nodes_within_is d job s.0) ∙ ap is_none fit in
-    let texts : list_all is_text_within job.sheets ≡ false = nodes_fit _ _ nodes (no_within _ job within) in
-    let last : texts_past job.sheets ≡ Some (Text, text_limit) = only_text job.sheets (texts_none job.sheets ∙ texts) in
-    let few : nat_le (length job.sheets) sheet_limit ≡ true = few_enough job.sheets s.1 in
-    ap (verdict_by d) shape ∙ (ap (λ o. verdict_within (option_or o (sheets_past job.sheets)) job) fit ∙ (ap (λ b. verdict_within (option_or (cond b None (Some (Sheets, sheet_limit))) (texts_past job.sheets)) job) few ∙ ap (λ o. verdict_within o job) last))
+at_last : (passed texts : Option Passed) → (is_none texts ≡ false → texts ≡ Some (Text, text_limit)) → is_none (option_or passed texts) ≡ false → option_or passed texts ≡ Some (unwrap_or passed (Text, text_limit))
+at_last None texts only e = only e
+at_last (Some p) texts only e = refl
 
-by_passed : (d : Data) (job : Job) (passed : Option Passed) (pair : Passed) → job_in d ≡ got job → job_within d ≡ None → passed ≡ nodes_passed (node_items d) job.nodes → pair ≡ unwrap_or passed (Text, text_limit) → verdict_on d ≡ over pair.0 pair.1
-by_passed d job None pair shape none e is = text_verdict d job shape none (sym e) ∙ ap (λ (p : Passed). over p.0 p.1) (sym is)
-by_passed d job (Some p) pair shape none e is = over_verdict d job p shape (sym e) ∙ ap (λ (p : Passed). over p.0 p.1) (sym is)
+by_passed : (d : Data) (job : Job) → job_in d ≡ got job → job_within d ≡ None → first_passed d job ≡ Some (unwrap_or (before_texts d job) (Text, text_limit))
+by_passed d job shape none =
+    first_is d job ∙ at_last (before_texts d job) (texts_past job.sheets) (only_text job.sheets) (ap is_none (sym (first_is d job)) ∙ some_passed d job shape none)
 
 -- where the shape is right and there is no job
-pub limit_verdict : (d : Data) (passed : Option Passed) (pair : Passed) → first_bad (job_in d) ≡ None → job_within d ≡ None → ((job : Job) → job_in d ≡ got job → passed ≡ nodes_passed (node_items d) job.nodes) → pair ≡ unwrap_or passed (Text, text_limit)
+pub limit_verdict : (d : Data) (passed : Option Passed) (pair : Passed) → first_bad (job_in d) ≡ None → job_within d ≡ None → ((job : Job) → job_in d ≡ got job → passed ≡ before_texts d job) → pair ≡ unwrap_or passed (Text, text_limit)
     → verdict_on d ≡ over pair.0 pair.1
-limit_verdict d passed pair right none said is = let (job, shape) = shape_found d right in by_passed d job passed pair shape none (said job shape) is
+limit_verdict d passed pair right none said is =
+    let (job, shape) = shape_found d right in
+    let first : first_passed d job ≡ Some pair = by_passed d job shape none ∙ ap (λ o. Some (unwrap_or o (Text, text_limit))) (sym (said job shape)) ∙ ap (λ (p : Passed). Some p) (sym is) in
+    ap (verdict_by d) shape ∙ ap (λ o. verdict_within o job) first

@@ -4,11 +4,10 @@ use Rattle.std.specs.Prelude.{codes, encode_utf8_all}
 use Rattle.std.specs.List.{list_all}
 use Rattle.serde_json.specs.Data.{Data, Items, no_items, item, Members, no_members, member}
 use Rattle.serde_json.specs.Find.{get, as_object, as_str, as_array}
-use Rattle.base_model.specs.Limits.{element_limit, depth_limit, attribute_limit, value_limit, text_limit}
+use Rattle.base_model.specs.Limits.{element_limit, depth_limit, attribute_limit, value_limit, sheet_limit, text_limit}
 use Rattle.scene_model.specs.Nodes.{Node}
 use Rattle.dom_tree.specs.Depths.{depths_of}
 use Rattle.layer_order.specs.declared.sheet_input.SheetInput.{SheetInput}
-use Rattle.job_json.specs.Shape.{profile_sheets}
 
 -- how many attributes a node has: an object has each key once
 abbrev pub count_of : Members → ℕ
@@ -57,5 +56,6 @@ are_nodes_within items nodes =
 abbrev pub is_text_within : SheetInput → Bool
 is_text_within sheet = nat_le (length (encode_utf8_all sheet.text)) text_limit
 
+-- not too many sheets, each within its limit
 abbrev pub are_sheets_within : List SheetInput → Bool
-are_sheets_within sheets = nat_le (length sheets) profile_sheets && list_all is_text_within sheets
+are_sheets_within sheets = nat_le (length sheets) sheet_limit && list_all is_text_within sheets

@@ -51,8 +51,12 @@ abbrev pub texts_past : List SheetInput → Option Passed
 texts_past [] = None
 texts_past (sheet ∷ sheets) = option_or (text_past sheet) (texts_past sheets)
 
+abbrev pub count_past : List SheetInput → Option Passed
+count_past sheets = past Sheets sheet_limit (length sheets)
+
+-- how many there are, and then each text
 abbrev pub sheets_past : List SheetInput → Option Passed
-sheets_past sheets = option_or (past Sheets sheet_limit (length sheets)) (texts_past sheets)
+sheets_past sheets = option_or (count_past sheets) (texts_past sheets)
 
 -- the elements, and then each node
 abbrev pub nodes_passed : Items → List Node → Option Passed

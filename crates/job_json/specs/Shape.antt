@@ -1,6 +1,6 @@
 -- The shape of a job, in reading order: what a JSON value says as one, or the first place where it is none. Members
 -- other than those named are passed over.
-use Rattle.std.specs.Prelude.{⊤, ℕ, ◌+◌, nat_lt, not, if◌then◌else◌, List, [], ◌∷◌, Option, Some, None, is_some, option_and_then, codes}
+use Rattle.std.specs.Prelude.{⊤, ℕ, ◌+◌, not, List, [], ◌∷◌, Option, Some, None, is_some, option_and_then, codes}
 use Rattle.std.specs.Str.{chars}
 use Rattle.std.specs.FinMap as map
 use Rattle.serde_json.specs.Data.{Data, Items, no_items, item, Members, no_members, member}
@@ -9,7 +9,7 @@ use Rattle.scene_model.specs.Element.{Characters, Attributes, States}
 use Rattle.scene_model.specs.Nodes.{Node}
 use Rattle.layer_order.specs.declared.sheet_input.SheetInput.{SheetInput}
 use Rattle.job_json.specs.declared.Job.{Job}
-use Rattle.job_json.specs.Checked.{Checked, got, bad, ◌>>=◌, wanted, right, at_member, at_index}
+use Rattle.job_json.specs.Checked.{Checked, got, ◌>>=◌, wanted, right, at_member, at_index}
 use Rattle.job_json.specs.Values.{whole, name_of, parent_from, pair_from, no_states, with_state, is_one, has_no_items, is_empty_list}
 use Rattle.job_json.specs.Sheets.{origin_from, enabled_from}
 
@@ -95,17 +95,10 @@ sheet_in value = do
   text ← member_in (codes "text") (λ o. wanted (option_and_then as_str o)) value
   got (record { origin = origin; enabled = enabled; text = chars text })
 
--- how many sheets there may be in this profile
-abbrev pub profile_sheets : ℕ
-profile_sheets = 1
-
-abbrev pub sheet_at : ℕ → Data → Checked SheetInput
-sheet_at k value = if nat_lt k profile_sheets then sheet_in value else bad []
-
 abbrev pub sheets_after : ℕ → Items → Checked (List SheetInput)
 sheets_after k no_items = got []
 sheets_after k (item value rest) = do
-  sheet ← at_index k (sheet_at k value)
+  sheet ← at_index k (sheet_in value)
   sheets ← sheets_after (k + 1) rest
   got (sheet ∷ sheets)
 

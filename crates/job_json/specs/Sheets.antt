@@ -1,17 +1,20 @@
 -- What JSON values say of the style sheets of a job, without their places.
-use Rattle.std.specs.Prelude.{ℕ, Bool, true, false, if◌then◌else◌, List, [], ◌∷◌, Option, Some, None, codes}
+use Rattle.std.specs.Prelude.{ℕ, Bool, true, if◌then◌else◌, List, [], ◌∷◌, Option, Some, None, codes}
 use Rattle.std.specs.Str.{chars, bytes_eq}
 use Rattle.serde_json.specs.Data.{Data, Items, no_items, item}
 use Rattle.serde_json.specs.Find.{get, as_bool, as_str, as_array}
 use Rattle.base_model.specs.Options.{◌>>=◌}
 use Rattle.layer_order.specs.declared.origin.Origin.{Origin}
-use Rattle.layer_order.specs.declared.origin.Origin.TheVariants.{Author}
+use Rattle.layer_order.specs.declared.origin.Origin.TheVariants.{UserAgent, User, Author}
 use Rattle.layer_order.specs.declared.sheet_input.SheetInput.{SheetInput}
 
--- The origin that a word names (css-cascade-5, section 6.2). In this profile there are author sheets alone: the user
--- agent's and the user's come with the order of origins.
+-- the origin that a word names (css-cascade-5, section 6.2): `ua` is the user agent's
 abbrev pub origin_named : List ℕ → Option Origin
-origin_named word = if bytes_eq word (codes "author") then Some Author else None
+origin_named word =
+    if bytes_eq word (codes "ua") then Some UserAgent
+    else if bytes_eq word (codes "user") then Some User
+    else if bytes_eq word (codes "author") then Some Author
+    else None
 
 abbrev pub origin_from : Option Data → Option Origin
 origin_from origin = do
@@ -19,15 +22,10 @@ origin_from origin = do
   word ← as_str value
   origin_named word
 
--- In this profile each sheet is enabled: one that is not comes with the other origins.
-abbrev pub enabled_as : Bool → Option Bool
-enabled_as true = Some true
-enabled_as false = None
-
 -- a sheet that says nothing of it is enabled
 abbrev pub enabled_from : Option Data → Option Bool
 enabled_from None = Some true
-enabled_from (Some value) = as_bool value >>= enabled_as
+enabled_from (Some value) = as_bool value
 
 -- an origin, whether the sheet is enabled, and a text
 abbrev pub sheet_from : Data → Option SheetInput

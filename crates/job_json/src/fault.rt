@@ -8,15 +8,16 @@ ghost use Rattle.job_json.specs.declared.Job.{Job};
 ghost use Rattle.job_json.specs.Checked.{got};
 ghost use Rattle.job_json.specs.Shape.{job_in};
 ghost use Rattle.job_json.specs.Fits.{node_items};
-ghost use Rattle.job_json.specs.Limits.{nodes_passed};
+ghost use Rattle.job_json.specs.Limits.{nodes_passed, count_past};
 ghost use Rattle.job_json.specs.JobOf.{answer_to, verdict_on};
 ghost use Rattle.job_json.specs.Within.{job_within};
 
+use crate::limits::past;
 use crate::walk::bad_in_job;
 use crate::{JobFault, node_limits};
 use serde_json::Value;
 use std::alloc::Global;
-use stylo_base::limits::TEXT_LIMIT;
+use stylo_base::limits::{SHEET_LIMIT, TEXT_LIMIT};
 use stylo_base::{Kind, NoMemory, PathText};
 
 /// Why a text that is JSON is no job.
@@ -39,9 +40,9 @@ fn fault_of(alloc: Global, value: &Value) -> Result<JobFault, NoMemory>
     if let Some(path) = bad_in_job(alloc, value)? {
         return Ok(JobFault::Shape(PathText::of_text(path)));
     }
-    // A job whose nodes are within their limits is past that of a text.
-    let text = (Kind::Text, TEXT_LIMIT as u64);
-    let (kind, number) = nodes_passed(alloc, value)?.unwrap_or(text);
+    let passed = nodes_passed(alloc, value)?.or(count_passed(value));
+    // A job with nodes within their limits and not too many sheets is past the limit of a text.
+    let (kind, number) = passed.unwrap_or((Kind::Text, TEXT_LIMIT as u64));
     Ok(JobFault::Limit(kind, number))
 }
 
@@ -54,4 +55,12 @@ fn nodes_passed(alloc: Global, job: &Value) -> Result<Option<(Kind, u64)>, NoMem
         Some(nodes) => node_limits::nodes_passed(alloc, nodes),
         None => Ok(None),
     }
+}
+
+/// The limit of sheets, where a job has more.
+fn count_passed(job: &Value) -> Option<(Kind, u64)>
+    ensures { (j : Job) → job_in (view job.now) ≡ got j → result ≡ count_past j.sheets }
+{
+    let sheets = job.get("sheets").and_then(Value::as_array)?;
+    past(Kind::Sheets, SHEET_LIMIT, sheets.len())
 }

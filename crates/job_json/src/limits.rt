@@ -2,15 +2,13 @@
 
 ghost use Rattle.std.specs.Prelude.{◌≡◌, IfOk};
 ghost use Rattle.job_json.specs.Fits.{are_depths_within, is_text_within};
+ghost use Rattle.job_json.specs.Limits.{past};
 
 use dom_tree::NodeList;
 use layer_order::SheetInput;
 use std::alloc::Global;
-use stylo_base::NoMemory;
 use stylo_base::limits::{DEPTH_LIMIT, TEXT_LIMIT};
-
-/// How many sheets there may be in this profile.
-pub const PROFILE_SHEETS: usize = 1;
+use stylo_base::{Kind, NoMemory};
 
 /// Whether no node is too deep.
 pub fn are_depths_within(alloc: Global, nodes: &NodeList) -> Result<bool, NoMemory>
@@ -25,4 +23,15 @@ pub fn is_text_within(sheet: &SheetInput) -> bool
     ensures { result ≡ is_text_within sheet.now }
 {
     sheet.text.byte_len() <= TEXT_LIMIT
+}
+
+/// The limit, where the amount is past it.
+pub fn past(kind: Kind, most: usize, amount: usize) -> Option<(Kind, u64)>
+    ensures { result ≡ past kind most amount }
+{
+    if amount <= most {
+        None
+    } else {
+        Some((kind, most as u64))
+    }
 }

@@ -6,8 +6,9 @@ ghost use Rattle.serde_json.specs.View.{view, members_view, items_view};
 ghost use Rattle.scene_model.specs.Nodes.{Node};
 ghost use Rattle.dom_tree.specs.Depths.{depths_of};
 ghost use Rattle.job_json.specs.Values.{whole, nodes_of};
-ghost use Rattle.job_json.specs.Limits.{past, value_past, values_past, attrs_past, node_past, nodes_past, nodes_passed};
+ghost use Rattle.job_json.specs.Limits.{value_past, values_past, attrs_past, node_past, nodes_past, nodes_passed};
 
+use crate::limits::past;
 use serde_json::{Map, Value};
 use std::alloc::Global;
 use stylo_base::limits::{ATTRIBUTE_LIMIT, DEPTH_LIMIT, ELEMENT_LIMIT, VALUE_LIMIT};
@@ -102,14 +103,4 @@ fn value_past(value: &Value) -> Option<(Kind, u64)>
     ensures { result ≡ value_past (as_str (view value.now)) }
 {
     past(Kind::Value, VALUE_LIMIT, value.as_str()?.len())
-}
-
-fn past(kind: Kind, most: usize, amount: usize) -> Option<(Kind, u64)>
-    ensures { result ≡ past kind most amount }
-{
-    if amount <= most {
-        None
-    } else {
-        Some((kind, most as u64))
-    }
 }

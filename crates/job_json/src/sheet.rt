@@ -2,7 +2,7 @@
 
 ghost use Rattle.std.specs.Prelude.{◌≡◌, ◌<◌, length, Some, None, option_map, option_and_then, IfOk, OnOk};
 ghost use Rattle.json_reader.specs.Taken.{taken, Says};
-ghost use Rattle.job_json.specs.Sheets.{origin_named, enabled_as, sheet_from};
+ghost use Rattle.job_json.specs.Sheets.{origin_named, sheet_from};
 
 use json::Reader;
 use json_reader::{KeepMembers, Stop, boolean, object, pass, text};
@@ -26,7 +26,7 @@ impl<'a> KeepMembers<'a> for SheetParts<'a> {
     fn member(&mut self, key: &'a str, reader: &mut Reader<'a>, depth: usize) -> Result<(), Stop> {
         match key {
             "origin" => self.origin = origin_in(text(reader, depth)?),
-            "enabled" => self.enabled = enabled_in(boolean(reader, depth)?),
+            "enabled" => self.enabled = boolean(reader, depth)?,
             "text" => self.text = text(reader, depth)?,
             _ => pass(reader, depth)?,
         }
@@ -79,14 +79,9 @@ fn origin_named(word: &str) -> Option<Origin>
     ensures { result ≡ origin_named word.now }
 {
     match word {
+        "ua" => Some(Origin::UserAgent),
+        "user" => Some(Origin::User),
         "author" => Some(Origin::Author),
         _ => None,
     }
-}
-
-/// In this profile each sheet is enabled.
-pub fn enabled_in(enabled: Option<bool>) -> Option<bool>
-    ensures { result ≡ option_and_then enabled_as enabled }
-{
-    if enabled? { Some(true) } else { None }
 }

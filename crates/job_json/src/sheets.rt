@@ -4,13 +4,14 @@ ghost use Rattle.std.specs.Prelude.{◌≡◌, ◌<◌, length, Some, None, IfOk
 ghost use Rattle.json_reader.specs.Taken.{taken, Says};
 ghost use Rattle.job_json.specs.Within.{sheets_within};
 
-use crate::limits::{PROFILE_SHEETS, is_text_within};
+use crate::limits::is_text_within;
 use crate::sheet::take_sheet;
 use crate::sheet_list::SheetList;
 use json::Reader;
 use json_reader::{KeepItems, Stop, array, pass};
 use layer_order::SheetInput;
 use std::alloc::Global;
+use stylo_base::limits::SHEET_LIMIT;
 
 /// What is kept of the items of a list of sheets.
 #[derive(Drop)]
@@ -27,7 +28,7 @@ impl<'a> KeepItems<'a> for Sheets {
     ghost keeps = { AreSheetsOf };
 
     fn item(&mut self, reader: &mut Reader<'a>, depth: usize) -> Result<(), Stop> {
-        if !self.is_good || self.list.len() >= PROFILE_SHEETS {
+        if !self.is_good || self.list.len() >= SHEET_LIMIT {
             self.is_good = false;
             pass(reader, depth)?;
             return Ok(());

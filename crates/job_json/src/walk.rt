@@ -5,13 +5,12 @@ ghost use Rattle.serde_json.specs.View.{view, items_view};
 ghost use Rattle.job_json.specs.Checked.{first_bad};
 ghost use Rattle.job_json.specs.Values.{has_no_items, is_empty_list};
 ghost use Rattle.job_json.specs.Sheets.{origin_from, enabled_from};
-ghost use Rattle.job_json.specs.Shape.{version_in, nodes_after, nodes_in, sheet_at, sheet_in, sheets_after, sheets_in, batches_in, job_in};
+ghost use Rattle.job_json.specs.Shape.{version_in, nodes_after, nodes_in, sheet_in, sheets_after, sheets_in, batches_in, job_in};
 
-use crate::limits::PROFILE_SHEETS;
 use crate::node_walk::bad_in_node;
 use crate::outline::is_one;
 use crate::pointer::{at_index, at_member, here};
-use crate::sheet::{enabled_in, origin_in};
+use crate::sheet::origin_in;
 use serde_json::Value;
 use std::alloc::Global;
 use stylo_base::{NoMemory, Text};
@@ -66,22 +65,12 @@ fn bad_in_sheets(alloc: Global, value: Option<&Value>) -> Result<Option<Text>, N
         return Ok(here(alloc, false));
     };
     for index in 0..sheets.len() {
-        let path = at_index(alloc, index, bad_in_sheet_at(alloc, index, &sheets[index])?)?;
+        let path = at_index(alloc, index, bad_in_sheet(alloc, &sheets[index])?)?;
         if path.is_some() {
             return Ok(path);
         }
     }
     Ok(None)
-}
-
-fn bad_in_sheet_at(alloc: Global, index: usize, value: &Value) -> Result<Option<Text>, NoMemory>
-    ensures { IfOk result (λ path. path ≡ first_bad (sheet_at index (view value.now))) }
-{
-    if index < PROFILE_SHEETS {
-        bad_in_sheet(alloc, value)
-    } else {
-        Ok(here(alloc, false))
-    }
 }
 
 fn bad_in_sheet(alloc: Global, value: &Value) -> Result<Option<Text>, NoMemory>
@@ -112,7 +101,7 @@ fn is_enabled(value: Option<&Value>) -> bool
     ensures { result ≡ is_some (enabled_from (option_map (λ v. view v.now) value.entry)) }
 {
     match value {
-        Some(value) => enabled_in(value.as_bool()).is_some(),
+        Some(value) => value.as_bool().is_some(),
         None => true,
     }
 }

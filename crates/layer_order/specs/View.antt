@@ -1,7 +1,8 @@
 -- What an origin and a sheet of the code stand for.
-use Rattle.std.specs.Prelude.{ℕ, ◌+◌, List, [], ◌∷◌}
+use Rattle.std.specs.Prelude.{ℕ, ◌+◌, List, [], ◌∷◌, map}
 use Rattle.base_model.specs.Origin as model
 use Rattle.base_model.specs.Sheet.{Sheet}
+use Rattle.layer_model.specs.Name.{LayerName}
 use Rattle.layer_order.specs.declared.origin.Origin.{Origin}
 use Rattle.layer_order.specs.declared.origin.Origin.TheVariants.{UserAgent, User, Author}
 use Rattle.layer_order.specs.declared.sheet_input.SheetInput.{SheetInput}
@@ -10,6 +11,10 @@ abbrev pub origin_of : Origin → model.Origin
 origin_of UserAgent = model.user_agent
 origin_of User = model.user
 origin_of Author = model.author
+
+-- the names of layers, each with its origin
+abbrev pub declarations : List (Origin × LayerName) → List (model.Origin × LayerName)
+declarations list = map (λ d. (origin_of d.0, d.1)) list
 
 -- with a number
 abbrev pub sheet_of : ℕ → SheetInput → Sheet

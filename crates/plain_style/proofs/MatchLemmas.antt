@@ -4,6 +4,7 @@ use Rattle.std.specs.Prelude.{Bool, Vec}
 use Rattle.std.specs.List.{flat_map}
 use Rattle.std.specs.declared.alloc.Global.{Global}
 use Rattle.scene_model.specs.Element.{Element}
+use Rattle.layer_model.specs.Order.{Layers}
 use Rattle.selector_model.specs.Holds.{holds}
 use Rattle.selector_types.specs.declared.selector.Selector.{Selector as Chosen}
 use Rattle.sheet_set.specs.declared.sheet_rule.SheetRule.{SheetRule}
@@ -15,25 +16,26 @@ use Rattle.base_model.specs.Specificity.{Specificity}
 use Rattle.cascade_model.specs.Key.{Matched}
 use Rattle.sheet_model.specs.Declared.{Declared}
 use Rattle.sheet_model.specs.Sources.{PlacedRule, Sources}
-use Rattle.cascade_model.specs.Matching.{matched, all_matched, greatest_by, rule_matched, matching}
+use Rattle.cascade_model.specs.Matching.{matched, all_matched, greatest_by, rule_matched, matching_rules}
 
 -- the selectors of a rule are not looked at any more
-pub all_matched-same : (a b : PlacedRule) (specificity : Specificity) (index : ℕ) (ds : List Declared) → a.origin ≡ b.origin → a.sheet ≡ b.sheet → a.position ≡ b.position
-    → all_matched a specificity index ds ≡ all_matched b specificity index ds
-all_matched-same a b specificity index [] o s p = refl
-all_matched-same a b specificity index (d ∷ ds) o s p =
-    let head : matched a specificity index d ≡ matched b specificity index d = same_head a b specificity index d o s p in
-    let tail : all_matched a specificity (index + 1) ds ≡ all_matched b specificity (index + 1) ds = all_matched-same a b specificity (index + 1) ds o s p in cc
+pub all_matched-same : (layers : Layers) (a b : PlacedRule) (specificity : Specificity) (index : ℕ) (ds : List Declared) → a.origin ≡ b.origin → a.layer ≡ b.layer → a.sheet ≡ b.sheet → a.position ≡ b.position → all_matched layers a specificity index ds ≡ all_matched layers b specificity index ds
+all_matched-same layers a b specificity index [] o l s p = refl
+all_matched-same layers a b specificity index (d ∷ ds) o l s p =
+    let head : matched layers a specificity index d ≡ matched layers b specificity index d = same_head layers a b specificity index d o l s p in
+    let tail : all_matched layers a specificity (index + 1) ds ≡ all_matched layers b specificity (index + 1) ds = all_matched-same layers a b specificity (index + 1) ds o l s p in cc
   where
-    same_head : (a b : PlacedRule) (specificity : Specificity) (index : ℕ) (d : Declared) → a.origin ≡ b.origin → a.sheet ≡ b.sheet → a.position ≡ b.position → matched a specificity index d ≡ matched b specificity index d
-    same_head a b specificity index d o s p = cc
+    same_head : (layers : Layers) (a b : PlacedRule) (specificity : Specificity) (index : ℕ) (d : Declared) → a.origin ≡ b.origin → a.layer ≡ b.layer → a.sheet ≡ b.sheet → a.position ≡ b.position → matched layers a specificity index d ≡ matched layers b specificity index d
+    same_head layers a b specificity index d o l s p = cc
 
 -- a rule with no selector that passes adds nothing
-pub rule_none : (passes : Selector → Bool) (rule : PlacedRule) → greatest_by passes None rule.selectors ≡ None → rule_matched passes rule ≡ []
-rule_none passes rule h = ap (λ o. option_map_or (λ specificity. all_matched rule specificity rule.first_index rule.declarations) o []) h
+pub rule_none : (layers : Layers) (passes : Selector → Bool) (rule : PlacedRule) → greatest_by passes None rule.selectors ≡ None → rule_matched layers passes rule ≡ []
+rule_none layers passes rule h =
+    ap (λ o. option_map_or (λ specificity. all_matched layers rule specificity rule.first_index rule.declarations) o []) h
 
-pub rule_some : (passes : Selector → Bool) (rule : PlacedRule) (s : Specificity) → greatest_by passes None rule.selectors ≡ Some s → rule_matched passes rule ≡ all_matched rule s rule.first_index rule.declarations
-rule_some passes rule s h = ap (λ o. option_map_or (λ specificity. all_matched rule specificity rule.first_index rule.declarations) o []) h
+pub rule_some : (layers : Layers) (passes : Selector → Bool) (rule : PlacedRule) (s : Specificity) → greatest_by passes None rule.selectors ≡ Some s → rule_matched layers passes rule ≡ all_matched layers rule s rule.first_index rule.declarations
+rule_some layers passes rule s h =
+    ap (λ o. option_map_or (λ specificity. all_matched layers rule specificity rule.first_index rule.declarations) o []) h
 
 -- the rules from an index on
 pub rules_at : (rules : List SheetRule) (lists : List (Vec Chosen Global)) (i : ℕ) (rule : SheetRule) (list : Vec Chosen Global) → i < length rules → i < length lists → rule ≡ get_or rules i rule → list ≡ get_or lists i list
@@ -41,7 +43,7 @@ pub rules_at : (rules : List SheetRule) (lists : List (Vec Chosen Global)) (i : 
 rules_at rules lists i rule list below within is same =
     ap (λ l. rules_with l (drop i lists)) (item_at rules i rule below is) ∙ ap (rules_with (rule ∷ drop (i + 1) rules)) (item_at lists i list within same)
 
-pub matched_all : (found : List Matched) (doc : List Element) (sources : Sources) (left : List PlacedRule) (x : ℕ) → left ≡ [] → found ++ flat_map (rule_matched (λ s. holds doc s x)) left ≡ flat_map (rule_matched (λ s. holds doc s x)) sources.rules → found ≡ matching doc sources x
-unfolding matching
+pub matched_all : (found : List Matched) (doc : List Element) (sources : Sources) (left : List PlacedRule) (x : ℕ) → left ≡ [] → found ++ flat_map (rule_matched sources.layers (λ s. holds doc s x)) left ≡ flat_map (rule_matched sources.layers (λ s. holds doc s x)) sources.rules → found ≡ matching_rules doc sources x
+unfolding matching_rules
 matched_all found doc sources left x none all =
-    sym (append-nil found) ∙ ap (λ l. found ++ flat_map (rule_matched (λ s. holds doc s x)) l) (sym none) ∙ all
+    sym (append-nil found) ∙ (ap (λ l. found ++ flat_map (rule_matched sources.layers (λ s. holds doc s x)) l) (sym none) ∙ all)

@@ -1,11 +1,9 @@
 -- The style of an element over the one that is known of its parent.
-use Rattle.std.proofs.Common.{◌≡◌, ℕ, ◌+◌, ◌<◌, ◌==◌, ◌||◌, Bool, true, false, List, [], ◌∷◌, ◌++◌, map, length, take, drop, get_or, Option, Some, None, Result, Ok, Err, IfOk, refl, sym, ap, ◌∙◌, append-nil, take-append-drop, add-one, subst}
+use Rattle.std.proofs.Common.{◌≡◌, ℕ, ◌+◌, ◌<◌, ◌==◌, ◌||◌, Bool, true, false, List, [], ◌∷◌, ◌++◌, map, length, take, drop, get_or, Option, Some, None, Result, Ok, Err, IfOk, refl, sym, ap, ◌∙◌, take-append-drop, add-one}
 use Rattle.std.proofs.lemmas.List.{map-append}
-use Rattle.std.proofs.lemmas.List.Folds.{list_any-append}
-use Rattle.std.proofs.lemmas.Bool.{eqb-true}
 use Rattle.std.proofs.Math.Seq.{drop-cons, take-suc}
 use Rattle.scene_model.specs.Element.{Element}
-use Rattle.scene_model.specs.Lookups.{parent_of, numbers, IsElement}
+use Rattle.scene_model.specs.Lookups.{parent_of, numbers, attribute_of, IsElement}
 use Rattle.scene_model.specs.Valid.{IsValid}
 use Rattle.scene_model.proofs.Numbers.{is_in, same_number}
 use Rattle.scene_model.proofs.Found.{is_element-numbers}
@@ -13,22 +11,44 @@ use Rattle.scene_model.proofs.ParentBefore.{parent_before}
 use Rattle.value_model.specs.Style.{Style, initial_style}
 use Rattle.cascade_model.specs.Key.{Matched}
 use Rattle.sheet_model.specs.Sources.{Sources}
-use Rattle.cascade_model.specs.Matching.{matching}
+use Rattle.std.specs.Prelude.{codes}
+use Rattle.std.specs.Option.{option_map_or}
+use Rattle.base_model.specs.Text.{Characters}
+use Rattle.sheet_model.specs.Declared.{Declared, style_declared}
+use Rattle.cascade_model.specs.Matching.{matching, matching_rules, matching_style, all_attached}
 use Rattle.cascade_model.specs.Cascade.{cascaded}
 use Rattle.cascade_model.specs.StyleOf.{style_of}
 use Rattle.cascade_model.proofs.StyleAlong.{style_of-child, style_of-root}
 
-pub over_none : {A E : Type 0} (value : A → Matched) (items : List A) (doc : List Element) (sources : Sources) (x : ℕ) (first : Style) (result : Result Style E) → IsValid doc → parent_of doc x ≡ None
-    → first ≡ initial_style → map value items ≡ matching doc sources x → IfOk result (λ style. style ≡ cascaded true first (map value (items ++ []))) → IfOk result (λ style. style ≡ style_of doc sources x)
-over_none value items doc sources x first (Err e) valid none initial matched made = tt
-over_none value items doc sources x first (Ok style) valid none initial matched made =
-    made ∙ ap (λ s. cascaded true s (map value (items ++ []))) initial ∙ ap (λ l. cascaded true initial_style (map value l)) (append-nil items) ∙ ap (cascaded true initial_style) matched ∙ sym (style_of-root doc sources valid x none)
+-- what applies is what the rules and the attribute give
+pub all_matching : {A : Type 0} (value : A → Matched) (items attached : List A) (doc : List Element) (sources : Sources) (x : ℕ) → map value items ≡ matching_rules doc sources x → map value attached ≡ matching_style doc sources x → map value (items ++ attached) ≡ matching doc sources x
+all_matching value items attached doc sources x rules style =
+    map-append value items attached
+    ∙ (ap (λ l. l ++ map value attached) rules ∙ ap (λ l. matching_rules doc sources x ++ l) style)
 
-pub over_parent : {A E : Type 0} (value : A → Matched) (items : List A) (doc : List Element) (sources : Sources) (x p : ℕ) (over : Style) (result : Result Style E) → IsValid doc → parent_of doc x ≡ Some p
-    → over ≡ style_of doc sources p → map value items ≡ matching doc sources x → IfOk result (λ style. style ≡ cascaded false over (map value (items ++ []))) → IfOk result (λ style. style ≡ style_of doc sources x)
-over_parent value items doc sources x p over (Err e) valid parent is matched made = tt
-over_parent value items doc sources x p over (Ok style) valid parent is matched made =
-    made ∙ ap (λ s. cascaded false s (map value (items ++ []))) is ∙ ap (λ l. cascaded false (style_of doc sources p) (map value l)) (append-nil items) ∙ ap (cascaded false (style_of doc sources p)) matched ∙ sym (style_of-child doc sources valid x p parent)
+-- the declarations of the attribute
+pub style_matching : {A D : Type 0} (value : A → Matched) (seen : D → Declared) (declared : List D) (attached : List A) (doc : List Element) (sources : Sources) (x : ℕ) → map seen declared ≡ option_map_or style_declared (attribute_of doc x (codes "style")) [] → map value attached ≡ all_attached sources.layers 0 (map seen declared) → map value attached ≡ matching_style doc sources x
+unfolding matching_style
+style_matching value seen declared attached doc sources x read are =
+    are ∙ (ap (all_attached sources.layers 0) read ∙ by_text (attribute_of doc x (codes "style")))
+  where
+    by_text : (text : Option Characters) → all_attached sources.layers 0 (option_map_or style_declared text []) ≡ option_map_or (λ t. all_attached sources.layers 0 (style_declared t)) text []
+    by_text None = refl
+    by_text (Some text) = refl
+
+pub over_none : {E : Type 0} (applied : List Matched) (doc : List Element) (sources : Sources) (x : ℕ) (first : Style) (result : Result Style E) → IsValid doc → parent_of doc x ≡ None → first ≡ initial_style → applied ≡ matching doc sources x → IfOk result (λ style. style ≡ cascaded true first applied) → IfOk result (λ style. style ≡ style_of doc sources x)
+over_none applied doc sources x first (Err e) valid none initial matched made = tt
+over_none applied doc sources x first (Ok style) valid none initial matched made =
+    made
+    ∙ (ap (λ s. cascaded true s applied) initial
+    ∙ (ap (cascaded true initial_style) matched ∙ sym (style_of-root doc sources valid x none)))
+
+pub over_parent : {E : Type 0} (applied : List Matched) (doc : List Element) (sources : Sources) (x p : ℕ) (over : Style) (result : Result Style E) → IsValid doc → parent_of doc x ≡ Some p → over ≡ style_of doc sources p → applied ≡ matching doc sources x → IfOk result (λ style. style ≡ cascaded false over applied) → IfOk result (λ style. style ≡ style_of doc sources x)
+over_parent applied doc sources x p over (Err e) valid parent is matched made = tt
+over_parent applied doc sources x p over (Ok style) valid parent is matched made =
+    made
+    ∙ (ap (λ s. cascaded false s applied) is
+    ∙ (ap (cascaded false (style_of doc sources p)) matched ∙ sym (style_of-child doc sources valid x p parent)))
 
 -- the numbers in tree order, around the k-th
 split_order : (doc : List Element) (order : List ℕ) (k : ℕ) → order ≡ numbers doc → k < length order → numbers doc ≡ take k order ++ get_or order k 0 ∷ drop (k + 1) order

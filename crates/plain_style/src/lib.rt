@@ -2,7 +2,8 @@
 #![tactic(auto)]
 
 mod matching;
+mod style_attribute;
 mod styles;
 
-pub use matching::match_element;
+pub use matching::match_rules;
 pub use styles::style_all;

@@ -3,10 +3,13 @@
 ghost use Rattle.std.specs.Prelude.{◌≡◌, ◌++◌, [], None, IfOk, OnOk, map};
 ghost use Rattle.scene_model.specs.Lookups.{IsElement};
 ghost use Rattle.selector_model.specs.Holds.{holds};
-ghost use Rattle.cascade_model.specs.Matching.{all_matched, greatest_by, matching};
+ghost use Rattle.cascade_model.specs.Matching.{all_matched, greatest_by, matching_rules};
 ghost use Rattle.cascade_core.specs.View.{matched_of};
 ghost use Rattle.selector_types.specs.View.{selector_of};
-ghost use Rattle.sheet_set.specs.View.{declared_of, rule_of, sources_seen};
+ghost use Rattle.layer_model.specs.Order.{Layers};
+ghost use Rattle.value_parser.specs.View.{declared_of};
+ghost use Rattle.sheet_set.specs.Ranks.{rank_seen};
+ghost use Rattle.sheet_set.specs.View.{rule_of, sources_seen};
 
 use cascade_core::Matched;
 use dom_tree::Doc;
@@ -17,7 +20,7 @@ use std::alloc::Global;
 use stylo_base::NoMemory;
 
 /// The declarations of all rules with a selector that holds at `x`, in the order of the rules.
-pub fn match_element<'a>(
+pub fn match_rules<'a>(
     alloc: Global,
     doc: &Doc,
     sheets: &'a Sheets,
@@ -25,7 +28,7 @@ pub fn match_element<'a>(
 ) -> Result<Vec<Matched<'a>>, NoMemory>
     requires { IsElement doc.now.elements x }
     ensures { IfOk result (λ list.
-        map matched_of list.items ≡ matching doc.now.elements (sources_seen sheets.now) x) }
+        map matched_of list.items ≡ matching_rules doc.now.elements (sources_seen sheets.now) x) }
 {
     let mut list = Vec::new(alloc);
     match_into(&mut list, doc, sheets, x)?;
@@ -42,15 +45,17 @@ pub(crate) fn match_into<'a>(
 ) -> Result<(), NoMemory>
     requires { IsElement doc.now.elements x }
     ensures { OnOk result (map matched_of list.new.items
-        ≡ matching doc.now.elements (sources_seen sheets.now) x) }
+        ≡ matching_rules doc.now.elements (sources_seen sheets.now) x) }
 {
     list.clear();
     let rules = sheets.rules();
     let selectors = sheets.selectors();
+    let ranks = sheets.ranks();
     for index in 0..rules.len() {
         let rule = &rules[index];
+        let rank = ranks[index];
         if let Some(specificity) = greatest(doc, &selectors[index], x) {
-            add_declarations(list, rule, specificity)?;
+            add_declarations(list, rule, rank, specificity)?;
         }
     }
     Ok(())
@@ -75,14 +80,16 @@ fn greatest(doc: &Doc, selectors: &[Selector], x: u32) -> Option<Specificity>
     best
 }
 
-/// Adds the declarations of a rule.
+/// Adds the declarations of a rule whose layer has this rank.
 fn add_declarations<'a>(
     list: &mut Vec<Matched<'a>>,
     rule: &'a SheetRule,
+    rank: u32,
     specificity: Specificity,
 ) -> Result<(), NoMemory>
-    ensures { OnOk result (map matched_of list.new.items ≡ map matched_of list.old.items
-        ++ all_matched (rule_of rule.now []) specificity rule.now.first_index
+    ensures { (layers : Layers) → rank ≡ rank_seen layers rule.now
+        → OnOk result (map matched_of list.new.items ≡ map matched_of list.old.items
+        ++ all_matched layers (rule_of rule.now []) specificity rule.now.first_index
         (map declared_of rule.now.declarations.items)) }
 {
     let mut index = rule.first_index();
@@ -91,7 +98,7 @@ fn add_declarations<'a>(
             declared,
             origin: rule.origin(),
             attached: false,
-            layer: 0,
+            layer: rank,
             specificity,
             sheet: rule.sheet(),
             position: rule.position(),

@@ -1,6 +1,6 @@
 -- The definitions computed on small texts.
 use Rattle.std.proofs.Common.{◌≡◌, [], ◌∷◌, refl}
-use Rattle.std.specs.Prelude.{codes, ℕ, List, map, length, true, false, Bool}
+use Rattle.std.specs.Prelude.{codes, ℕ, List, map, length, true, false, Bool, None, unwrap_or}
 use Rattle.base_model.specs.Origin.{Origin, user_agent, user, author, origin_rank}
 use Rattle.base_model.specs.Sheet.{Sheet}
 use Rattle.base_model.specs.Text.{Characters}
@@ -10,26 +10,37 @@ use Rattle.value_model.specs.Table.{table}
 use Rattle.value_model.specs.Color.{named_colors}
 use Rattle.selector_model.specs.Selector.{subject, any, with_test, simple, type_selector, class_selector}
 use Rattle.syntax_model.specs.TokensIn.{tokens_in}
-use Rattle.syntax_model.specs.RulesIn.{rules_in, declarations_in}
+use Rattle.layer_model.specs.Name.{named, anonymous}
+use Rattle.layer_model.specs.Order.{layers_at, declared, layer_order}
+use Rattle.syntax_model.specs.Wide.{inherit, initial, unset, revert, revert_layer}
+use Rattle.syntax_model.specs.Rules.{SheetEdition}
+use Rattle.syntax_model.specs.RulesIn.{declarations_in}
+use Rattle.syntax_model.specs.SheetRules.{rules_in, no_context}
 use Rattle.sheet_model.specs.SelectorsIn.{selectors_in}
 use Rattle.sheet_model.specs.ValueIn.{value_in}
-use Rattle.sheet_model.specs.Declared.{declares}
-use Rattle.sheet_model.specs.StyleRules.{style_rules_in}
-use Rattle.sheet_model.specs.Sources.{PlacedRule, rules_of_sheets}
+use Rattle.sheet_model.specs.Declared.{Given, Declared, wide, exactly, given_in, style_declared}
+use Rattle.sheet_model.proofs.ExampleCases.{declares}
+use Rattle.sheet_model.specs.StyleRules.{style_rules_in, layers_in}
+use Rattle.sheet_model.specs.Sources.{PlacedRule, rules_of_sheets, layers_of_sheets}
 
-two_rules : style_rules_in (codes "p.note, * { color: Red; display: block } i { colour: lime; clear: 3 } p > {color: red}") ≡ record {
+abbrev edition : SheetEdition
+edition = record { sheet = 1; edition = 0 }
+
+two_rules : style_rules_in edition (codes "p.note, * { color: Red; display: block } i { colour: lime; clear: 3 } p > {color: red}") ≡ record {
   selectors = subject (with_test (simple (type_selector (codes "p"))) (with_test (simple (class_selector (codes "note"))) any)) ∷ subject any ∷ [];
   declarations = declares 0 (color (opaque 255 0 0)) ∷ declares 1 (keyword (codes "block")) ∷ [];
+  context = no_context;
 } ∷ record {
   selectors = subject (with_test (simple (type_selector (codes "i"))) any) ∷ [];
   declarations = [];
+  context = no_context;
 } ∷ []
 unfolding style_rules_in rules_in tokens_in declarations_in selectors_in value_in table named_colors
 two_rules = refl
 
 -- how many selectors and how many declarations each rule has
 abbrev shape : Characters → List (ℕ × ℕ)
-shape text = map (λ rule. (length rule.selectors, length rule.declarations)) (style_rules_in text)
+shape text = map (λ rule. (length rule.selectors, length rule.declarations)) (style_rules_in edition text)
 
 nothing : shape (codes "") ≡ []
 unfolding style_rules_in rules_in tokens_in declarations_in selectors_in value_in table named_colors
@@ -67,9 +78,9 @@ bad_values : shape (codes "p{color:bleu;color:blue blue;color:;color}") ≡ (1, 
 unfolding style_rules_in rules_in tokens_in declarations_in selectors_in value_in table named_colors
 bad_values = refl
 
-profile_keywords : shape (codes "p{color:red!important;color:inherit}") ≡ (1, 0) ∷ []
+important_and_wide : shape (codes "p{color:red!important;color:inherit;clear:inherit inherit;clear:left unset}") ≡ (1, 2) ∷ []
 unfolding style_rules_in rules_in tokens_in declarations_in selectors_in value_in table named_colors
-profile_keywords = refl
+important_and_wide = refl
 
 closer_between : shape (codes "p{color:red}}i{color:red}b{clear:both}") ≡ (1, 1) ∷ (1, 1) ∷ []
 unfolding style_rules_in rules_in tokens_in declarations_in selectors_in value_in table named_colors
@@ -79,9 +90,9 @@ bad_combinator : shape (codes "p>{color:red}*{VISIBILITY:Hidden}") ≡ (1, 1) �
 unfolding style_rules_in rules_in tokens_in declarations_in selectors_in value_in table named_colors
 bad_combinator = refl
 
-profile_layer : shape (codes "@layer a{p{color:red}}p{}") ≡ (1, 0) ∷ []
+in_a_layer : shape (codes "@layer a{p{color:red}}p{}") ≡ (1, 1) ∷ (1, 0) ∷ []
 unfolding style_rules_in rules_in tokens_in declarations_in selectors_in value_in table named_colors
-profile_layer = refl
+in_a_layer = refl
 
 braces : shape (codes "{{{{{{") ≡ []
 unfolding style_rules_in rules_in tokens_in declarations_in selectors_in value_in table named_colors
@@ -107,3 +118,41 @@ placed_rules : map source (rules_of_sheets five)
     ≡ (2, (1, (0, 0))) ∷ (2, (1, (0, 2))) ∷ (2, (1, (0, 2))) ∷ (1, (3, (1, 0))) ∷ (0, (5, (3, 0))) ∷ (0, (5, (3, 1))) ∷ []
 unfolding rules_of_sheets style_rules_in rules_in tokens_in declarations_in selectors_in value_in table named_colors
 placed_rules = refl
+
+-- the CSS-wide keywords, alone, for each property and in any case
+abbrev wide_given : Characters → Given
+wide_given text = unwrap_or (given_in 1 (tokens_in text)) (exactly (keyword []))
+
+wide_keywords : map wide_given (codes "inherit" ∷ codes "Initial" ∷ codes "UNSET" ∷ codes "revert" ∷ codes "Revert-Layer" ∷ codes "block" ∷ []) ≡ wide inherit ∷ wide initial ∷ wide unset ∷ wide revert ∷ wide revert_layer ∷ exactly (keyword (codes "block")) ∷ []
+unfolding tokens_in value_in table named_colors
+wide_keywords = refl
+
+no_keywords : map (λ text. given_in 1 (tokens_in text)) (codes "inherit inherit" ∷ codes "block revert" ∷ codes "inherited" ∷ codes "\"unset\"" ∷ [] ∷ []) ≡ None ∷ None ∷ None ∷ None ∷ None ∷ []
+unfolding tokens_in value_in table named_colors
+no_keywords = refl
+
+-- the `style` attribute: a list of declarations, preprocessed
+abbrev shown : Declared → Bool × Given
+shown d = (d.important, d.given)
+
+attribute : map shown (style_declared (codes "color:initial;\r\ndisplay:block!important;clear:3;visibility")) ≡ (false, wide initial) ∷ (true, exactly (keyword (codes "block"))) ∷ []
+unfolding style_declared tokens_in declarations_in value_in table named_colors
+attribute = refl
+
+-- the layers of three sheets, of which one is disabled
+abbrev layered : List Sheet
+layered =
+    given 1 author true (codes "@layer a.b{p{}}@layer{}")
+    ∷ given 2 author false (codes "@layer z;")
+    ∷ given 3 user true (codes "@layer b;")
+    ∷ given 4 author true (codes "@layer c,a.d;@layer{}")
+    ∷ []
+
+abbrev a : Characters
+a = codes "a"
+
+layers_ordered : map (layers_at (layers_of_sheets layered)) (user_agent ∷ user ∷ author ∷ [])
+    ≡ ([] ∷ []) ∷ ((named (codes "b") ∷ []) ∷ [] ∷ [])
+    ∷ ((named a ∷ named (codes "b") ∷ []) ∷ (named a ∷ named (codes "d") ∷ []) ∷ (named a ∷ []) ∷ (anonymous 1 0 0 ∷ []) ∷ (named (codes "c") ∷ []) ∷ (anonymous 4 0 0 ∷ []) ∷ [] ∷ []) ∷ []
+unfolding layers_of_sheets layers_in rules_in tokens_in layer_order declared
+layers_ordered = refl

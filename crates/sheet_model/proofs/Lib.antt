@@ -1,3 +1,4 @@
+pub mod ExampleCases
 mod Examples
 mod ValueExamples
 mod SelectorExamples

@@ -1,20 +1,21 @@
 -- One rule, one declaration and one sheet more.
-use Rattle.std.proofs.Common.{◌≡◌, ℕ, ◌+◌, Bool, true, false, List, [], ◌∷◌, ◌++◌, length, map, filter, Some, None, refl, sym, ap, ◌∙◌, arith, append_assoc, append-nil}
-use Rattle.std.specs.Prelude.{Vec, flat_map, filter_map}
+use Rattle.std.proofs.Common.{◌≡◌, ℕ, ◌+◌, List, [], ◌∷◌, ◌++◌, length, map, true, false, Option, Some, None, refl, sym, ap, ◌∙◌, arith, append_assoc, append-nil}
+use Rattle.std.specs.Prelude.{Vec, flat_map, filter_map, option_map, option_to_list}
+use Rattle.std.specs.List.{cons_option}
 use Rattle.std.specs.declared.alloc.Global.{Global}
+use Rattle.base_model.specs.Origin.{Origin}
 use Rattle.base_model.specs.Sheet.{Sheet}
-use Rattle.syntax_model.specs.Rules.{Rule}
-use Rattle.selector_model.specs.Selector as selectors
-use Rattle.sheet_model.specs.SelectorsIn.{selectors_in}
+use Rattle.layer_model.specs.Name.{LayerName}
+use Rattle.syntax_model.specs.Rules.{Context, Rule}
 use Rattle.sheet_model.specs.Declared as model
-use Rattle.sheet_model.specs.Declared.{block_declared}
-use Rattle.sheet_model.specs.StyleRules.{style_rule_in, style_rules_in}
-use Rattle.sheet_model.specs.Sources.{PlacedRule, placed, all_placed, rules_from}
+use Rattle.sheet_model.specs.StyleRules.{StyleRule, style_rule_in, style_rules_in, layer_in}
+use Rattle.sheet_model.specs.Sources.{PlacedRule, placed, all_placed, edition_of, enabled_among, rules_from, sheet_layers}
 use Rattle.layer_order.specs.View.{origin_of}
 use Rattle.selector_types.specs.declared.selector.Selector.{Selector}
 use Rattle.selector_types.specs.View.{selector_of}
 use Rattle.sheet_set.specs.declared.sheet_rule.SheetRule.{SheetRule}
-use Rattle.sheet_set.specs.View.{declared_of, rule_of, rules_with}
+use Rattle.sheet_set.specs.View.{declared_count, own_rules, rule_of, rules_with}
+use Rattle.value_parser.specs.View.{declared_of}
 
 -- what is kept so far, and what each item that is left gives, is the whole: one item more
 pub one_more : {A B : Type 0} (f : A → List B) (old new whole : List B) (left after : List A) (item : A) (given : List B) → left ≡ item ∷ after → f item ≡ given → new ≡ old ++ given → old ++ flat_map f left ≡ whole → new ++ flat_map f after ≡ whole
@@ -32,44 +33,95 @@ rules_with-last (r ∷ rules) [] rule list same = absurd (omega (arith, same))
 rules_with-last (r ∷ rules) (l ∷ lists) rule list same =
     ap (λ rest. rule_of r l.items ∷ rest) (rules_with-last rules lists rule list (omega (arith, same)))
 
-pub rule_is : (rule : SheetRule) (list : List Selector) (kept : List model.Declared) (sheet : Sheet) (position index : ℕ) → map declared_of rule.declarations.items ≡ kept → origin_of rule.origin ≡ sheet.origin
-    → rule.sheet ≡ sheet.number → rule.position ≡ position → rule.first_index ≡ index → rule_of rule list ≡ placed sheet position index (record { selectors = map selector_of list; declarations = kept })
-rule_is rule list kept sheet position index d o n p i = cc
+pub rule_is : (rule : SheetRule) (list : List Selector) (kept : List model.Declared) (context : Context) (sheet : Sheet) (position index : ℕ) → map declared_of rule.declarations.items ≡ kept → origin_of rule.origin ≡ sheet.origin
+    → rule.layer ≡ context.layer → rule.sheet ≡ sheet.number → rule.position ≡ position → rule.first_index ≡ index → rule_of rule list ≡ placed sheet position index (record { selectors = map selector_of list; declarations = kept; context = context })
+rule_is rule list kept context sheet position index d o l n p i = cc
+
+-- rules after rules: those that come later are counted on
+pub all_placed-append : (sheet : Sheet) (position index : ℕ) (rule : Option StyleRule) (rules : List StyleRule) → all_placed sheet position index (option_to_list rule ++ rules) ≡ all_placed sheet position index (option_to_list rule) ++ all_placed sheet position (index + declared_count rule) rules
+all_placed-append sheet position index None rules = ap (λ n. all_placed sheet position n rules) (omega arith)
+all_placed-append sheet position index (Some rule) rules = refl
 
 -- the rules that are collected, and those that are left of a sheet, are the whole
 module _ (sheet : Sheet) (position : ℕ) (whole : List PlacedRule) where
   abbrev pub Completes : List PlacedRule → ℕ → List Rule → Type 0
   Completes found index left = found ++ all_placed sheet position index (filter_map style_rule_in left) ≡ whole
 
-  pub rule_dropped : (found : List PlacedRule) (index : ℕ) (left after : List Rule) (rule : Rule) → left ≡ rule ∷ after → selectors_in rule.prelude ≡ None → Completes found index left → Completes found index after
-  rule_dropped found index left after rule is none before = rw (is, none) at before
+  first_of : (kept : Option StyleRule) (rules : List StyleRule) → cons_option kept rules ≡ option_to_list kept ++ rules
+  first_of None rules = refl
+  first_of (Some rule) rules = refl
 
-  pub rule_kept : (found new : List PlacedRule) (index next : ℕ) (left after : List Rule) (rule : Rule) (own : PlacedRule) (list : List selectors.Selector) → left ≡ rule ∷ after → selectors_in rule.prelude ≡ Some list
-      → own ≡ placed sheet position index (record { selectors = list; declarations = block_declared rule.block }) → new ≡ found ++ own ∷ [] → next ≡ index + length own.declarations → Completes found index left → Completes new next after
-  rule_kept found new index next left after rule own list is some made added counted before =
-      let made_at : next ≡ index + length (block_declared rule.block) = counted ∙ ap (λ (r : PlacedRule). index + length r.declarations) made in
-      let rest = all_placed sheet position next (filter_map style_rule_in after) in
-      let here : found ++ (own ∷ rest) ≡ whole = (ap (λ (r : PlacedRule). found ++ (r ∷ rest)) made ∙ ap (λ n. found ++ (placed sheet position index (record { selectors = list; declarations = block_declared rule.block }) ∷ all_placed sheet position n (filter_map style_rule_in after))) made_at ∙ (rw (is, some) at before)) in
-      ap (λ l. l ++ rest) added ∙ append_assoc found (own ∷ []) rest ∙ here
+  -- one rule more
+  pub style_added : (found new : List PlacedRule) (index next : ℕ) (left after : List Rule) (rule : Rule) → left ≡ rule ∷ after → new ≡ found ++ all_placed sheet position index (option_to_list (style_rule_in rule)) → next ≡ index + declared_count (style_rule_in rule) → Completes found index left → Completes new next after
+  style_added found new index next left after rule is added counted before =
+      let kept = style_rule_in rule in
+      let rest = filter_map style_rule_in after in
+      let all : found ++ all_placed sheet position index (option_to_list kept ++ rest) ≡ whole = ap (λ l. found ++ all_placed sheet position index l) (sym (ap (filter_map style_rule_in) is ∙ first_of kept rest)) ∙ before in
+      ap (λ l. l ++ all_placed sheet position next rest) added
+      ∙ (append_assoc found (all_placed sheet position index (option_to_list kept)) (all_placed sheet position next rest)
+      ∙ (ap (λ n. found ++ (all_placed sheet position index (option_to_list kept) ++ all_placed sheet position n rest)) counted
+      ∙ (ap (λ l. found ++ l) (sym (all_placed-append sheet position index kept rest)) ∙ all)))
 
   pub rules_done : (found : List PlacedRule) (index : ℕ) (left : List Rule) → left ≡ [] → Completes found index left → found ≡ whole
   rules_done found index left none before = sym (append-nil found) ∙ (rw none at before)
+
+-- the layers that are collected, and those that are left, are the whole
+module _ {A : Type 0} (whole : List A) (f : Rule → Option A) where
+  abbrev pub Fills : List A → List Rule → Type 0
+  Fills found left = found ++ filter_map f left ≡ whole
+
+  given : (o : Option A) (rest : List A) (found : List A) → found ++ cons_option o rest ≡ (found ++ option_to_list o) ++ rest
+  given None rest found = ap (λ l. l ++ rest) (sym (append-nil found))
+  given (Some a) rest found = sym (append_assoc found (a ∷ []) rest)
+
+  pub one_filled : (found new : List A) (left after : List Rule) (rule : Rule) → left ≡ rule ∷ after → new ≡ found ++ option_to_list (f rule) → Fills found left → Fills new after
+  one_filled found new left after rule is added before =
+      ap (λ l. l ++ filter_map f after) added
+      ∙ (sym (given (f rule) (filter_map f after) found) ∙ (ap (λ l. found ++ filter_map f l) (sym is) ∙ before))
+
+  pub all_filled : (found : List A) (left : List Rule) → left ≡ [] → Fills found left → found ≡ whole
+  all_filled found left none before = sym (append-nil found) ∙ (rw none at before)
 
 -- the rules that were there, and all of a sheet
 abbrev pub collected : Sheet → ℕ → List PlacedRule → List Rule → List PlacedRule
 collected sheet position found rules = found ++ all_placed sheet position 0 (filter_map style_rule_in rules)
 
--- and so of the enabled sheets
-abbrev pub is_enabled : Sheet → Bool
-is_enabled sheet = sheet.enabled
+-- a layer that a sheet declares, with its origin
+abbrev pub layer_given : Sheet → Rule → Option (Origin × LayerName)
+layer_given sheet rule = option_map (λ name. (sheet.origin, name)) (layer_in rule)
 
+given_step : (sheet : Sheet) (o : Option LayerName) (rest : List LayerName) (given : List (Origin × LayerName)) → given ≡ map (λ name. (sheet.origin, name)) rest → cons_option (option_map (λ name. (sheet.origin, name)) o) given ≡ map (λ name. (sheet.origin, name)) (cons_option o rest)
+given_step sheet None rest given h = h
+given_step sheet (Some name) rest given h = ap (λ l. (sheet.origin, name) ∷ l) h
+
+pub layers_given : (sheet : Sheet) (rules : List Rule) → filter_map (layer_given sheet) rules ≡ map (λ name. (sheet.origin, name)) (filter_map layer_in rules)
+layers_given sheet [] = refl
+layers_given sheet (rule ∷ rules) =
+    given_step sheet (layer_in rule) (filter_map layer_in rules) (filter_map (layer_given sheet) rules) (layers_given sheet rules)
+
+-- Sheet by sheet: of a list of enabled and disabled ones.
 pub sheet_enabled : (whole found new : List PlacedRule) (position next : ℕ) (sheet : Sheet) (left : List Sheet) → sheet.enabled ≡ true
-    → new ≡ found ++ all_placed sheet position 0 (style_rules_in sheet.text) → next ≡ position + 1 → found ++ rules_from position (filter is_enabled (sheet ∷ left)) ≡ whole → new ++ rules_from next (filter is_enabled left) ≡ whole
+    → new ≡ found ++ all_placed sheet position 0 (style_rules_in (edition_of sheet) sheet.text) → next ≡ position + 1 → found ++ rules_from position (enabled_among (sheet ∷ left)) ≡ whole → new ++ rules_from next (enabled_among left) ≡ whole
 sheet_enabled whole found new position next sheet left on added n before =
-    let own = all_placed sheet position 0 (style_rules_in sheet.text) in
-    let rest = filter is_enabled left in
-    ap (λ l. l ++ rules_from next rest) added ∙ append_assoc found own (rules_from next rest) ∙ ap (λ k. found ++ (own ++ rules_from k rest)) n ∙ (rw on at before)
+    let own = all_placed sheet position 0 (style_rules_in (edition_of sheet) sheet.text) in
+    let rest = enabled_among left in
+    ap (λ l. l ++ rules_from next rest) added
+    ∙ (append_assoc found own (rules_from next rest)
+    ∙ (ap (λ k. found ++ (own ++ rules_from k rest)) n ∙ (rw on at before)))
 
-pub sheet_disabled : (whole found : List PlacedRule) (position : ℕ) (sheet : Sheet) (left : List Sheet) → sheet.enabled ≡ false
-    → found ++ rules_from position (filter is_enabled (sheet ∷ left)) ≡ whole → found ++ rules_from position (filter is_enabled left) ≡ whole
-sheet_disabled whole found position sheet left off before = rw off at before
+pub sheet_disabled : {A : Type 0} (whole found : List A) (f : List Sheet → List A) (sheet : Sheet) (left : List Sheet) → sheet.enabled ≡ false
+    → found ++ f (enabled_among (sheet ∷ left)) ≡ whole → found ++ f (enabled_among left) ≡ whole
+sheet_disabled whole found f sheet left off before = rw off at before
+
+pub layers_enabled : (whole found new : List (Origin × LayerName)) (sheet : Sheet) (left : List Sheet) → sheet.enabled ≡ true
+    → new ≡ found ++ sheet_layers sheet → found ++ flat_map sheet_layers (enabled_among (sheet ∷ left)) ≡ whole → new ++ flat_map sheet_layers (enabled_among left) ≡ whole
+layers_enabled whole found new sheet left on added before =
+    ap (λ l. l ++ flat_map sheet_layers (enabled_among left)) added
+    ∙ (append_assoc found (sheet_layers sheet) (flat_map sheet_layers (enabled_among left)) ∙ (rw on at before))
+
+-- the rules of its own that a sheet has
+pub own_enabled : (sheet : Sheet) → sheet.enabled ≡ true → own_rules sheet ≡ []
+own_enabled sheet on = rw on refl
+
+pub own_disabled : (sheet : Sheet) → sheet.enabled ≡ false → own_rules sheet ≡ all_placed sheet 0 0 (style_rules_in (edition_of sheet) sheet.text)
+own_disabled sheet off = rw off refl

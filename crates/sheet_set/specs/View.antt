@@ -1,22 +1,21 @@
--- What the rules and declarations of the code stand for.
-use Rattle.std.specs.Prelude.{List, [], ◌∷◌, map, Vec}
+-- What the rules and sheets of the code stand for.
+use Rattle.std.specs.Prelude.{ℕ, if◌then◌else◌, List, [], ◌∷◌, length, map, Vec, Option}
+use Rattle.std.specs.Option.{option_map_or}
 use Rattle.std.specs.declared.alloc.Global.{Global}
-use Rattle.sheet_model.specs.Declared as model
-use Rattle.sheet_model.specs.Sources.{PlacedRule, Sources}
-use Rattle.property_table.specs.View.{property_of, value_of}
+use Rattle.base_model.specs.Sheet.{Sheet}
+use Rattle.sheet_model.specs.StyleRules.{StyleRule, style_rules_in}
+use Rattle.sheet_model.specs.Sources.{PlacedRule, Sources, all_placed, edition_of}
 use Rattle.layer_order.specs.View.{origin_of}
 use Rattle.selector_types.specs.declared.selector.Selector.{Selector}
 use Rattle.selector_types.specs.View.{selector_of}
-use Rattle.property_table.specs.declared.declared.Declared.{Declared}
+use Rattle.value_parser.specs.View.{declared_of}
 use Rattle.sheet_set.specs.declared.sheet_rule.SheetRule.{SheetRule}
+use Rattle.sheet_set.specs.declared.kept_sheet.KeptSheet.{KeptSheet}
 use Rattle.sheet_set.specs.declared.sheets.Sheets.{Sheets}
 
-abbrev pub declared_of : Declared → model.Declared
-declared_of d = record {
-  target = model.longhand (property_of d.property);
-  given = model.exactly (value_of d.value);
-  important = d.important;
-}
+-- how many declarations of a rule are kept
+abbrev pub declared_count : Option StyleRule → ℕ
+declared_count rule = option_map_or (λ r. length r.declarations) rule 0
 
 -- a rule with its selectors
 abbrev pub rule_of : SheetRule → List Selector → PlacedRule
@@ -24,6 +23,7 @@ rule_of rule selectors = record {
   selectors = map selector_of selectors;
   declarations = map declared_of rule.declarations.items;
   origin = origin_of rule.origin;
+  layer = rule.layer;
   sheet = rule.sheet;
   position = rule.position;
   first_index = rule.first_index;
@@ -35,9 +35,22 @@ rules_with [] lists = []
 rules_with (rule ∷ rules) [] = []
 rules_with (rule ∷ rules) (list ∷ lists) = rule_of rule list.items ∷ rules_with rules lists
 
+-- the sheet that is kept, and the rules that it has of its own
+abbrev pub kept_seen : KeptSheet → Sheet
+kept_seen kept =
+    record { number = kept.number; origin = origin_of kept.origin; enabled = kept.enabled; text = kept.text }
+
+abbrev pub own_kept : KeptSheet → List PlacedRule
+own_kept kept = rules_with kept.own.rules.items kept.own.selectors.items
+
+-- those of a disabled sheet; the rules of an enabled one are among those of all
+abbrev pub own_rules : Sheet → List PlacedRule
+own_rules sheet =
+    if sheet.enabled then [] else all_placed sheet 0 0 (style_rules_in (edition_of sheet) sheet.text)
+
 -- the rules of the enabled sheets
 abbrev pub rules_of : Sheets → List PlacedRule
 rules_of sheets = rules_with sheets.rules.items sheets.selectors.items
 
 abbrev pub sources_seen : Sheets → Sources
-sources_seen sheets = record { rules = rules_of sheets }
+sources_seen sheets = record { rules = rules_of sheets; layers = sheets.layers }

@@ -1,13 +1,17 @@
-//! The style sheets of a document: the rules and declarations of them that are kept.
+//! The style sheets of a document: the rules, layers and declarations of them that are kept.
 #![tactic(auto)]
 
 mod declared;
+mod kept_sheet;
 mod parse_block;
+mod ranks;
 mod rule_collector;
 mod sheet_rule;
 mod sheets;
 
+pub use kept_sheet::KeptSheet;
 pub use layer_order::SheetInput;
-pub use property_table::Declared;
+pub use parse_block::parse_style;
 pub use sheet_rule::SheetRule;
 pub use sheets::Sheets;
+pub use value_parser::Declared;

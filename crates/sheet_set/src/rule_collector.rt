@@ -1,46 +1,51 @@
-//! The rules that were collected so far.
+//! The rules and layers that were collected so far.
 
-ghost use Rattle.std.specs.Prelude.{◌≡◌, ◌++◌, [], OnOk, length};
-ghost use Rattle.layer_order.specs.View.{sheet_of};
-ghost use Rattle.sheet_model.specs.Sources.{all_placed};
-ghost use Rattle.sheet_model.specs.StyleRules.{style_rules_in};
-ghost use Rattle.sheet_set.specs.View.{rules_with};
+ghost use Rattle.std.specs.Prelude.{◌≡◌, ◌+◌, ◌++◌, ◌∷◌, [], IfOk, OnOk, length, option_to_list};
+ghost use Rattle.css_rules.specs.View.{style_of};
+ghost use Rattle.layer_order.specs.View.{declarations, origin_of, sheet_of};
+ghost use Rattle.sheet_model.specs.Sources.{all_placed, edition_of, sheet_layers};
+ghost use Rattle.sheet_model.specs.StyleRules.{style_rule_of, style_rules_in};
+ghost use Rattle.sheet_set.specs.View.{declared_count, rules_with};
 
 use crate::parse_block::parse_block;
 use crate::{SheetInput, SheetRule};
-use css_rules::sheet_rules;
+use css_rules::{Context, Rule, SheetEdition, StyleBlock, edition_rules};
+use layer_order::{LayerName, Origin};
 use selector_parser::selector_list;
 use selector_types::Selector;
 use std::alloc::Global;
 use stylo_base::NoMemory;
 
-/// Rules, and the selectors of each.
+/// Rules with the selectors of each, and layers as they are declared, each with its origin.
 #[derive(Drop)]
-pub struct RuleCollector {
+pub(crate) struct RuleCollector {
     pub rules: Vec<SheetRule>,
     pub selectors: Vec<Vec<Selector>>,
+    pub layers: Vec<(Origin, LayerName)>,
 }
 
 /// The number of a sheet, and its position among the enabled ones.
 #[derive(Clone, Copy, Debug)]
-pub struct SheetPosition {
+pub(crate) struct SheetPosition {
     pub number: u32,
     pub position: u32,
 }
 
 impl RuleCollector {
-    /// No rules.
+    /// No rules and no layers.
     pub fn new(alloc: Global) -> RuleCollector
         ensures empty { rules_with result.rules.items result.selectors.items ≡ [] }
         ensures paired { length result.rules.items ≡ length result.selectors.items }
+        ensures layers { result.layers.items ≡ [] }
     {
         RuleCollector {
             rules: Vec::new(alloc),
             selectors: Vec::new(alloc),
+            layers: Vec::new(alloc),
         }
     }
 
-    /// Adds the rules of a sheet.
+    /// Adds the rules and layers of a sheet.
     pub fn add_sheet(
         &mut self,
         alloc: Global,
@@ -50,20 +55,70 @@ impl RuleCollector {
         requires { length self.old.rules.items ≡ length self.old.selectors.items }
         ensures adds { OnOk result (rules_with self.new.rules.items self.new.selectors.items
             ≡ rules_with self.old.rules.items self.old.selectors.items
-            ++ all_placed (sheet_of at.number sheet.now) at.position 0 (style_rules_in sheet.now.text)) }
+            ++ all_placed (sheet_of at.number sheet.now) at.position 0
+            (style_rules_in (edition_of (sheet_of at.number sheet.now)) sheet.now.text)) }
+        ensures layers { OnOk result (declarations self.new.layers.items
+            ≡ declarations self.old.layers.items ++ sheet_layers (sheet_of at.number sheet.now)) }
         ensures paired { OnOk result (length self.new.rules.items ≡ length self.new.selectors.items) }
     {
+        let edition = SheetEdition {
+            sheet: at.number,
+            edition: 0,
+        };
         let mut index = 0;
-        for rule in &sheet_rules(alloc, sheet.text.as_str())? {
-            let Some(selectors) = selector_list(alloc, rule.prelude.as_slice())? else {
-                continue;
-            };
-            let declarations = parse_block(alloc, rule.block.as_slice())?;
-            let rule = SheetRule::new(declarations, sheet.origin, at, index)?;
-            index = rule.end();
-            self.rules.push(rule)?;
-            self.selectors.push(selectors)?;
+        for rule in &edition_rules(alloc, edition, sheet.text.as_str())? {
+            match rule {
+                Rule::Style(style) => index = self.add_style(alloc, at, sheet, index, style)?,
+                Rule::Layer(context) => self.add_layer(sheet.origin, context)?,
+            }
         }
+        Ok(())
+    }
+
+    /// Adds a qualified rule, unless its prelude is no list of selectors. Before it `index`
+    /// declarations of its sheet are kept; the answer is how many are before the next one.
+    fn add_style(
+        &mut self,
+        alloc: Global,
+        at: SheetPosition,
+        sheet: &SheetInput,
+        index: u64,
+        style: &StyleBlock,
+    ) -> Result<u64, NoMemory>
+        requires { length self.old.rules.items ≡ length self.old.selectors.items }
+        ensures adds { OnOk result (rules_with self.new.rules.items self.new.selectors.items
+            ≡ rules_with self.old.rules.items self.old.selectors.items
+            ++ all_placed (sheet_of at.number sheet.now) at.position index
+            (option_to_list (style_rule_of (style_of style.now)))) }
+        ensures next { IfOk result (λ next. next ≡ index + declared_count (style_rule_of (style_of style.now))) }
+        ensures paired { OnOk result (length self.new.rules.items ≡ length self.new.selectors.items) }
+        ensures layers { self.new.layers ≡ self.old.layers }
+    {
+        let Some(selectors) = selector_list(alloc, style.prelude.as_slice())? else {
+            return Ok(index);
+        };
+        let declarations = parse_block(alloc, style.block.as_slice())?;
+        let rule = SheetRule::new(
+            declarations,
+            sheet.origin,
+            style.context.layer.share()?,
+            at,
+            index,
+        )?;
+        let next = rule.end();
+        self.rules.push(rule)?;
+        self.selectors.push(selectors)?;
+        Ok(next)
+    }
+
+    /// Adds a layer that a sheet of this origin declares.
+    fn add_layer(&mut self, origin: Origin, context: &Context) -> Result<(), NoMemory>
+        ensures adds { OnOk result (declarations self.new.layers.items
+            ≡ declarations self.old.layers.items ++ (origin_of origin, context.now.layer) ∷ []) }
+        ensures rules { self.new.rules ≡ self.old.rules }
+        ensures selectors { self.new.selectors ≡ self.old.selectors }
+    {
+        self.layers.push((origin, context.layer.share()?))?;
         Ok(())
     }
 }

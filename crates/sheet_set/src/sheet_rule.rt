@@ -4,15 +4,16 @@ ghost use Rattle.std.specs.Prelude.{◌≡◌, ◌+◌, ◌<◌, ◌^◌, IfOk, 
 
 use crate::Declared;
 use crate::rule_collector::SheetPosition;
-use layer_order::Origin;
+use layer_order::{LayerName, Origin};
 use stylo_base::NoMemory;
 
-/// A rule of a sheet: its declarations, where its sheet comes from, and how many declarations are kept
-/// before it in the sheet's text.
+/// A rule of a sheet: its declarations, its cascade layer, where its sheet comes from, and how many
+/// declarations are kept before it in the sheet's text.
 #[derive(Drop)]
 pub struct SheetRule {
     declarations: Vec<Declared>,
     origin: Origin,
+    layer: LayerName,
     sheet: u32,
     position: u32,
     first_index: u64,
@@ -25,12 +26,13 @@ impl SheetRule {
     pub(crate) fn new(
         declarations: Vec<Declared>,
         origin: Origin,
+        layer: LayerName,
         at: SheetPosition,
         first_index: u64,
     ) -> Result<SheetRule, NoMemory>
         ensures { IfOk result (λ rule. (rule.declarations ≡ declarations) × ((rule.origin ≡ origin)
-            × ((rule.sheet ≡ at.number) × ((rule.position ≡ at.position)
-            × (rule.first_index ≡ first_index))))) }
+            × ((rule.layer ≡ layer) × ((rule.sheet ≡ at.number) × ((rule.position ≡ at.position)
+            × (rule.first_index ≡ first_index)))))) }
     {
         if first_index.checked_add(declarations.len() as u64).is_none() {
             return Err(NoMemory);
@@ -38,6 +40,7 @@ impl SheetRule {
         Ok(SheetRule {
             declarations,
             origin,
+            layer,
             sheet: at.number,
             position: at.position,
             first_index,
@@ -64,6 +67,13 @@ impl SheetRule {
         ensures { result ≡ self.now.origin }
     {
         self.origin
+    }
+
+    /// The full name of its cascade layer.
+    pub fn layer(&self) -> &LayerName
+        ensures { result.now ≡ self.now.layer }
+    {
+        &self.layer
     }
 
     /// The number of its sheet.

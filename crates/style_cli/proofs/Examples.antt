@@ -13,19 +13,23 @@ use Rattle.scene_model.specs.Element.{Element}
 use Rattle.scene_model.specs.Ancestors.{ancestors}
 use Rattle.scene_model.specs.Nodes.{Node, scene_of, tree_order}
 use Rattle.syntax_model.specs.TokensIn.{tokens_in}
-use Rattle.syntax_model.specs.RulesIn.{rules_in, declarations_in}
+use Rattle.layer_model.specs.Name.{no_layer}
+use Rattle.layer_model.specs.Order.{layers_of, layer_order, declared, rank_in}
+use Rattle.syntax_model.specs.RulesIn.{declarations_in}
+use Rattle.syntax_model.specs.SheetRules.{rules_in}
 use Rattle.selector_model.specs.Selector.{Selector, subject, any, with_test, simple, type_selector, class_selector}
 use Rattle.value_model.specs.Color.{opaque, named_colors}
 use Rattle.value_model.specs.Value.{keyword, color}
 use Rattle.value_model.specs.Table.{table}
 use Rattle.sheet_model.specs.SelectorsIn.{selectors_in}
 use Rattle.sheet_model.specs.ValueIn.{value_in}
-use Rattle.sheet_model.specs.Declared.{Declared, declares}
-use Rattle.sheet_model.specs.StyleRules.{style_rules_in}
-use Rattle.sheet_model.specs.Sources.{PlacedRule, Sources, sources_of, rules_of_sheets}
+use Rattle.sheet_model.specs.Declared.{Declared}
+use Rattle.sheet_model.proofs.ExampleCases.{declares}
+use Rattle.sheet_model.specs.StyleRules.{style_rules_in, layers_in}
+use Rattle.sheet_model.specs.Sources.{PlacedRule, Sources, sources_of, rules_of_sheets, layers_of_sheets}
 use Rattle.cascade_model.specs.Key.{Matched}
-use Rattle.cascade_model.specs.Matching.{matching, all_matched}
-use Rattle.cascade_model.specs.Winner.{winner}
+use Rattle.cascade_model.specs.Matching.{matching, matching_rules, matching_style, all_matched}
+use Rattle.cascade_model.specs.Ending.{ending_of}
 use Rattle.cascade_model.specs.StyleOf.{style_of}
 use Rattle.report_text.specs.Lines.{batch_line, element_line}
 use Rattle.layer_order.specs.View.{sheets_of}
@@ -52,15 +56,20 @@ rule first_index selectors declarations = record {
   selectors = selectors;
   declarations = declarations;
   origin = author;
+  layer = no_layer;
   sheet = 1;
   position = 0;
   first_index = first_index;
 }
 
+-- rules in no layer
+abbrev over : List PlacedRule → Sources
+over rules = record { rules = rules; layers = layers_of [] }
+
 -- the declarations of a rule of a list, where it applies with this specificity
 abbrev applied : List PlacedRule → ℕ → Specificity → List Matched
 applied rules k specificity =
-    option_map_or (λ rule. all_matched rule specificity rule.first_index rule.declarations) (slice_get rules k) []
+    option_map_or (λ rule. all_matched (layers_of []) rule specificity rule.first_index rule.declarations) (slice_get rules k) []
 
 digit_0 : decimal 0 ≡ codes "0"
 digit_0 = decimal_digit 0 (lit< tt)
@@ -102,8 +111,8 @@ smallest_job_lines : lines_of (scene_of smallest_job.nodes) (sources_of (sheets_
     ≡ codes "batch 0: 0 accepted, 0 refused, 1 matched, 1 cascaded\n"
     ∷ codes "1 a{display: block}\n"
     ∷ []
-unfolding style_of ancestors winner batch_line element_line table scene_of tree_order matching rules_of_sheets
-smallest_job_lines = rw (digit_0, digit_1) refl
+unfolding style_of ancestors ending_of batch_line element_line table scene_of tree_order matching_rules matching_style layer_order declared rank_in rules_of_sheets layers_of_sheets
+smallest_job_lines = rw (digit_0, digit_1) (simp gets)
 
 smallest_job_text : text_of smallest_job ≡ encode_utf8_all (codes "batch 0: 0 accepted, 0 refused, 1 matched, 1 cascaded\n1 a{display: block}\n")
 smallest_job_text = in_utf8 (scene_of smallest_job.nodes) (sources_of (sheets_of smallest_job.sheets)) _ smallest_job_lines
@@ -124,8 +133,8 @@ first_job_lines : lines_of (scene_of first_job.nodes) (sources_of (sheets_of fir
     ∷ codes "1 html{display: block}\n"
     ∷ codes "2 p{}\n"
     ∷ []
-unfolding style_of ancestors winner batch_line element_line table scene_of tree_order matching rules_of_sheets
-first_job_lines = rw (digit_0, digit_1, digit_2) refl
+unfolding style_of ancestors ending_of batch_line element_line table scene_of tree_order matching_rules matching_style layer_order declared rank_in rules_of_sheets layers_of_sheets
+first_job_lines = rw (digit_0, digit_1, digit_2) (simp gets)
 
 first_job_text : text_of first_job ≡ encode_utf8_all (codes "batch 0: 0 accepted, 0 refused, 2 matched, 2 cascaded\n1 html{display: block}\n2 p{}\n")
 first_job_text = in_utf8 (scene_of first_job.nodes) (sources_of (sheets_of first_job.sheets)) _ first_job_lines
@@ -154,8 +163,8 @@ order_job_lines : lines_of (scene_of order_job.nodes) (sources_of (sheets_of ord
     ∷ codes "3 q{}\n"
     ∷ (codes "5 " ++ (233 ∷ []) ++ codes "{}\n")
     ∷ []
-unfolding style_of ancestors winner batch_line element_line table scene_of tree_order matching rules_of_sheets
-order_job_lines = rw (digit_0, digit_1, digit_2, digit_3, digit_4, digit_5, digit_6) refl
+unfolding style_of ancestors ending_of batch_line element_line table scene_of tree_order matching_rules matching_style layer_order declared rank_in rules_of_sheets layers_of_sheets
+order_job_lines = rw (digit_0, digit_1, digit_2, digit_3, digit_4, digit_5, digit_6) (simp gets)
 
 order_job_text : text_of order_job ≡ encode_utf8_all ((codes "batch 0: 0 accepted, 0 refused, 6 matched, 6 cascaded\n1 html{display: block}\n2 p{}\n4 i{}\n6 b{}\n3 q{}\n5 " ++ (233 ∷ []) ++ codes "{}\n"))
 order_job_text = in_utf8 (scene_of order_job.nodes) (sources_of (sheets_of order_job.sheets)) _ order_job_lines
@@ -182,8 +191,8 @@ page_job_lines : lines_of (scene_of page_job.nodes) (sources_of (sheets_of page_
     ∷ codes "4 p{}\n"
     ∷ codes "5 a{}\n"
     ∷ []
-unfolding style_of ancestors winner batch_line element_line table scene_of tree_order matching rules_of_sheets
-page_job_lines = rw (digit_0, digit_1, digit_2, digit_3, digit_4, digit_5) refl
+unfolding style_of ancestors ending_of batch_line element_line table scene_of tree_order matching_rules matching_style layer_order declared rank_in rules_of_sheets layers_of_sheets
+page_job_lines = rw (digit_0, digit_1, digit_2, digit_3, digit_4, digit_5) (simp gets)
 
 page_job_text : text_of page_job ≡ encode_utf8_all (codes "batch 0: 0 accepted, 0 refused, 5 matched, 5 cascaded\n1 html{display: block}\n2 body{}\n3 h1{}\n4 p{}\n5 a{}\n")
 page_job_text = in_utf8 (scene_of page_job.nodes) (sources_of (sheets_of page_job.sheets)) _ page_job_lines
@@ -209,28 +218,28 @@ sheet_job_rules =
     ∷ rule 4 (subject (with_test (simple (type_selector (codes "i"))) any) ∷ []) (declares 3 (keyword (codes "visible")) ∷ [])
     ∷ []
 
-sheet_job_read : rules_of_sheets (sheets_of sheet_job.sheets) ≡ sheet_job_rules
-unfolding rules_of_sheets style_rules_in rules_in tokens_in declarations_in selectors_in value_in named_colors table
+sheet_job_read : sources_of (sheets_of sheet_job.sheets) ≡ over sheet_job_rules
+unfolding rules_of_sheets layers_of_sheets layers_in layer_order declared style_rules_in rules_in tokens_in declarations_in selectors_in value_in named_colors table
 sheet_job_read = refl
 
-sheet_job_at_1 : matching (scene_of sheet_job.nodes) (record { rules = sheet_job_rules }) 1
+sheet_job_at_1 : matching (scene_of sheet_job.nodes) (over sheet_job_rules) 1
     ≡ applied sheet_job_rules 2 (record { ids = 0; classes = 0; types = 0 })
-unfolding matching scene_of tree_order
+unfolding matching_rules matching_style layer_order declared rank_in scene_of tree_order
 sheet_job_at_1 = simp gets
 
-sheet_job_at_2 : matching (scene_of sheet_job.nodes) (record { rules = sheet_job_rules }) 2
+sheet_job_at_2 : matching (scene_of sheet_job.nodes) (over sheet_job_rules) 2
     ≡ applied sheet_job_rules 0 (record { ids = 0; classes = 0; types = 1 }) ++ (applied sheet_job_rules 1 (record { ids = 0; classes = 1; types = 0 }) ++ applied sheet_job_rules 2 (record { ids = 0; classes = 0; types = 0 }))
-unfolding matching scene_of tree_order
+unfolding matching_rules matching_style layer_order declared rank_in scene_of tree_order
 sheet_job_at_2 = simp gets
 
-sheet_job_at_3 : matching (scene_of sheet_job.nodes) (record { rules = sheet_job_rules }) 3
+sheet_job_at_3 : matching (scene_of sheet_job.nodes) (over sheet_job_rules) 3
     ≡ applied sheet_job_rules 0 (record { ids = 0; classes = 0; types = 1 }) ++ applied sheet_job_rules 2 (record { ids = 0; classes = 0; types = 0 })
-unfolding matching scene_of tree_order
+unfolding matching_rules matching_style layer_order declared rank_in scene_of tree_order
 sheet_job_at_3 = simp gets
 
-sheet_job_at_4 : matching (scene_of sheet_job.nodes) (record { rules = sheet_job_rules }) 4
+sheet_job_at_4 : matching (scene_of sheet_job.nodes) (over sheet_job_rules) 4
     ≡ applied sheet_job_rules 2 (record { ids = 0; classes = 0; types = 0 }) ++ applied sheet_job_rules 3 (record { ids = 0; classes = 0; types = 1 })
-unfolding matching scene_of tree_order
+unfolding matching_rules matching_style layer_order declared rank_in scene_of tree_order
 sheet_job_at_4 = simp gets
 
 sheet_job_lines : lines_of (scene_of sheet_job.nodes) (sources_of (sheets_of sheet_job.sheets))
@@ -240,7 +249,7 @@ sheet_job_lines : lines_of (scene_of sheet_job.nodes) (sources_of (sheets_of she
     ∷ codes "4 i{color: #0000ff}\n"
     ∷ codes "3 p{color: #ff0000; display: block; visibility: hidden}\n"
     ∷ []
-unfolding style_of ancestors winner batch_line element_line table scene_of tree_order
+unfolding style_of ancestors ending_of batch_line element_line table scene_of tree_order layer_order declared rank_in
 sheet_job_lines = rw (sheet_job_read, sheet_job_at_1, sheet_job_at_2, sheet_job_at_3, sheet_job_at_4, digit_0, digit_1, digit_2, digit_3, digit_4) refl
 
 sheet_job_text : text_of sheet_job ≡ encode_utf8_all (codes "batch 0: 0 accepted, 0 refused, 4 matched, 4 cascaded\n1 html{display: block; visibility: hidden}\n2 p{color: #0000ff; display: block; visibility: hidden}\n4 i{color: #0000ff}\n3 p{color: #ff0000; display: block; visibility: hidden}\n")
@@ -265,23 +274,23 @@ classes_job_rules =
     ∷ rule 3 (subject any ∷ []) (declares 3 (keyword (codes "hidden")) ∷ [])
     ∷ []
 
-classes_job_read : rules_of_sheets (sheets_of classes_job.sheets) ≡ classes_job_rules
-unfolding rules_of_sheets style_rules_in rules_in tokens_in declarations_in selectors_in value_in named_colors table
+classes_job_read : sources_of (sheets_of classes_job.sheets) ≡ over classes_job_rules
+unfolding rules_of_sheets layers_of_sheets layers_in layer_order declared style_rules_in rules_in tokens_in declarations_in selectors_in value_in named_colors table
 classes_job_read = refl
 
-classes_job_at_1 : matching (scene_of classes_job.nodes) (record { rules = classes_job_rules }) 1
+classes_job_at_1 : matching (scene_of classes_job.nodes) (over classes_job_rules) 1
     ≡ applied classes_job_rules 2 (record { ids = 0; classes = 0; types = 0 })
-unfolding matching scene_of tree_order
+unfolding matching_rules matching_style layer_order declared rank_in scene_of tree_order
 classes_job_at_1 = simp gets
 
-classes_job_at_2 : matching (scene_of classes_job.nodes) (record { rules = classes_job_rules }) 2
+classes_job_at_2 : matching (scene_of classes_job.nodes) (over classes_job_rules) 2
     ≡ applied classes_job_rules 0 (record { ids = 0; classes = 0; types = 1 }) ++ (applied classes_job_rules 1 (record { ids = 0; classes = 1; types = 0 }) ++ applied classes_job_rules 2 (record { ids = 0; classes = 0; types = 0 }))
-unfolding matching scene_of tree_order
+unfolding matching_rules matching_style layer_order declared rank_in scene_of tree_order
 classes_job_at_2 = simp gets
 
-classes_job_at_3 : matching (scene_of classes_job.nodes) (record { rules = classes_job_rules }) 3
+classes_job_at_3 : matching (scene_of classes_job.nodes) (over classes_job_rules) 3
     ≡ applied classes_job_rules 0 (record { ids = 0; classes = 0; types = 1 }) ++ applied classes_job_rules 2 (record { ids = 0; classes = 0; types = 0 })
-unfolding matching scene_of tree_order
+unfolding matching_rules matching_style layer_order declared rank_in scene_of tree_order
 classes_job_at_3 = simp gets
 
 classes_job_lines : lines_of (scene_of classes_job.nodes) (sources_of (sheets_of classes_job.sheets))
@@ -290,7 +299,7 @@ classes_job_lines : lines_of (scene_of classes_job.nodes) (sources_of (sheets_of
     ∷ codes "2 p{color: #0000ff; display: block; visibility: hidden}\n"
     ∷ codes "3 p{color: #ff0000; visibility: hidden}\n"
     ∷ []
-unfolding style_of ancestors winner batch_line element_line table scene_of tree_order
+unfolding style_of ancestors ending_of batch_line element_line table scene_of tree_order layer_order declared rank_in
 classes_job_lines = rw (classes_job_read, classes_job_at_1, classes_job_at_2, classes_job_at_3, digit_0, digit_1, digit_2, digit_3) refl
 
 classes_job_text : text_of classes_job ≡ encode_utf8_all (codes "batch 0: 0 accepted, 0 refused, 3 matched, 3 cascaded\n1 html{display: block; visibility: hidden}\n2 p{color: #0000ff; display: block; visibility: hidden}\n3 p{color: #ff0000; visibility: hidden}\n")
@@ -312,26 +321,26 @@ dropped_job_rules =
     rule 0 (subject (with_test (simple (type_selector (codes "p"))) any) ∷ []) (declares 0 (color (opaque 0 255 0)) ∷ declares 1 (keyword (codes "none")) ∷ [])
     ∷ []
 
-dropped_job_read : rules_of_sheets (sheets_of dropped_job.sheets) ≡ dropped_job_rules
-unfolding rules_of_sheets style_rules_in rules_in tokens_in declarations_in selectors_in value_in named_colors table
+dropped_job_read : sources_of (sheets_of dropped_job.sheets) ≡ over dropped_job_rules
+unfolding rules_of_sheets layers_of_sheets layers_in layer_order declared style_rules_in rules_in tokens_in declarations_in selectors_in value_in named_colors table
 dropped_job_read = refl
 
-dropped_job_at_1 : matching (scene_of dropped_job.nodes) (record { rules = dropped_job_rules }) 1
+dropped_job_at_1 : matching (scene_of dropped_job.nodes) (over dropped_job_rules) 1
     ≡ []
-unfolding matching scene_of tree_order
-dropped_job_at_1 = refl
+unfolding matching_rules matching_style layer_order declared rank_in scene_of tree_order
+dropped_job_at_1 = simp gets
 
-dropped_job_at_2 : matching (scene_of dropped_job.nodes) (record { rules = dropped_job_rules }) 2
+dropped_job_at_2 : matching (scene_of dropped_job.nodes) (over dropped_job_rules) 2
     ≡ applied dropped_job_rules 0 (record { ids = 0; classes = 0; types = 1 })
-unfolding matching scene_of tree_order
-dropped_job_at_2 = refl
+unfolding matching_rules matching_style layer_order declared rank_in scene_of tree_order
+dropped_job_at_2 = simp gets
 
 dropped_job_lines : lines_of (scene_of dropped_job.nodes) (sources_of (sheets_of dropped_job.sheets))
     ≡ codes "batch 0: 0 accepted, 0 refused, 2 matched, 2 cascaded\n"
     ∷ codes "1 html{display: block}\n"
     ∷ codes "2 p{color: #00ff00; display: none}\n"
     ∷ []
-unfolding style_of ancestors winner batch_line element_line table scene_of tree_order
+unfolding style_of ancestors ending_of batch_line element_line table scene_of tree_order layer_order declared rank_in
 dropped_job_lines = rw (dropped_job_read, dropped_job_at_1, dropped_job_at_2, digit_0, digit_1, digit_2) refl
 
 dropped_job_text : text_of dropped_job ≡ encode_utf8_all (codes "batch 0: 0 accepted, 0 refused, 2 matched, 2 cascaded\n1 html{display: block}\n2 p{color: #00ff00; display: none}\n")

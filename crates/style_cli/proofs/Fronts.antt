@@ -1,5 +1,5 @@
 -- Pieces that are written one after another.
-use Rattle.std.proofs.Common.{◌≡◌, ℕ, ◌+◌, ◌<◌, List, [], ◌∷◌, ◌++◌, length, take, drop, Option, sym, ap, ◌∙◌, append-nil, arith, length-append, subst, take-append-drop, get_or, zero-add, add-one, suc}
+use Rattle.std.proofs.Common.{◌≡◌, ℕ, ◌+◌, ◌<◌, List, [], ◌∷◌, ◌++◌, length, take, drop, Option, Some, None, Result, Ok, Err, OnErr, sym, ap, ◌∙◌, append-nil, arith, length-append, subst, take-append-drop, get_or, zero-add, add-one, suc}
 use Rattle.std.specs.List.{flat_map}
 use Rattle.std.proofs.lemmas.Grind.{flat_map-append}
 use Rattle.std.proofs.lemmas.List.{take-append-le}
@@ -50,3 +50,12 @@ pub next_begun : {X : Type 0} (f : X → List ℕ) (xs : List X) (k : ℕ) (d : 
     → Appends a b (flat_map f (take k xs)) → GrewByFront b c piece → GrewByFront a c (flat_map f xs)
 next_begun f xs k d a b c piece below is first next =
     front_after a b c (flat_map f (take k xs)) (f (get_or xs k d)) (flat_map f (drop (k + 1) xs)) (flat_map f xs) (flat_split f xs k d below) first (subst (GrewByFront b c) is next)
+
+-- before anything is written
+pub none_written : (a : Option (List ℕ)) (whole : List ℕ) → GrewByFront a a whole
+none_written None whole = (0, omega arith, tt)
+none_written (Some x) whole = (0, omega arith, sym (append-nil x))
+
+pub on_err : {X Y : Type 0} (r : Result X Y) (P : Type 0) → P → OnErr r P
+on_err (Ok x) P h = tt
+on_err (Err y) P h = h

@@ -1,5 +1,5 @@
 -- Writes in a row, and reads in a row, where the bytes are told.
-use Rattle.std.proofs.Common.{◌≡◌, ◌+◌, ◌≤◌, ℕ, List, ◌++◌, length, take, drop, Some, None, Option, ap, sym, ◌∙◌, append_assoc, arith, length-append, length-take-le}
+use Rattle.std.proofs.Common.{◌≡◌, ◌+◌, ◌≤◌, ℕ, List, ◌++◌, length, take, drop, Some, None, Option, ap, sym, ◌∙◌, append_assoc, arith, length-append}
 use Rattle.std.proofs.Math.Seq.{take-add, drop-append_seam}
 use Rattle.std.proofs.lemmas.List.{take_all, take_at, take-append-le}
 use Rattle.std.specs.Io.KnownBytes.{Appends, Consumes}

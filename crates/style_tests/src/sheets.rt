@@ -1,11 +1,13 @@
 //! What is kept of sheets.
 
-use layer_order::Origin;
+use css_tokens::Wide;
+use layer_order::{LayerName, Origin};
 use property_table::{Keyword, PropId, Value};
-use sheet_set::{Declared, SheetInput, Sheets};
+use sheet_set::{Declared, SheetInput, Sheets, parse_style};
 use std::alloc::Global;
 use std::test::Fail;
 use stylo_base::Text;
+use value_parser::Given;
 
 /// The sheets of a document with one author sheet.
 fn author(alloc: Global, text: &str) -> Result<Sheets, Fail> {
@@ -37,7 +39,7 @@ fn a_declaration(rt: HostRuntime) -> Result<(), Fail> {
     };
     let wanted = Declared {
         property: PropId::Display,
-        value: Value::Keyword(Keyword::InlineBlock),
+        given: Given::Exactly(Value::Keyword(Keyword::InlineBlock)),
         important: false,
     };
     assert_eq!(rt; first, Some(wanted));
@@ -68,5 +70,62 @@ fn a_rule_of_the_second_sheet(rt: HostRuntime) -> Result<(), Fail> {
         _ => None,
     };
     assert_eq!(rt; last, Some((Origin::User, 2, 0, 1)));
+    Ok(())
+}
+
+#[test]
+fn a_disabled_sheet(rt: HostRuntime) -> Result<(), Fail> {
+    let alloc = rt.alloc();
+    let disabled = SheetInput {
+        origin: Origin::User,
+        enabled: false,
+        text: Text::of_str(alloc, "@layer a{p{}}")?,
+    };
+    let sheets = Sheets::start(alloc, &[disabled])?;
+    let none = sheets.layers().rank(Origin::User, &LayerName::none());
+    let seen = match sheets.sheets() {
+        [kept] => Some((
+            kept.number(),
+            kept.origin(),
+            kept.is_enabled(),
+            kept.text().as_str() == "@layer a{p{}}",
+            sheets.rules().len(),
+            none,
+        )),
+        _ => None,
+    };
+    assert_eq!(rt; seen, Some((1, Origin::User, false, true, 0, 0)));
+    Ok(())
+}
+
+#[test]
+fn ranks(rt: HostRuntime) -> Result<(), Fail> {
+    let sheets = author(rt.alloc(), "@layer a{p{}}p{}")?;
+    assert_eq!(rt; sheets.ranks(), [0, 1].as_slice());
+    Ok(())
+}
+
+#[test]
+fn layers(rt: HostRuntime) -> Result<(), Fail> {
+    let sheets = author(rt.alloc(), "@layer a,b;")?;
+    let none = sheets.layers().rank(Origin::Author, &LayerName::none());
+    assert_eq!(rt; none, 2);
+    Ok(())
+}
+
+#[test]
+fn a_style_attribute(rt: HostRuntime) -> Result<(), Fail> {
+    let list = parse_style(rt.alloc(), "color:initial;;display:block!important")?;
+    let color = Declared {
+        property: PropId::Color,
+        given: Given::Wide(Wide::Initial),
+        important: false,
+    };
+    let display = Declared {
+        property: PropId::Display,
+        given: Given::Exactly(Value::Keyword(Keyword::Block)),
+        important: true,
+    };
+    assert_eq!(rt; list.as_slice(), [color, display].as_slice());
     Ok(())
 }

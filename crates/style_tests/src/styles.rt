@@ -1,8 +1,8 @@
 //! The style of every element.
 
-use dom_tree::{Doc, NodeInput, NodeList, States};
+use dom_tree::{Attr, Doc, NodeInput, NodeList, States};
 use layer_order::Origin;
-use plain_style::{match_element, style_all};
+use plain_style::{match_rules, style_all};
 use property_table::{Color, PropId, Value};
 use sheet_set::{SheetInput, Sheets};
 use std::alloc::Global;
@@ -75,10 +75,29 @@ fn of_a_rule(rt: HostRuntime) -> Result<(), Fail> {
     Ok(())
 }
 
+#[test]
+fn of_a_style_attribute(rt: HostRuntime) -> Result<(), Fail> {
+    let alloc = rt.alloc();
+    let style = Attr {
+        name: "style",
+        value: "color:lime",
+    };
+    let root = NodeInput {
+        attrs: &[style],
+        ..node("html")
+    };
+    let list = NodeList::of_root(alloc, root)?;
+    let doc = Doc::of_list(alloc, list)?;
+    let sheets = rules(alloc, Origin::Author, "html{color:red}")?;
+    let colors = values(alloc, &doc, &sheets)?;
+    assert_eq!(rt; colors.as_slice(), [opaque(0, 255, 0)].as_slice());
+    Ok(())
+}
+
 fn declared(alloc: Global, doc: &Doc, sheets: &Sheets) -> Result<Vec<(PropId, u64)>, Fail> {
     let mut seen = Vec::new(alloc);
     if doc.contains(1) {
-        for one in &match_element(alloc, doc, sheets, 1)? {
+        for one in &match_rules(alloc, doc, sheets, 1)? {
             seen.push((one.declared.property, one.index))?;
         }
     }

@@ -25,6 +25,10 @@ abbrev pub join : List Characters → Characters
 join [] = []
 join (text ∷ texts) = text ++ join texts
 
+-- between angles, after what it belongs to
+abbrev pub with_inner : Characters → Characters → Characters
+with_inner outer inner = outer ++ codes "«" ++ inner ++ codes "»"
+
 -- a token with its name in brackets, after `i` for an identifier, `h` for a hash that is one, `u` for any other hash,
 -- or a token as it is spelled, with whitespace as `_`
 abbrev pub shown : Token → Characters

@@ -7,15 +7,10 @@ use Rattle.syntax_model.specs.Outside.{parts_between}
 use Rattle.syntax_model.specs.Preprocess.{preprocessed}
 use Rattle.syntax_model.specs.TokensIn.{tokens_in}
 use Rattle.syntax_model.specs.Rules.{Declaration}
-use Rattle.syntax_model.specs.RulesIn.{declarations_in, pieces_in, rules_in, sheet_rules_in}
-use Rattle.syntax_model.proofs.ExampleCases.{Case, case, join, others, spelled}
-
--- between angles, after what it belongs to
-abbrev with_inner : Characters → Characters → Characters
-with_inner outer inner = outer ++ codes "«" ++ inner ++ codes "»"
-
-abbrev rules_shown : Characters → Characters
-rules_shown text = join (map (λ r. with_inner (spelled r.prelude) (spelled r.block)) (sheet_rules_in text))
+use Rattle.syntax_model.specs.RulesIn.{declarations_in, pieces_in}
+use Rattle.syntax_model.specs.SheetRules.{rules_in, sheet_rules_in}
+use Rattle.syntax_model.proofs.ExampleCases.{Case, case, join, others, spelled, with_inner}
+use Rattle.syntax_model.proofs.LayerExamples.{edition, rules_shown}
 
 abbrev parts_shown : Characters → Characters
 parts_shown text = join (map (λ part. with_inner [] (spelled part)) (parts_between is_comma (tokens_in text)))
@@ -196,7 +191,7 @@ values_nested : map (λ n. length (declarations_in (tokens_in (value_with n)))) 
 unfolding tokens_in declarations_in
 values_nested = refl
 
-preludes_nested : map (λ n. length (sheet_rules_in (prelude_with n))) (64 ∷ 65 ∷ []) ≡ 1 ∷ 0 ∷ []
+preludes_nested : map (λ n. length (sheet_rules_in edition (prelude_with n))) (64 ∷ 65 ∷ []) ≡ 1 ∷ 0 ∷ []
 unfolding tokens_in rules_in
 preludes_nested = refl
 

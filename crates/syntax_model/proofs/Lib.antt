@@ -30,4 +30,5 @@ pub mod OutsideLemmas
 pub mod DeclarationsLemmas
 pub mod ExampleCases
 pub mod TokenExamples
+mod LayerExamples
 pub mod Examples

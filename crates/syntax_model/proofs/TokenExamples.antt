@@ -1,5 +1,5 @@
 -- The tokens of small texts, what their numbers are worth, and how they are written.
-use Rattle.std.proofs.Common.{◌≡◌, Bool, List, [], ◌∷◌, ◌++◌, length, map, refl}
+use Rattle.std.proofs.Common.{◌≡◌, Bool, List, [], ◌∷◌, length, map, refl}
 use Rattle.std.specs.Prelude.{ℤ, pos, neg_ℤ, codes, filter, flat_map, not, ◌&&◌}
 use Rattle.base_model.specs.Text.{Characters, same_text}
 use Rattle.syntax_model.specs.Token.{Token}

@@ -11,6 +11,9 @@ pub mod Spans
 pub mod Kinds
 pub mod Brackets
 pub mod Outside
+pub mod Wide
 pub mod Rules
 pub mod RulesIn
+pub mod LayersIn
+pub mod SheetRules
 pub mod Written

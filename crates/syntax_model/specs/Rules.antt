@@ -1,12 +1,28 @@
 -- Rules and declarations, as a parser of the standard gives them (css-syntax-3, section 5).
-use Rattle.std.specs.Prelude.{List, Bool, Option}
+use Rattle.std.specs.Prelude.{ℕ, List, Bool, Option}
 use Rattle.base_model.specs.Text.{Characters}
+use Rattle.layer_model.specs.Name.{LayerName}
 use Rattle.syntax_model.specs.Token.{Token}
 
--- a qualified rule: what is before its block, and what is in it
-pub record Rule : Type 0 where
+-- what a rule is in: for now its cascade layer
+pub record Context : Type 0 where
+  pub layer : LayerName
+
+-- a qualified rule: what is before its block, what is in it, and what it is in
+pub record StyleBlock : Type 0 where
   pub prelude : List Token
   pub block : List Token
+  pub context : Context
+
+-- what the text of a sheet gives: a qualified rule, or a layer that it declares at this place
+pub data Rule : Type 0 where
+  style : StyleBlock → Rule
+  layer : Context → Rule
+
+-- which text of a sheet it is: the number of the sheet, and an edition that is 0 until the text is replaced
+pub record SheetEdition : Type 0 where
+  pub sheet : ℕ
+  pub edition : ℕ
 
 pub record Declaration : Type 0 where
   pub name : Characters

@@ -1,6 +1,6 @@
--- The rules of a sheet and the declarations of a block (css-syntax-3, sections 5.4.1 to 5.4.6). These functions are the
--- definition of the cut.
-use Rattle.std.specs.Prelude.{ℕ, zero, suc, List, [], ◌∷◌, ◌++◌, length, reverse, filter_map, codes}
+-- The pieces of a list of rules and the declarations of a block (css-syntax-3, sections 5.4.1 to 5.4.6). These
+-- functions are the definition of the cut.
+use Rattle.std.specs.Prelude.{ℕ, zero, suc, List, [], ◌∷◌, ◌++◌, length, reverse, codes}
 use Rattle.std.specs.Prelude.{Bool, true, false, ◌&&◌, ◌||◌, if◌then◌else◌, Option, Some, None}
 use Rattle.std.specs.Option.{option_to_list}
 use Rattle.base_model.specs.Lists.{is_nil}
@@ -12,9 +12,7 @@ use Rattle.syntax_model.specs.Kinds.{is_white, is_ident, is_at_keyword, is_delim
 use Rattle.syntax_model.specs.Kinds.{is_open_curly, is_close_curly, is_between, without_white, trimmed}
 use Rattle.syntax_model.specs.Brackets.{Bracket, curly, open_past, closed, is_shallow}
 use Rattle.syntax_model.specs.Outside.{up_to, from_first}
-use Rattle.syntax_model.specs.Preprocess.{preprocessed}
-use Rattle.syntax_model.specs.TokensIn.{tokens_in}
-use Rattle.syntax_model.specs.Rules.{Rule, Declaration, Head, qualified_head, at_head, Piece, qualified_rule, at_rule}
+use Rattle.syntax_model.specs.Rules.{Declaration, Head, qualified_head, at_head, Piece, qualified_rule, at_rule}
 
 -- skipped between rules: whitespace, and at the top level CDO and CDC
 abbrev pub is_between_rules : Bool → Kind → Bool
@@ -60,20 +58,6 @@ abbrev mutual
   in_block top head prelude block pending (token ∷ tokens) =
       if is_nil (open_past pending token) then with_block head prelude block ∷ pieces_in top tokens
       else in_block top head prelude (block ++ token ∷ []) (open_past pending token) tokens
-
--- the rule that a piece is kept as: every at-rule is dropped for now
-abbrev pub rule_in : Piece → Option Rule
-rule_in (qualified_rule prelude block) =
-    if is_shallow prelude then Some (record { prelude = prelude; block = block }) else None
-rule_in (at_rule name prelude block) = None
-
--- the rules of a sheet (section 5.3.3)
-unfoldable pub rules_in : List Token → List Rule
-rules_in tokens = filter_map rule_in (pieces_in true (closed tokens))
-
--- the rules of a sheet's text
-abbrev pub sheet_rules_in : Characters → List Rule
-sheet_rules_in text = rules_in (tokens_in (preprocessed text))
 
 abbrev pub is_important_word : Token → Bool
 is_important_word token = is_ident token.kind && is_word (codes "important") token.name

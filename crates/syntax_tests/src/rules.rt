@@ -1,4 +1,4 @@
-use css_rules::{declaration_list, sheet_rules};
+use css_rules::{Rule, SheetEdition, declaration_list, edition_rules, sheet_rules};
 use css_tokens::{Token, name_of, preprocess, tokens};
 use std::alloc::Global;
 use std::test::Fail;
@@ -16,24 +16,44 @@ fn push_shown(out: &mut String, list: &[Token]) -> Result<(), NoMemory> {
     Ok(())
 }
 
-fn rules(alloc: Global, sheet: &str) -> Result<String, NoMemory> {
+// The rules, each after how many parts the name of its layer has, and the layers that are declared by as many.
+fn shown(alloc: Global, rules: &[Rule]) -> Result<String, NoMemory> {
     let mut out = String::new(alloc);
-    for rule in &sheet_rules(alloc, sheet)? {
-        push_shown(&mut out, rule.prelude.as_slice())?;
-        out.push_str("< ")?;
-        push_shown(&mut out, rule.block.as_slice())?;
-        out.push_str("> ")?;
+    for rule in rules {
+        match rule {
+            Rule::Style(style) => {
+                write!(out, "{} ", style.context.layer.len())?;
+                push_shown(&mut out, style.prelude.as_slice())?;
+                out.push_str("< ")?;
+                push_shown(&mut out, style.block.as_slice())?;
+                out.push_str("> ")?;
+            }
+            Rule::Layer(context) => write!(out, "@{} ", context.layer.len())?,
+        }
     }
     Ok(out)
 }
 
 #[test]
 fn two_rules(rt: HostRuntime) -> Result<(), Fail> {
-    let text = rules(rt.alloc(), " p{a:b} q{(c")?;
+    let rules = sheet_rules(rt.alloc(), " p{a:b} q{(c")?;
+    let text = shown(rt.alloc(), rules.as_slice())?;
     assert_eq!(rt;
         text.as_str(),
-        "p;< a;Colon;b;> q;< OpenRound;c;CloseRound;> "
+        "0 p;< a;Colon;b;> 0 q;< OpenRound;c;CloseRound;> "
     );
+    Ok(())
+}
+
+#[test]
+fn two_layers(rt: HostRuntime) -> Result<(), Fail> {
+    let edition = SheetEdition {
+        sheet: 1,
+        edition: 0,
+    };
+    let rules = edition_rules(rt.alloc(), edition, "@layer a.b,c;@layer c{p{}}q{}")?;
+    let text = shown(rt.alloc(), rules.as_slice())?;
+    assert_eq!(rt; text.as_str(), "@2 @1 @1 1 p;< > 0 q;< > ");
     Ok(())
 }
 

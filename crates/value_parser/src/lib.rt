@@ -6,10 +6,12 @@
 #![tactic(auto)]
 
 mod color;
+mod declared;
 mod hex;
 mod keyword;
 mod named;
 mod one_token;
 mod property_value;
 
+pub use declared::{Declared, Given, declared_value, wide_keyword};
 pub use property_value::value;

@@ -1,4 +1,4 @@
-use Rattle.css_rules.proofs.ParserLemmas.{open_more}
+use Rattle.css_rules.proofs.BracketLemmas.{open_more}
 use Rattle.css_rules.proofs.closed.left_open.Goals as goal
 
 pub loop-token-preserved : goal.loop-token-preserved

@@ -11,4 +11,4 @@ pub returns-in-Some : goal.returns-in-Some
 returns-in-Some c job e =
     let items : node_items (view c.args.job.now) ≡ items_view c.deref.result.now = search rules in
     let shape = job_shape (view c.args.job.now) job e in
-    subst (λ (items : Items). IfOk c.nodes_passed.result (λ passed. passed ≡ nodes_passed items job.nodes)) (sym items) (c.nodes_passed.ensures job.nodes (ap nodes_of (sym items) ∙ shape.0))
+    subst (λ (items : Items). IfOk c.nodes_passed.result (λ passed. passed ≡ nodes_passed items job.nodes)) (sym items) (c.nodes_passed.ensures job.nodes (ap nodes_of (sym items) ∙ shape))

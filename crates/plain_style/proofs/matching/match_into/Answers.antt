@@ -1,9 +1,10 @@
-use Rattle.std.proofs.Common.{◌≡◌, ◌<◌, ◌∷◌, ◌+◌, [], None, map, drop, length, refl, ap, sym, ◌∙◌, append-nil, rules as the_rules}
-use Rattle.std.proofs.lemmas.List.{drop_all}
+use Rattle.std.proofs.Common.{◌≡◌, ◌<◌, ◌∷◌, ◌+◌, [], None, map, drop, get_or, length, refl, ap, sym, ◌∙◌, append-nil, rules as the_rules}
+use Rattle.std.proofs.lemmas.List.{drop_all, get_or-map}
 use Rattle.selector_model.specs.Holds.{holds}
 use Rattle.selector_types.specs.View.{selector_of}
 use Rattle.cascade_model.specs.Matching.{rule_matched, greatest_by, all_matched}
 use Rattle.cascade_core.specs.View.{matched_of}
+use Rattle.sheet_set.specs.Ranks.{rank_seen}
 use Rattle.sheet_set.specs.View.{rule_of, sources_seen, rules_with}
 use Rattle.plain_style.proofs.MatchLemmas.{all_matched-same, rule_none, rule_some, rules_at, matched_all}
 use Rattle.sheet_set.proofs.Collected.{one_more}
@@ -19,7 +20,8 @@ loop-index-preserved c =
     let ls = c.selectors-selectors.result.now in
     let rule = c.index-rules-index.result in
     let list = c.index-selectors-index.result in
-    let f = rule_matched (λ s. holds doc s x) in
+    let layers = c.args.sheets.now.layers in
+    let f = rule_matched layers (λ s. holds doc s x) in
     let own = rule_of rule list.items in
     let old = map matched_of c.loop-index.list.items in
     let new = map matched_of c.match-greatest.list.items in
@@ -27,11 +29,12 @@ loop-index-preserved c =
     let within : i < length ls = search the_rules in
     let next : rules_with (drop i rs) (drop i ls) ≡ own ∷ rules_with (drop (i + 1) rs) (drop (i + 1) ls) = rules_at rs ls i rule list below within c.index-rules-index.is c.index-selectors-index.is in
     let best : greatest_by (λ s. holds doc s x) None own.selectors ≡ c.greatest.result = ap (λ l. greatest_by (λ s. holds doc s x) None (map selector_of l)) (sym c.deref.ensures.value) ∙ sym c.greatest.ensures in
+    let ranked : get_or c.ranks-ranks.result.now i 0 ≡ rank_seen layers rule = ap (λ l. get_or l i 0) (c.ranks-ranks.ensures.list ∙ ap (map (rank_seen layers)) (sym c.rules-rules.ensures)) ∙ (get_or-map (rank_seen layers) rs i rule 0 below ∙ ap (rank_seen layers) (sym c.index-rules-index.is)) in
     elim c.match-greatest.branch [
       | in-Some+in_ok-add_declarations w ↦ (let s = w.in-Some.specificity in
-          let gives : f own ≡ all_matched (rule_of rule []) s own.first_index own.declarations = rule_some (λ t. holds doc t x) own s (best ∙ w.in-Some.is) ∙ all_matched-same own (rule_of rule []) s own.first_index own.declarations refl refl refl in
-          one_more f old new _ _ _ own (all_matched (rule_of rule []) s own.first_index own.declarations) next gives (ap (λ v. map matched_of v.items) w.list-is ∙ w.in_ok-add_declarations.ensures) c.loop-index.invariant)
-      | in_default w ↦ one_more f old new _ _ _ own [] next (rule_none (λ t. holds doc t x) own (best ∙ w.in_default.is)) (ap (λ v. map matched_of v.items) w.list-is ∙ sym (append-nil old)) c.loop-index.invariant
+          let gives : f own ≡ all_matched layers (rule_of rule []) s own.first_index own.declarations = rule_some layers (λ t. holds doc t x) own s (best ∙ w.in-Some.is) ∙ all_matched-same layers own (rule_of rule []) s own.first_index own.declarations refl refl refl refl in
+          one_more f old new _ _ _ own (all_matched layers (rule_of rule []) s own.first_index own.declarations) next gives (ap (λ v. map matched_of v.items) w.list-is ∙ w.in_ok-add_declarations.ensures layers ranked) c.loop-index.invariant)
+      | in_default w ↦ one_more f old new _ _ _ own [] next (rule_none layers (λ t. holds doc t x) own (best ∙ w.in_default.is)) (ap (λ v. map matched_of v.items) w.list-is ∙ sym (append-nil old)) c.loop-index.invariant
     ]
 
 pub returns : goal.returns

@@ -1,4 +1,4 @@
-use Rattle.std.proofs.Common.{◌≡◌, ◌<◌, ℕ, List, length, get_or, Some, map, set, sym, ap, ◌∙◌, arith, rules, length-set}
+use Rattle.std.proofs.Common.{◌≡◌, ◌<◌, ℕ, List, length, get_or, map, ap, ◌∙◌, arith, rules, length-set}
 use Rattle.std.specs.Arc.{arc_value}
 use Rattle.cascade_model.specs.StyleOf.{style_of}
 use Rattle.sheet_set.specs.View.{sources_seen}

@@ -2,7 +2,7 @@ use Rattle.std.proofs.Common.{◌≡◌, ◌++◌, map, drop}
 use Rattle.std.specs.Prelude.{flat_map}
 use Rattle.css_rules.specs.View.{declarations_of}
 use Rattle.sheet_model.specs.Declared.{declared_in}
-use Rattle.sheet_set.specs.View.{declared_of}
+use Rattle.value_parser.specs.View.{declared_of}
 use Rattle.sheet_set.proofs.parse_block.parse_block.Given as goal
 
 -- what is kept so far, and what the declarations that are left declare, is the whole

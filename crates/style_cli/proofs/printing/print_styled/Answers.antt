@@ -1,4 +1,4 @@
-use Rattle.std.proofs.Common.{◌≡◌, ◌∙◌, ap, sym, map, length, refl, rules as the_rules}
+use Rattle.std.proofs.Common.{◌≡◌, ◌∙◌, ap, sym, map, refl, rules as the_rules}
 use Rattle.std.specs.Prelude.{encode_utf8_all}
 use Rattle.std.specs.List.{flat_map}
 use Rattle.std.specs.Arc.{arc_value}

@@ -1,7 +1,7 @@
 use Rattle.std.proofs.Common.{refl, sym, ap, ◌∙◌, option_and_then}
 use Rattle.std.specs.Prelude.{codes}
 use Rattle.serde_json.specs.Find.{as_str}
-use Rattle.job_json.specs.Sheets.{origin_named, origin_from, enabled_as, enabled_from}
+use Rattle.job_json.specs.Sheets.{origin_named, origin_from, enabled_from}
 use Rattle.job_json.proofs.Puts.{here, there, beside}
 use Rattle.job_json.proofs.sheet.SheetPartsKeepMembers.member.Goals as goal
 
@@ -18,15 +18,15 @@ returns-in_ok-text-in-origin-clause-ok c =
       },
     )
 
-pub returns-in_ok-boolean-in-enabled-clause-ok : goal.returns-in_ok-boolean-in-enabled-clause-ok
-returns-in_ok-boolean-in-enabled-clause-ok c =
+pub returns-in_ok-self-in-enabled-clause-ok : goal.returns-in_ok-self-in-enabled-clause-ok
+returns-in_ok-self-in-enabled-clause-ok c =
     let key = c.args.key.now in
-    let done = c.in_ok-boolean-in-enabled.ensures.ok in (
+    let done = c.in_ok-self-in-enabled.ensures.ok in (
       done.0,
       done.1,
       λ ms kept. record {
         origin = kept.origin ∙ ap origin_from (beside key done.0 ms (codes "enabled") (codes "origin") c.in-enabled.is refl);
-        enabled = c.enabled_in-self.ensures ∙ ap (option_and_then enabled_as) (sym done.2) ∙ ap enabled_from (here key done.0 ms (codes "enabled") c.in-enabled.is);
+        enabled = sym done.2 ∙ ap enabled_from (here key done.0 ms (codes "enabled") c.in-enabled.is);
         text = kept.text ∙ ap (option_and_then as_str) (beside key done.0 ms (codes "enabled") (codes "text") c.in-enabled.is refl);
       },
     )

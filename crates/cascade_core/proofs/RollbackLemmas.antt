@@ -1,0 +1,154 @@
+-- Along declarations from the greatest down, the last limit is all that is to be kept of the way.
+use Rattle.std.proofs.Common.{◌≡◌, ◌<◌, ◌≤◌, Bool, true, false, cond, List, [], ◌∷◌, find, filter, Option, Some, None, refl, sym, ap, ◌∙◌, arith}
+use Rattle.std.proofs.lemmas.Bool.{true≢false, ltb-true, lt-ltb, le-ltb, false_from_ne_true}
+use Rattle.std.proofs.lemmas.Cmp.{nat_cmp_total, on_total, then_total, tied_itself, ranked, by_ranked}
+use Rattle.std.specs.Cmp.{IsTotalOrder, bool_cmp_total}
+use Rattle.std.specs.declared.cmp.Ordering.{Ordering}
+use Rattle.std.specs.declared.cmp.Ordering.TheVariants.{Less, Equal, Greater}
+use Rattle.std.specs.Option.{option_map_or}
+use Rattle.std.specs.Ordering.{is_lt, ordering_then, nat_cmp, bool_cmp}
+use Rattle.base_model.specs.Origin.{origin_rank}
+use Rattle.syntax_model.specs.Wide.{inherit, initial, unset, revert, revert_layer}
+use Rattle.cascade_model.specs.Key.{Matched}
+use Rattle.cascade_model.specs.Winner.{greatest_of}
+use Rattle.cascade_model.specs.Ending.{Ending, unsets, Meaning, keyword, value, meaning_of, ending_of, ending_on}
+use Rattle.cascade_model.proofs.EndingLemmas.{ending_of-step}
+use Rattle.cascade_core.specs.Rollback.{Descends, Level, level_of, compare_level, Limit, no_limit, below_origin, below_level, keeps, settled, limit_by, walked}
+
+compare_level-total : IsTotalOrder compare_level
+compare_level-total =
+    then_total (on_total (λ (l : Level). l.rank) nat_cmp_total) (then_total (on_total (λ (l : Level). l.attached) bool_cmp_total) (on_total (λ (l : Level). l.layer) nat_cmp_total))
+
+is_less : (o : Ordering) → is_lt o ≡ true → o ≡ Less
+is_less Less h = refl
+is_less Equal h = absurd (true≢false (sym h))
+is_less Greater h = absurd (true≢false (sym h))
+
+lower-trans : (a b c : Level) → is_lt (compare_level a b) ≡ true → is_lt (compare_level b c) ≡ true → is_lt (compare_level a c) ≡ true
+lower-trans a b c h k =
+    ap is_lt (compare_level-total.trans a b c (is_less (compare_level a b) h) (is_less (compare_level b c) k))
+
+-- a lower level is of no higher origin, and what is of a lower origin is of a lower level
+lower-rank : (a b : Level) → is_lt (compare_level a b) ≡ true → a.rank ≤ b.rank
+lower-rank a b h =
+    by_ranked _ _ _ (nat_cmp a.rank b.rank) (ranked a.rank b.rank (nat_cmp a.rank b.rank) refl) (λ _ lt. omega arith) (λ _ same. omega arith) (λ e _. absurd (true≢false (sym h ∙ ap (λ o. is_lt (ordering_then o (ordering_then (bool_cmp a.attached b.attached) (nat_cmp a.layer b.layer)))) e)))
+
+rank-lower : (a b : Level) → a.rank < b.rank → is_lt (compare_level a b) ≡ true
+rank-lower a b lt =
+    by_ranked _ _ _ (nat_cmp a.rank b.rank) (ranked a.rank b.rank (nat_cmp a.rank b.rank) refl) (λ e _. ap (λ o. is_lt (ordering_then o (ordering_then (bool_cmp a.attached b.attached) (nat_cmp a.layer b.layer)))) e) (λ _ same. absurd (omega arith)) (λ _ gt. absurd (omega arith))
+
+-- a later limit keeps no more than the one before it
+by_origin : (limit : Limit) (d e : Matched) → keeps limit d ≡ true → keeps (below_origin (origin_rank d.origin)) e ≡ true → keeps limit e ≡ true
+by_origin no_limit d e kept lower = refl
+by_origin (below_origin rank) d e kept lower =
+    let h : origin_rank d.origin < rank = ltb-true _ _ kept in
+    let k : origin_rank e.origin < origin_rank d.origin = ltb-true _ _ lower in
+    lt-ltb _ _ (omega arith)
+by_origin (below_level level) d e kept lower =
+    let h : origin_rank d.origin ≤ level.rank = lower-rank (level_of d) level kept in
+    let k : origin_rank e.origin < origin_rank d.origin = ltb-true _ _ lower in
+    rank-lower (level_of e) level (omega arith)
+
+by_level : (limit : Limit) (d e : Matched) → keeps limit d ≡ true → keeps (below_level (level_of d)) e ≡ true → keeps limit e ≡ true
+by_level no_limit d e kept lower = refl
+by_level (below_origin rank) d e kept lower =
+    let h : origin_rank d.origin < rank = ltb-true _ _ kept in
+    let k : origin_rank e.origin ≤ origin_rank d.origin = lower-rank (level_of e) (level_of d) lower in
+    lt-ltb _ _ (omega arith)
+by_level (below_level level) d e kept lower = lower-trans (level_of e) (level_of d) level lower kept
+
+-- and not the declaration that set it
+not_origin : (d : Matched) → keeps (below_origin (origin_rank d.origin)) d ≡ false
+not_origin d = le-ltb _ _ (omega arith)
+
+not_level : (d : Matched) → keeps (below_level (level_of d)) d ≡ false
+not_level d = ap is_lt (tied_itself compare_level-total (level_of d))
+
+module _ {X : Type 0} where
+  stricter_step : (p q : X → Bool) (b c : Bool) (x : X) (xs ys : List X) → p x ≡ b → q x ≡ c → (c ≡ true → b ≡ true) → filter q xs ≡ ys → filter q (cond b (x ∷ xs) xs) ≡ cond c (x ∷ ys) ys
+  stricter_step p q true true x xs ys is_p is_q h k = rw is_q (ap (λ l. x ∷ l) k)
+  stricter_step p q true false x xs ys is_p is_q h k = rw is_q k
+  stricter_step p q false true x xs ys is_p is_q h k = absurd (true≢false (sym (h refl)))
+  stricter_step p q false false x xs ys is_p is_q h k = k
+
+  -- a filter after one that is less strict
+  stricter : (p q : X → Bool) → ((x : X) → q x ≡ true → p x ≡ true) → (xs : List X) → filter q (filter p xs) ≡ filter q xs
+  stricter p q h [] = refl
+  stricter p q h (x ∷ xs) =
+      stricter_step p q (p x) (q x) x (filter p xs) (filter q xs) refl refl (h x) (stricter p q h xs)
+
+module _ (ds ss : List Matched) (descends : Descends ds ss) where
+  -- what is asked still is found in the rest
+  abbrev IsAhead : Limit → List Matched → Type 0
+  IsAhead limit rest = (q : Matched → Bool) → ((d : Matched) → q d ≡ true → keeps limit d ≡ true) → find q ss ≡ find q rest
+
+  abbrev asked : Limit → List Matched
+  asked limit = filter (keeps limit) ds
+
+  abbrev Comes : Limit → List Matched → Type 0
+  Comes limit rest = walked limit rest ≡ ending_of meaning_of (asked limit)
+
+  found_first : (limit : Limit) (rest : List Matched) (o : Option Matched) → IsAhead limit rest → find (keeps limit) rest ≡ o → greatest_of (asked limit) ≡ o
+  found_first limit rest o ahead is = sym (descends (keeps limit)) ∙ (ahead (keeps limit) (λ d k. k) ∙ is)
+
+  at_end : (limit : Limit) → IsAhead limit [] → Comes limit []
+  at_end limit ahead =
+      sym (ending_of-step meaning_of (asked limit)
+      ∙ ap (λ (o : Option Matched). option_map_or (λ w. ending_on (ending_of meaning_of) (asked limit) w (meaning_of w.given)) o unsets) (found_first limit [] None ahead refl))
+
+  passed : (q : Matched → Bool) (d : Matched) (rest : List Matched) → q d ≡ false → find q (d ∷ rest) ≡ find q rest
+  passed q d rest fails = rw fails refl
+
+  -- a declaration that is not asked
+  not_asked : (limit : Limit) (d : Matched) (rest : List Matched) → keeps limit d ≡ false → IsAhead limit (d ∷ rest) → IsAhead limit rest
+  not_asked limit d rest fails ahead = λ q within.
+      ahead q within
+      ∙ passed q d rest (false_from_ne_true (q d) (λ e. true≢false (sym (within d e) ∙ fails)))
+
+  -- one that takes the cascade back
+  taken_back : (limit next : Limit) (d : Matched) (rest : List Matched) → ((e : Matched) → keeps next e ≡ true → keeps limit e ≡ true) → keeps next d ≡ false → IsAhead limit (d ∷ rest) → IsAhead next rest
+  taken_back limit next d rest fewer fails ahead = λ q within.
+      ahead q (λ e h. fewer e (within e h))
+      ∙ passed q d rest (false_from_ne_true (q d) (λ e. true≢false (sym (within d e) ∙ fails)))
+
+  abbrev Goes : List Matched → Type 0
+  Goes rest = (limit : Limit) → IsAhead limit rest → Comes limit rest
+
+  abbrev after : Matched → List Matched → Meaning → Ending
+  after d rest meaning = elim (settled meaning) [
+    | Some end ↦ end
+    | None ↦ walked (limit_by d meaning) rest
+  ]
+
+  by_meaning : (limit : Limit) (d : Matched) (rest : List Matched) → Goes rest → keeps limit d ≡ true → IsAhead limit (d ∷ rest) → (meaning : Meaning) → after d rest meaning ≡ ending_on (ending_of meaning_of) (asked limit) d meaning
+  by_meaning limit d rest goes kept ahead (keyword inherit) = refl
+  by_meaning limit d rest goes kept ahead (keyword initial) = refl
+  by_meaning limit d rest goes kept ahead (keyword unset) = refl
+  by_meaning limit d rest goes kept ahead (keyword revert) =
+      let next : Limit = below_origin (origin_rank d.origin) in
+      goes next (taken_back limit next d rest (λ e. by_origin limit d e kept) (not_origin d) ahead)
+      ∙ ap (ending_of meaning_of) (sym (stricter (keeps limit) (keeps next) (λ e. by_origin limit d e kept) ds))
+  by_meaning limit d rest goes kept ahead (keyword revert_layer) =
+      let next : Limit = below_level (level_of d) in
+      goes next (taken_back limit next d rest (λ e. by_level limit d e kept) (not_level d) ahead)
+      ∙ ap (ending_of meaning_of) (sym (stricter (keeps limit) (keeps next) (λ e. by_level limit d e kept) ds))
+  by_meaning limit d rest goes kept ahead (value given) = refl
+
+  by_kept : (limit : Limit) (d : Matched) (rest : List Matched) → Goes rest → IsAhead limit (d ∷ rest) → (b : Bool) → keeps limit d ≡ b → cond b (after d rest (meaning_of d.given)) (walked limit rest) ≡ ending_of meaning_of (asked limit)
+  by_kept limit d rest goes ahead true kept =
+      by_meaning limit d rest goes kept ahead (meaning_of d.given)
+      ∙ sym (ending_of-step meaning_of (asked limit)
+      ∙ ap (λ (o : Option Matched). option_map_or (λ w. ending_on (ending_of meaning_of) (asked limit) w (meaning_of w.given)) o unsets) (found_first limit (d ∷ rest) (Some d) ahead (ap (λ b. cond b (Some d) (find (keeps limit) rest)) kept)))
+  by_kept limit d rest goes ahead false fails = goes limit (not_asked limit d rest fails ahead)
+
+  goes_on : (rest : List Matched) → Goes rest
+  goes_on [] = at_end
+  goes_on (d ∷ rest) = λ limit ahead. by_kept limit d rest (goes_on rest) ahead (keeps limit d) refl
+
+  all_kept : (xs : List Matched) → filter (keeps no_limit) xs ≡ xs
+  all_kept [] = refl
+  all_kept (x ∷ xs) = ap (λ l. x ∷ l) (all_kept xs)
+
+  -- what the declarations come to, from the greatest down
+  pub walked_down : walked no_limit ss ≡ ending_of meaning_of ds
+  walked_down = goes_on ss no_limit (λ q within. refl) ∙ ap (ending_of meaning_of) (all_kept ds)

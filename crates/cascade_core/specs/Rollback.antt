@@ -1,0 +1,62 @@
+-- How the cascade is taken back along declarations of one property, from the greatest down.
+use Rattle.std.specs.Prelude.{◌≡◌, ℕ, nat_lt, find, filter, List, [], ◌∷◌, Bool, true, if◌then◌else◌, Option, Some, None}
+use Rattle.std.specs.declared.cmp.Ordering.{Ordering}
+use Rattle.std.specs.Ordering.{is_lt, ordering_then, nat_cmp, bool_cmp}
+use Rattle.base_model.specs.Origin.{origin_rank}
+use Rattle.syntax_model.specs.Wide.{inherit, initial, unset, revert, revert_layer}
+use Rattle.cascade_model.specs.Key.{Matched}
+use Rattle.cascade_model.specs.Winner.{greatest_of}
+use Rattle.cascade_model.specs.Ending.{Ending, inherits, initially, unsets, ends_at, Meaning, keyword, value, meaning_of}
+
+-- a list of declarations from the greatest down: the first that passes is the greatest of those that do
+abbrev pub Descends : List Matched → List Matched → Type 0
+Descends ds sorted = (passes : Matched → Bool) → find passes sorted ≡ greatest_of (filter passes ds)
+
+-- the level of a declaration
+pub record Level : Type 0 where
+  pub rank : ℕ
+  pub attached : Bool
+  pub layer : ℕ
+
+abbrev pub level_of : Matched → Level
+level_of d = record { rank = origin_rank d.origin; attached = d.attached; layer = d.layer }
+
+-- as declarations are compared by level
+abbrev pub compare_level : Level → Level → Ordering
+compare_level a b =
+    ordering_then (nat_cmp a.rank b.rank) (ordering_then (bool_cmp a.attached b.attached) (nat_cmp a.layer b.layer))
+
+-- how far the cascade was taken back
+pub data Limit : Type 0 where
+  no_limit : Limit
+  below_origin : ℕ → Limit
+  below_level : Level → Limit
+
+-- whether a declaration is asked still
+abbrev pub keeps : Limit → Matched → Bool
+keeps no_limit d = true
+keeps (below_origin rank) d = nat_lt (origin_rank d.origin) rank
+keeps (below_level level) d = is_lt (compare_level (level_of d) level)
+
+-- what the declaration that wins comes to, unless it takes the cascade back
+abbrev pub settled : Meaning → Option Ending
+settled (keyword inherit) = Some inherits
+settled (keyword initial) = Some initially
+settled (keyword unset) = Some unsets
+settled (keyword revert) = None
+settled (keyword revert_layer) = None
+settled (value given) = Some (ends_at given)
+
+-- and where it takes it then
+abbrev pub limit_by : Matched → Meaning → Limit
+limit_by winning (keyword revert_layer) = below_level (level_of winning)
+limit_by winning meaning = below_origin (origin_rank winning.origin)
+
+abbrev pub walked : Limit → List Matched → Ending
+walked limit [] = unsets
+walked limit (d ∷ ds) =
+    if keeps limit d then elim (settled (meaning_of d.given)) [
+      | Some end ↦ end
+      | None ↦ walked (limit_by d (meaning_of d.given)) ds
+    ]
+    else walked limit ds

@@ -1,0 +1,41 @@
+//! The level of a declaration, by which `revert-layer` goes back (css-cascade-5, section 7.3.5).
+
+ghost use Rattle.std.specs.Prelude.{◌≡◌};
+ghost use Rattle.cascade_core.specs.Rollback.{compare_level, level_of};
+ghost use Rattle.cascade_core.specs.View.{level_seen, matched_of};
+
+use crate::Matched;
+use layer_order::Origin;
+use std::cmp::Ordering;
+
+/// Its origin, whether it is of a `style` attribute, and its layer's rank: compared in that order.
+#[derive(Clone, Copy, Debug)]
+pub(crate) struct Level {
+    origin: Origin,
+    attached: bool,
+    layer: u32,
+}
+
+impl Level {
+    /// That of a declaration.
+    pub(crate) fn of(d: &Matched<'_>) -> Level
+        ensures { level_seen result ≡ level_of (matched_of d.now) }
+    {
+        Level {
+            origin: d.origin,
+            attached: d.attached,
+            layer: d.layer,
+        }
+    }
+
+    /// Which of two is lower.
+    pub(crate) fn compare(self, other: Level) -> Ordering
+        ensures { result ≡ compare_level (level_seen self) (level_seen other) }
+    {
+        self.origin
+            .rank()
+            .cmp(&other.origin.rank())
+            .then(self.attached.cmp(&other.attached))
+            .then(self.layer.cmp(&other.layer))
+    }
+}

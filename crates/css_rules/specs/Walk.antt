@@ -1,0 +1,171 @@
+-- The rules of a sheet, token by token: what is known after some tokens, and one token more.
+use Rattle.std.specs.Prelude.{ℕ, List, [], ◌∷◌, ◌++◌, map, Bool, false, not, ◌&&◌, if◌then◌else◌}
+use Rattle.std.specs.Prelude.{Option, Some, None, unwrap_or}
+use Rattle.base_model.specs.Lists.{is_nil}
+use Rattle.base_model.specs.Text.{Characters}
+use Rattle.syntax_model.specs.Token.{Token, Kind}
+use Rattle.syntax_model.specs.Kinds.{is_at_keyword, is_semicolon, is_open_curly, is_close_curly}
+use Rattle.syntax_model.specs.Brackets.{Bracket, open_past}
+use Rattle.syntax_model.specs.Rules.{Rule, layer, Context, SheetEdition}
+use Rattle.syntax_model.specs.RulesIn.{is_between_rules}
+use Rattle.syntax_model.specs.LayersIn.{layers_declared, block_layer}
+use Rattle.syntax_model.specs.SheetRules.{qualified_found, is_layer_name, counted, no_context}
+use Rattle.css_rules.specs.declared.rule_parser.State.{State}
+use Rattle.css_rules.specs.declared.rule_parser.State.TheVariants.{Between, Prelude, Block, Dropped}
+use Rattle.css_rules.specs.declared.rule_parser.Head.{Head}
+use Rattle.css_rules.specs.declared.rule_parser.Head.TheVariants.{Qualified, Layer, Other}
+
+-- The rules so far and how many anonymous layers there were; what the layers whose blocks are open are in, innermost
+-- first, and what the next rule is in; and what was read of that rule: its prelude and its block, as far as they are
+-- kept, and the brackets that are open.
+pub record Walk : Type 0 where
+  pub edition : SheetEdition
+  pub rules : List Rule
+  pub anonymous : ℕ
+  pub outer : List Context
+  pub context : Context
+  pub state : State
+  pub prelude : List Token
+  pub block : List Token
+  pub pending : List Bracket
+
+-- between rules
+abbrev pub between : SheetEdition → List Rule → ℕ → List Context → Context → Walk
+between edition rules anonymous outer context = record {
+  edition = edition;
+  rules = rules;
+  anonymous = anonymous;
+  outer = outer;
+  context = context;
+  state = Between;
+  prelude = [];
+  block = [];
+  pending = [];
+}
+
+-- before the first token
+abbrev pub start : SheetEdition → Walk
+start edition = between edition [] 0 [] no_context
+
+-- an at-rule is `@layer`, or some other
+abbrev pub head_named : Characters → Head
+head_named name = if is_layer_name name then Layer else Other
+
+-- an at-rule may end with a semicolon
+abbrev pub ends_statement : Head → Kind → Bool
+ends_statement Qualified kind = false
+ends_statement Layer kind = is_semicolon kind
+ends_statement Other kind = is_semicolon kind
+
+-- of other at-rules nothing is kept
+abbrev pub kept : Head → List Token → Token → List Token
+kept Qualified prelude token = prelude ++ token ∷ []
+kept Layer prelude token = prelude ++ token ∷ []
+kept Other prelude token = prelude
+
+-- a rule that ends without a block: `@layer` declares each of its names
+abbrev pub ended_rules : Head → Context → List Token → List Rule
+ended_rules Qualified context prelude = []
+ended_rules Layer context prelude = map layer (unwrap_or (layers_declared context prelude) [])
+ended_rules Other context prelude = []
+
+abbrev pub ended : Head → Walk → Walk
+ended head walk = record walk {
+  rules = walk.rules ++ ended_rules head walk.context walk.prelude;
+  state = Between;
+  prelude = [];
+}
+
+-- outside the brackets of a rule a `}` ends the block of a layer
+abbrev pub ends_layer : Walk → Kind → Bool
+ends_layer walk kind = not (is_nil walk.outer) && (is_nil walk.pending && is_close_curly kind)
+
+abbrev pub out_to : List Context → Walk → Walk
+out_to [] walk = walk
+out_to (context ∷ outer) walk = record walk { outer = outer; context = context }
+
+abbrev pub out : Walk → Walk
+out walk = out_to walk.outer walk
+
+-- past a token that is not kept
+abbrev pub past : State → Walk → Token → Walk
+past state walk token = record walk { state = state; pending = open_past walk.pending token }
+
+abbrev pub keeping : Head → Walk → Token → Walk
+keeping head walk token = record walk { prelude = kept head walk.prelude token }
+
+-- a layer is declared, and its block begins
+abbrev pub inside : Context → Walk → Walk
+inside inner walk = record walk {
+  rules = walk.rules ++ layer inner ∷ [];
+  outer = walk.context ∷ walk.outer;
+  context = inner;
+  state = Between;
+}
+
+-- into the block of a layer, unless it is dropped
+abbrev pub entered : Option Context → Walk → Token → Walk
+entered None walk token = past Dropped walk token
+entered (Some inner) walk token = inside inner walk
+
+abbrev pub opened : Head → Walk → Token → Walk
+opened Qualified walk token = past Block walk token
+opened Layer walk token =
+    entered (block_layer walk.edition walk.anonymous walk.context walk.prelude)
+    (record walk { anonymous = counted walk.anonymous walk.prelude; prelude = [] }) token
+opened Other walk token = past Dropped walk token
+
+abbrev pub begun : Walk → Token → Walk
+begun walk token =
+    if ends_layer walk token.kind then out walk
+    else if is_between_rules (is_nil walk.outer) token.kind then walk
+    else if is_at_keyword token.kind then record walk { state = Prelude (head_named token.name) }
+    else if is_open_curly token.kind then past Block walk token
+    else keeping Qualified (past (Prelude Qualified) walk token) token
+
+abbrev pub step_in_prelude : Head → Walk → Token → Walk
+step_in_prelude head walk token =
+    if is_nil walk.pending && ends_statement head token.kind then ended head walk
+    else if ends_layer walk token.kind then out (ended head walk)
+    else if is_nil walk.pending && is_open_curly token.kind then opened head walk token
+    else keeping head (past (Prelude head) walk token) token
+
+-- the rule of the prelude and the block ends
+abbrev pub rule_ended : Walk → Walk
+rule_ended walk = record walk {
+  rules = walk.rules ++ qualified_found walk.context walk.prelude walk.block;
+  state = Between;
+  prelude = [];
+  block = [];
+}
+
+abbrev pub step_in_block : Walk → Token → Walk
+step_in_block walk token =
+    if is_nil (open_past walk.pending token) then rule_ended (past Block walk token)
+    else record (past Block walk token) { block = walk.block ++ token ∷ [] }
+
+abbrev pub step_in_dropped : Walk → Token → Walk
+step_in_dropped walk token =
+    if is_nil (open_past walk.pending token) then past Between walk token else past Dropped walk token
+
+abbrev pub step_at : State → Walk → Token → Walk
+step_at Between = begun
+step_at (Prelude head) = step_in_prelude head
+step_at Block = step_in_block
+step_at Dropped = step_in_dropped
+
+-- one token more
+abbrev pub step : Walk → Token → Walk
+step walk token = step_at walk.state walk token
+
+abbrev pub steps : Walk → List Token → Walk
+steps walk [] = walk
+steps walk (token ∷ tokens) = steps (step walk token) tokens
+
+-- the rules, where the tokens end here
+abbrev pub finished_at : State → Walk → List Rule
+finished_at (Prelude head) walk = (ended head walk).rules
+finished_at state walk = walk.rules
+
+abbrev pub finished : Walk → List Rule
+finished walk = finished_at walk.state walk

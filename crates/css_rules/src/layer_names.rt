@@ -1,0 +1,121 @@
+//! The names of cascade layers, as `@layer` has them (css-cascade-5, section 6.4).
+
+ghost use Rattle.std.specs.Prelude.{◌≡◌, ◌≤◌, ◌∷◌, [], IfOk, length};
+ghost use Rattle.std.specs.Option.{option_map};
+ghost use Rattle.syntax_model.specs.LayersIn as model;
+ghost use Rattle.layer_order.specs.Chain.{part_of};
+ghost use Rattle.css_rules.specs.Layers as layers;
+ghost use Rattle.css_rules.specs.View.{context_of, contexts_of, edition_of};
+
+use crate::{Context, SheetEdition};
+use css_tokens::{Cursor, Token, Wide, trimmed, without_white};
+use layer_order::Part;
+use std::alloc::Global;
+use stylo_base::{Atom, NoMemory};
+
+/// How many parts the full name of a layer may have.
+const PART_LIMIT: usize = 64;
+
+/// The layer that an `@layer` with a block declares; so many anonymous layers come before it in the text.
+pub fn block_layer(
+    alloc: Global,
+    edition: SheetEdition,
+    place: u32,
+    context: &Context,
+    prelude: &[Token],
+) -> Result<Option<Context>, NoMemory>
+    ensures { IfOk result (λ found. option_map context_of found
+        ≡ model.block_layer (edition_of edition) place (context_of context.now) prelude.now) }
+{
+    if is_anonymous(prelude) {
+        let part = Part::Anonymous {
+            sheet: edition.sheet,
+            edition: edition.edition,
+            place,
+        };
+        layer_within(alloc, context, part)
+    } else {
+        layer_named(alloc, context, trimmed(prelude))
+    }
+}
+
+/// Whether an `@layer` has no name.
+pub fn is_anonymous(prelude: &[Token]) -> bool
+    ensures { result ≡ model.is_anonymous prelude.now }
+{
+    without_white(prelude).is_empty()
+}
+
+/// The layers that an `@layer` without a block declares.
+pub fn layers_declared(
+    alloc: Global,
+    context: &Context,
+    prelude: &[Token],
+) -> Result<Option<Vec<Context>>, NoMemory>
+    ensures { IfOk result (λ found. option_map (λ layers. contexts_of layers.items) found
+        ≡ model.layers_declared (context_of context.now) prelude.now) }
+{
+    let mut list = Vec::new(alloc);
+    let mut left = prelude;
+    'names: loop {
+        let (name, rest) = left.split_at(before_comma(left));
+        let Some(layer) = layer_named(alloc, context, trimmed(name))? else {
+            return Ok(None);
+        };
+        list.push(layer)?;
+        let Some((_comma, after)) = rest.split_first() else {
+            return Ok(Some(list));
+        };
+        left = after;
+    }
+}
+
+// How many tokens come before the first comma: all, if there is none.
+fn before_comma(tokens: &[Token]) -> usize
+    ensures value { result ≡ layers.before_comma tokens.now }
+    ensures inside { result ≤ length tokens.now }
+{
+    tokens.iter().take_while(|token| !token.is_comma()).count()
+}
+
+// The layer of the name that the tokens are, in a context.
+fn layer_named(
+    alloc: Global,
+    context: &Context,
+    tokens: &[Token],
+) -> Result<Option<Context>, NoMemory>
+    ensures { IfOk result (λ found.
+        option_map context_of found ≡ layers.layer_named (context_of context.now) tokens.now) }
+{
+    let mut outer = context.share()?;
+    let mut left = Cursor::new(tokens);
+    while let Some(name) = left.take_ident() {
+        if Wide::named(name.as_str()).is_some() {
+            return Ok(None);
+        }
+        let part = Part::Named(Atom::of_text(name.copy(alloc)?));
+        let Some(layer) = layer_within(alloc, &outer, part)? else {
+            return Ok(None);
+        };
+        if left.is_at_end() {
+            return Ok(Some(layer));
+        }
+        if !left.take_delim('.') {
+            return Ok(None);
+        }
+        outer = layer;
+    }
+    Ok(None)
+}
+
+// The layer that is one step into a context, unless its full name has too many parts.
+fn layer_within(alloc: Global, context: &Context, part: Part) -> Result<Option<Context>, NoMemory>
+    ensures { IfOk result (λ found. option_map context_of found
+        ≡ model.layer_within (context_of context.now) (part_of part ∷ [])) }
+{
+    if context.layer.len() >= PART_LIMIT {
+        return Ok(None);
+    }
+    let layer = context.layer.within(alloc, part)?;
+    Ok(Some(Context { layer }))
+}

@@ -1,0 +1,4 @@
+pub mod Chains
+pub mod KnownLemmas
+pub mod NestingLemmas
+pub mod OrderLemmas

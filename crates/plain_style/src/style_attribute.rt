@@ -1,0 +1,66 @@
+//! The declarations of `style` attributes.
+
+ghost use Rattle.std.specs.Prelude.{◌≡◌, [], IfOk, map};
+ghost use Rattle.std.specs.Option.{option_map_or};
+ghost use Rattle.scene_model.specs.Lookups.{IsElement, attribute_of};
+ghost use Rattle.sheet_model.specs.Declared.{style_declared};
+ghost use Rattle.cascade_model.specs.Matching.{all_attached};
+ghost use Rattle.cascade_core.specs.View.{matched_of};
+ghost use Rattle.value_parser.specs.View.{declared_of};
+
+use cascade_core::Matched;
+use dom_tree::Doc;
+use layer_order::{LayerName, Layers, Origin};
+use sheet_set::{Declared, parse_style};
+use std::alloc::Global;
+use stylo_base::{Atom, NoMemory, Specificity};
+
+/// What the attribute of `x` that `name` names declares, as a `style` attribute.
+pub(crate) fn declared_at(
+    alloc: Global,
+    doc: &Doc,
+    name: &Atom,
+    x: u32,
+) -> Result<Vec<Declared>, NoMemory>
+    requires { IsElement doc.now.elements x }
+    ensures { IfOk result (λ list. map declared_of list.items
+        ≡ option_map_or style_declared (attribute_of doc.now.elements x name.now) []) }
+{
+    match doc.attribute_atom(x, name) {
+        Some(text) => parse_style(alloc, text),
+        None => Ok(Vec::new(alloc)),
+    }
+}
+
+/// How declarations of a `style` attribute apply to its element (css-cascade-5, section 6.3): they are
+/// the author's, and in no layer.
+pub(crate) fn attach<'a>(
+    alloc: Global,
+    layers: &Layers,
+    list: &'a [Declared],
+) -> Result<Vec<Matched<'a>>, NoMemory>
+    ensures { IfOk result (λ attached. map matched_of attached.items
+        ≡ all_attached layers.now 0 (map declared_of list.now)) }
+{
+    let mut attached = Vec::new(alloc);
+    if list.is_empty() {
+        return Ok(attached);
+    }
+    let rank = layers.rank(Origin::Author, &LayerName::none());
+    let mut index = 0;
+    for declared in list {
+        let one = Matched {
+            declared,
+            origin: Origin::Author,
+            attached: true,
+            layer: rank,
+            specificity: Specificity::new(0, 0, 0),
+            sheet: 0,
+            position: 0,
+            index,
+        };
+        attached.extend_from_slice(&[one])?;
+        index += 1;
+    }
+    Ok(attached)
+}
