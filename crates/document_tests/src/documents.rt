@@ -192,6 +192,33 @@ fn by_atoms(rt: HostRuntime) -> Result<(), Fail> {
     Ok(())
 }
 
+/// An element with these attributes.
+fn with<'a>(attrs: &'a [Attr<'a>]) -> NodeInput<'a> {
+    NodeInput { attrs, ..node("a") }
+}
+
+#[test]
+fn same_attributes(rt: HostRuntime) -> Result<(), Fail> {
+    let lang = Attr {
+        name: "lang",
+        value: "en",
+    };
+    let title = Attr {
+        name: "title",
+        value: "x",
+    };
+    let empty = Attr { value: "", ..title };
+    let mut list = NodeList::of_root(rt.alloc(), with(&[lang, title]))?;
+    list.push(0, with(&[title, lang]))?;
+    list.push(0, with(&[lang, empty]))?;
+    assert!(rt; list.len() == 3);
+    let doc = Doc::of_list(rt.alloc(), list)?;
+    assert!(rt; doc.contains(1) && doc.contains(2) && doc.contains(3));
+    let seen = (doc.same_attributes(1, 2), doc.same_attributes(1, 3));
+    assert_eq!(rt; seen, (true, false));
+    Ok(())
+}
+
 #[test]
 fn states(rt: HostRuntime) -> Result<(), Fail> {
     let doc = alone(&rt, rt.alloc())?;

@@ -1,10 +1,11 @@
 -- The rows of the attributes of a node: what one more makes of them, and of the map that they stand for.
-use Rattle.std.proofs.Common.{◌≡◌, ℕ, ◌+◌, ◌<◌, ◌==◌, Bool, true, false, cond, nat_lt, List, [], ◌∷◌, ◌++◌, map, length, find, drop, get_or, Option, Some, None, IfSome, option_map, slice_get, sym, ap, ◌∙◌, subst, refl, arith}
+use Rattle.std.proofs.Common.{◌≡◌, ℕ, ◌+◌, ◌<◌, ◌≤◌, ◌==◌, ◌&&◌, Bool, true, false, cond, nat_lt, List, [], ◌∷◌, ◌++◌, map, length, find, drop, get_or, Option, Some, None, IfSome, option_map, slice_get, sym, ap, ◌∙◌, subst, refl, arith}
 use Rattle.std.specs.Cmp.Lexicographic.{slice_cmp}
 use Rattle.std.specs.FinMap as finmap
+use Rattle.std.specs.Bool.{Decides}
 use Rattle.std.specs.List.{AllByRecursion}
 use Rattle.std.specs.Ordering.{nat_cmp, eq_by_cmp}
-use Rattle.std.proofs.lemmas.Bool.{false≢true, false_from_ne_true, cond-false, eqb-true, ltb-true, ltb-false, eqb-false, eq-eqb}
+use Rattle.std.proofs.lemmas.Bool.{and_from, and_parts, false≢true, false_from_ne_true, cond-false, eqb-true, ltb-true, ltb-false, eqb-false, eq-eqb}
 use Rattle.std.proofs.lemmas.Bool.Decides.{same_from_decides}
 use Rattle.std.proofs.lemmas.Cmp.{nat_list_cmp_total}
 use Rattle.stylo_base.specs.NameList.{StandOnce, is_among}
@@ -20,7 +21,7 @@ use Rattle.std.specs.Str.{chars}
 use Rattle.base_model.specs.Text.{same_text}
 use Rattle.std.proofs.lemmas.Slice.Eq.{bytes_eq-Decides}
 use Rattle.std.proofs.lemmas.List.{map-append, drop_more}
-use Rattle.std.proofs.lemmas.Option.{slice_get_within, get_or_from_slice_get}
+use Rattle.std.proofs.lemmas.Option.{slice_get_within, get_or_from_slice_get, same_Some}
 
 abbrev found : Characters → List (Characters × Characters) → Option Characters
 found q pairs = finmap.find (slice_cmp nat_cmp) q pairs
@@ -210,3 +211,78 @@ unkeyed names rows text absent are = finmap.get-from_entries nat_list_cmp_total 
     from [] are = refl
     from (row ∷ rows) are =
         cond-false (ties text (text_of names row.name)) (Some (text_of names row.value)) (found text (map (named_pair names) rows)) (false_from_ne_true _ (other row.name are.0.0)) ∙ from rows are.2
+
+-- equal maps
+
+pub same_row : (a b : AttrRow) → Decides (a.name == b.name && a.value == b.value) (a ≡ b)
+same_row a b = (
+  λ h. (let parts = and_parts (a.name == b.name) (a.value == b.value) h in
+      let name = eqb-true a.name b.name parts.0 in
+      let value = eqb-true a.value b.value parts.1 in
+      λ i. record { name = name i; value = value i }),
+  λ e. and_from (a.name == b.name) (a.value == b.value) (eq-eqb a.name b.name (ap (λ (r : AttrRow). r.name) e)) (eq-eqb a.value b.value (ap (λ (r : AttrRow). r.value) e)),
+)
+
+-- the value of a name, by its number
+abbrev value_at : ℕ → List AttrRow → Option ℕ
+value_at name rows = option_map (λ row. row.value) (find (λ row. row.name == name) rows)
+
+front : (row : AttrRow) (rows : List AttrRow) → value_at row.name (row ∷ rows) ≡ Some row.value
+front row rows = ap (λ b. option_map (λ (r : AttrRow). r.value) (cond b (Some row) (find (λ r. r.name == row.name) rows))) (eq-eqb row.name row.name refl)
+
+passed : (name : ℕ) (row : AttrRow) (rows : List AttrRow) → (row.name ≡ name → ⊥) → value_at name (row ∷ rows) ≡ value_at name rows
+passed name row rows other = ap (λ b. option_map (λ (r : AttrRow). r.value) (cond b (Some row) (find (λ r. r.name == name) rows))) (false_from_ne_true (row.name == name) (λ e. other (eqb-true row.name name e)))
+
+-- a name before those of all rows has no value
+before_all : (name : ℕ) (rows : List AttrRow) → AllByRecursion (λ row. name < row.name) rows → value_at name rows ≡ None
+before_all name [] above = refl
+before_all name (row ∷ rows) above = passed name row rows (λ e. omega (arith, above.0, e)) ∙ before_all name rows above.1
+
+module _ (row : AttrRow) (rows : List AttrRow) (above : AllByRecursion (λ other. row.name < other.name) rows) where
+  none_up_to : (name : ℕ) → name ≤ row.name → value_at name rows ≡ None
+  none_up_to name l = before_all name rows (each_weaker (λ (other : AttrRow). row.name < other.name) (λ other. name < other.name) (λ other h. omega arith) rows above)
+
+  -- the first name of two sorted lists is that of both
+  not_before : (name : ℕ) (value : ℕ) → value_at name (row ∷ rows) ≡ Some value → row.name ≤ name
+  not_before name value e = by_order (nat_lt name row.name) refl
+    where
+      by_order : (b : Bool) → nat_lt name row.name ≡ b → row.name ≤ name
+      by_order true h =
+          let l : name < row.name = ltb-true name row.name h in
+          let none : value_at name (row ∷ rows) ≡ None = passed name row rows (λ f. omega (arith, l, f)) ∙ none_up_to name (omega (arith, l)) in
+          absurd (cc)
+      by_order false h = ltb-false name row.name h
+
+  -- the others are the rows after the first name
+  after_first : (name : ℕ) → value_at name rows ≡ cond (nat_lt row.name name) (value_at name (row ∷ rows)) None
+  after_first name = by_order (nat_lt row.name name) refl
+    where
+      by_order : (b : Bool) → nat_lt row.name name ≡ b → value_at name rows ≡ cond b (value_at name (row ∷ rows)) None
+      by_order true h = sym (passed name row rows (λ e. omega (arith, ltb-true row.name name h, e)))
+      by_order false h = none_up_to name (ltb-false row.name name h)
+
+-- sorted rows are equal where each name has the same value in both
+same_values : (names : List Characters) (xs ys : List AttrRow) → AreAttrs names xs → AreAttrs names ys → ((name : ℕ) → name < length names → value_at name xs ≡ value_at name ys) → xs ≡ ys
+same_values names [] [] are also same = refl
+same_values names [] (y ∷ ys) are also same = absurd (let e = same y.name also.0.0 ∙ front y ys in cc)
+same_values names (x ∷ xs) [] are also same = absurd (let e = sym (front x xs) ∙ same x.name are.0.0 in cc)
+same_values names (x ∷ xs) (y ∷ ys) are also same =
+    let here : value_at x.name (y ∷ ys) ≡ Some x.value = sym (same x.name are.0.0) ∙ front x xs in
+    let there : value_at y.name (x ∷ xs) ≡ Some y.value = same y.name also.0.0 ∙ front y ys in
+    let name : x.name ≡ y.name = omega (arith, not_before y ys also.1 x.name x.value here, not_before x xs are.1 y.name y.value there) in
+    let value : x.value ≡ y.value = same_Some x.value y.value (sym here ∙ (ap (λ n. value_at n (y ∷ ys)) name ∙ front y ys)) in
+    let rest : xs ≡ ys = same_values names xs ys are.2 also.2 (λ n l. after_first x xs are.1 n ∙ ((λ i. cond (nat_lt (name i) n) (same n l i) None) ∙ sym (after_first y ys also.1 n))) in
+    λ i. record { name = name i; value = value i } ∷ rest i
+
+-- rows are equal where their maps are
+pub same_map-rows : (names : List Characters) (xs ys : List AttrRow) → StandOnce names → AreAttrs names xs → AreAttrs names ys → named_attributes names xs ≡ named_attributes names ys → xs ≡ ys
+same_map-rows names xs ys once are also e =
+    same_values names xs ys are also
+    (λ name l. same_texts (value_at name xs) (value_at name ys) (found_within names xs name are) (found_within names ys name also)
+    (sym (keyed names xs name once l are) ∙ (ap (λ m. finmap.get m (text_of names name)) e ∙ keyed names ys name once l also)))
+  where
+    same_texts : (a b : Option ℕ) → IfSome a (λ v. v < length names) → IfSome b (λ v. v < length names) → option_map (text_of names) a ≡ option_map (text_of names) b → a ≡ b
+    same_texts None None l m e = refl
+    same_texts None (Some b) l m e = absurd (cc)
+    same_texts (Some a) None l m e = absurd (cc)
+    same_texts (Some a) (Some b) l m e = ap Some (same_name names a b once l m (same_Some (text_of names a) (text_of names b) e))

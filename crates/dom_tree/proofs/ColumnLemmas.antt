@@ -1,5 +1,5 @@
 -- What one more node leaves of the columns, and what they show of it.
-use Rattle.std.proofs.Common.{◌≡◌, ℕ, zero, suc, ◌+◌, ◌<◌, ◌≤◌, ◌==◌, List, [], ◌∷◌, ◌++◌, map, find, option_map, length, take, drop, get_or, Option, Some, None, IfSome, Result, Ok, Err, OnErr, OnOk, slice_get, sym, ap, ◌∙◌, subst, refl, arith, false, length-append}
+use Rattle.std.proofs.Common.{◌≡◌, ◌↔◌, ℕ, Bool, IsTrue, zero, suc, ◌+◌, ◌<◌, ◌≤◌, ◌==◌, List, [], ◌∷◌, ◌++◌, map, find, option_map, length, take, drop, get_or, Option, Some, None, IfSome, Result, Ok, Err, OnErr, OnOk, slice_get, sym, ap, ◌∙◌, subst, refl, arith, false, length-append}
 use Rattle.std.specs.Str.{chars}
 use Rattle.std.proofs.Math.Seq.{take-length, drop-append_seam}
 use Rattle.std.proofs.lemmas.List.{map-append, length-map}
@@ -19,7 +19,7 @@ use Rattle.std.proofs.lemmas.Cmp.{nat_list_cmp_total}
 use Rattle.std.specs.FinMap as finmap
 use Rattle.dom_tree.specs.Kept.{Table, text_of, part_of, named_pair, named_attributes, node_seen, IsRow, AreRows, AreAttrs, KeepsTexts}
 use Rattle.dom_tree.proofs.NameLemmas.{below_more_names, text_kept, text_is}
-use Rattle.dom_tree.proofs.AttrLemmas.{AreAttrs-more, attributes_kept, keyed, unkeyed, found_within}
+use Rattle.dom_tree.proofs.AttrLemmas.{AreAttrs-more, attributes_kept, keyed, unkeyed, found_within, same_map-rows}
 use Rattle.dom_tree.proofs.Places.{each_at}
 
 -- a part of a list that grows at its end
@@ -154,3 +154,13 @@ module _ (names : List Characters) (attrs : List AttrRow) (rows : List Row) (are
   text_by_atom_some atom part text value e h at =
       seen (λ node. Some text ≡ finmap.get node.attrs atom)
       (ap Some (sym (text_is names value text at)) ∙ (h ∙ (ap (λ l. finmap.find (slice_cmp nat_cmp) atom (map (named_pair names) l)) e ∙ sym (finmap.get-from_entries nat_list_cmp_total (map (named_pair names) (part_of attrs row.attrs)) atom))))
+
+-- two nodes have the same attributes where their rows are equal
+module _ (names : List Characters) (attrs : List AttrRow) (rows : List Row) (are : AreRows names attrs rows) (table : Table) (view : record { names = names; nodes = map (node_seen names attrs) rows } ≡ table) (i j : ℕ) (one other : Row) (l : i < length table.nodes) (m : j < length table.nodes) (is : one ≡ get_or rows i one) (also : other ≡ get_or rows j other) where
+  pub same_attributes_seen : (b : Bool) (xs ys : List AttrRow) → StandOnce table.names → xs ≡ part_of attrs one.attrs → ys ≡ part_of attrs other.attrs → (IsTrue b ↔ (xs ≡ ys)) → IfSome (slice_get table.nodes i) (λ n. IfSome (slice_get table.nodes j) (λ m. IsTrue b ↔ (n.attrs ≡ m.attrs)))
+  same_attributes_seen b xs ys once e f h =
+      seen names attrs rows are table view i one l is (λ n. IfSome (slice_get table.nodes j) (λ m. IsTrue b ↔ (n.attrs ≡ m.attrs)))
+      (seen names attrs rows are table view j other m also (λ m. IsTrue b ↔ (named_attributes names (part_of attrs one.attrs) ≡ m.attrs)) (
+        λ t. ap (named_attributes names) (sym e ∙ (h.0 t ∙ f)),
+        λ maps. h.1 (e ∙ (same_map-rows names (part_of attrs one.attrs) (part_of attrs other.attrs) (subst StandOnce (sym (ap (λ (t : Table). t.names) view)) once) (row_is names attrs rows are table view i one l is).attributes (row_is names attrs rows are table view j other m also).attributes maps ∙ sym f)),
+      ))

@@ -1,5 +1,5 @@
 -- What is kept answers what is asked of an element.
-use Rattle.std.proofs.Common.{◌≡◌, ℕ, ◌+◌, ◌-◌, ◌<◌, ◌≤◌, ◌&&◌, Bool, true, false, cond, not, nat_lt, nat_le, List, [], length, codes, Option, Some, None, IfSome, option_map, option_and_then, is_some, unwrap_or, slice_get, get_or, Fits, w32, sym, ap, ◌∙◌, subst, refl, arith, ltb-true}
+use Rattle.std.proofs.Common.{◌≡◌, ◌↔◌, ℕ, ◌+◌, ◌-◌, ◌<◌, ◌≤◌, ◌&&◌, Bool, IsTrue, true, false, cond, not, nat_lt, nat_le, List, [], length, codes, Option, Some, None, IfSome, option_map, option_and_then, is_some, unwrap_or, slice_get, get_or, Fits, w32, sym, ap, ◌∙◌, subst, subst₂, refl, arith, ltb-true}
 use Rattle.std.specs.FinMap as finmap
 use Rattle.std.specs.Option.{option_map_or}
 use Rattle.std.specs.Str.{chars}
@@ -10,7 +10,7 @@ use Rattle.base_model.specs.Text.{is_empty_text, same_text}
 use Rattle.stylo_base.proofs.TextLemmas.{chars-ascii}
 use Rattle.scene_model.specs.Document.{Document}
 use Rattle.scene_model.specs.Element.{Element, Characters, State, States, has_state}
-use Rattle.scene_model.specs.Lookups.{attribute_of, children, element_at, is_element, IsElement, parent_of, place_of, place_of_type, state_of, tag_of}
+use Rattle.scene_model.specs.Lookups.{attribute_of, attributes_of, children, element_at, is_element, IsElement, parent_of, place_of, place_of_type, state_of, tag_of}
 use Rattle.scene_model.specs.Nodes.{Node, listed}
 use Rattle.scene_model.proofs.Found.{is_element-at, element_at-filter_map}
 use Rattle.scene_model.specs.Nodes.{IsParentAt}
@@ -79,6 +79,9 @@ module _ (table : Table) (links : List Link) (before after : List ℕ) (labels :
   state_is states state h =
       let (node, at, e) = item (λ node. states ≡ node.states) h in
       ap (λ s. has_state s state) e ∙ sym (ap (λ o. option_map_or (λ (e : Element). has_state e.states state) o false) (found node at))
+
+  pub attributes_at : (node : Node) → slice_get table.nodes (x - 1) ≡ Some node → node.attrs ≡ attributes_of now.elements x
+  attributes_at node at = sym (ap (λ o. unwrap_or (option_map (λ (e : Element). e.attrs) o) finmap.empty) (found node at))
 
   pub attribute_is : (name : Characters) (value : Option Characters) → IfSome (slice_get table.nodes (x - 1)) (λ node. value ≡ finmap.get node.attrs name) → value ≡ attribute_of now.elements x name
   attribute_is name value h =
@@ -157,6 +160,14 @@ module _ (table : Table) (links : List Link) (before after : List ℕ) (labels :
         let (node, at, is_label) = labelled in
         is_label.id ∙ (sym (ap (λ o. option_and_then id_text (option_and_then (λ (e : Element). finmap.get e.attrs (chars (codes "id"))) o)) (found node at))
         ∙ ap (λ t. option_and_then id_text (attribute_of now.elements x t)) (chars-ascii (codes "id") refl))
+
+-- the attributes of two elements
+module _ (table : Table) (links : List Link) (before after : List ℕ) (labels : List Label) (lists : List (List Characters)) (order : List ℕ) (now : Document) (x y : ℕ) (whole : IsWhole table links before after labels lists order) (view : document table order ≡ now) (is : IsElement now.elements x) (also : IsElement now.elements y) where
+  pub same_attributes_are : (b : Bool) → IfSome (slice_get table.nodes (x - 1)) (λ n. IfSome (slice_get table.nodes (y - 1)) (λ m. IsTrue b ↔ (n.attrs ≡ m.attrs))) → IsTrue b ↔ (attributes_of now.elements x ≡ attributes_of now.elements y)
+  same_attributes_are b h =
+      let (n, at, rest) = item table links before after labels lists order now x whole view is (λ n. IfSome (slice_get table.nodes (y - 1)) (λ m. IsTrue b ↔ (n.attrs ≡ m.attrs))) h in
+      let (m, here, same) = item table links before after labels lists order now y whole view also (λ m. IsTrue b ↔ (n.attrs ≡ m.attrs)) rest in
+      subst₂ (λ p q. IsTrue b ↔ (p ≡ q)) (attributes_at table links before after labels lists order now x whole view is n at) (attributes_at table links before after labels lists order now y whole view also m here) same
 
 -- an id among the labels, and among the attributes
 

@@ -1,6 +1,6 @@
 //! What is kept of nodes, in columns: each text once, as a name.
 
-ghost use Rattle.std.specs.Prelude.{◌≡◌, ◌<◌, ◌==◌, ◌++◌, ◌∷◌, [], IfSome, IfOk, OnErr, OnOk, find, length, map, option_map, slice_get};
+ghost use Rattle.std.specs.Prelude.{◌≡◌, ◌↔◌, ◌<◌, ◌==◌, ◌++◌, ◌∷◌, [], IfSome, IfOk, IsTrue, OnErr, OnOk, find, length, map, option_map, slice_get};
 ghost use Rattle.std.specs.Cmp.Lexicographic.{slice_cmp};
 ghost use Rattle.std.specs.Ordering.{nat_cmp};
 ghost use Rattle.std.specs.FinMap as finmap;
@@ -148,6 +148,20 @@ impl Columns {
         Some(self.names.text(value))
     }
 
+    /// Whether two nodes have the same attributes.
+    pub fn same_attributes(&self, one: usize, other: usize) -> bool
+        requires one { one < length self.now.nodes }
+        requires other { other < length self.now.nodes }
+        requires once { StandOnce self.now.names }
+        ensures { IfSome (slice_get self.now.nodes one) (λ n. IfSome (slice_get self.now.nodes other) (λ m.
+            IsTrue result ↔ (n.attrs ≡ m.attrs))) }
+    {
+        same_rows(
+            self.rows[one].attrs.of(&self.attrs),
+            self.rows[other].attrs.of(&self.attrs),
+        )
+    }
+
     /// The texts that have names.
     pub fn names(&self) -> &Names
         ensures { result.now ≡ self.now.names }
@@ -166,6 +180,13 @@ impl Columns {
             run: Vec::new(alloc),
         })
     }
+}
+
+/// Whether two lists of rows are equal.
+fn same_rows(one: &[AttrRow], other: &[AttrRow]) -> bool
+    ensures { IsTrue result ↔ (one.now ≡ other.now) }
+{
+    one == other
 }
 
 /// The value of a name among rows.

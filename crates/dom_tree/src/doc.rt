@@ -1,11 +1,11 @@
 //! The document: its elements in tree order, and what is asked of one of them.
 
-ghost use Rattle.std.specs.Prelude.{◌≡◌, ◌<◌, ◌≤◌, ℕ, IfOk, codes, false, true, length, not, ◌&&◌, option_map};
+ghost use Rattle.std.specs.Prelude.{◌≡◌, ◌↔◌, ◌<◌, ◌≤◌, ℕ, IfOk, IsTrue, codes, false, true, length, not, ◌&&◌, option_map};
 ghost use Rattle.std.specs.Option.{option_map_or};
 ghost use Rattle.std.specs.Str.{chars};
 ghost use Rattle.base_model.specs.Limits.{element_limit};
 ghost use Rattle.base_model.specs.Text.{is_empty_text, same_text};
-ghost use Rattle.scene_model.specs.Lookups.{IsElement, attribute_of, children, has_class, is_element, numbers, parent_of, place_of, place_of_type, state_of, tag_of};
+ghost use Rattle.scene_model.specs.Lookups.{IsElement, attribute_of, attributes_of, children, has_class, is_element, numbers, parent_of, place_of, place_of_type, state_of, tag_of};
 ghost use Rattle.scene_model.specs.Document.{document_of};
 ghost use Rattle.scene_model.specs.Valid.{IsValid};
 ghost use Rattle.stylo_base.specs.StateView.{state_seen};
@@ -256,6 +256,15 @@ impl Doc {
         ensures { option_map (λ value. chars value.now) result ≡ attribute_of self.now.elements x name.now }
     {
         self.columns.text_by_atom(x as usize - 1, name)
+    }
+
+    /// Whether two elements have the same attributes, in one pass over both.
+    pub fn same_attributes(&self, x: u32, y: u32) -> bool
+        requires x { IsElement self.now.elements x }
+        requires y { IsElement self.now.elements y }
+        ensures { IsTrue result ↔ (attributes_of self.now.elements x ≡ attributes_of self.now.elements y) }
+    {
+        self.columns.same_attributes(x as usize - 1, y as usize - 1)
     }
 
     /// Whether `x` is in a state.

@@ -6,7 +6,7 @@ use Rattle.std.specs.List.{list_any, prefix_len}
 use Rattle.std.specs.Option.{option_map_or}
 use Rattle.std.specs.FinMap as map
 use Rattle.base_model.specs.Text.{same_text}
-use Rattle.scene_model.specs.Element.{Element, Characters, State, has_state}
+use Rattle.scene_model.specs.Element.{Element, Characters, Attributes, State, has_state}
 use Rattle.scene_model.specs.Words.{has_word}
 
 abbrev pub has_number : ℕ → Element → Bool
@@ -78,6 +78,9 @@ place_by doc from_last test x = counted test (siblings_beyond doc from_last x)
 -- its place among the siblings of its type
 abbrev pub place_of_type : List Element → Bool → ℕ → ℕ
 place_of_type doc from_last x = place_by doc from_last (same_type doc x) x
+
+abbrev pub attributes_of : List Element → ℕ → Attributes
+attributes_of doc x = unwrap_or (option_map (λ e. e.attrs) (element_at doc x)) map.empty
 
 abbrev pub attribute_of : List Element → ℕ → Characters → Option Characters
 attribute_of doc x name = option_and_then (λ e. map.get e.attrs name) (element_at doc x)
