@@ -47,12 +47,12 @@ filter-drops p q (x ∷ xs) w found dropped =
     (λ (e : find q xs ≡ Some w). kept_below (p x) x (filter p xs) (length xs) (filter-drops p q xs w e dropped))
     (first_or_rest (q x) x w (find q xs) found)
 
-module _ (means : Given → Meaning) where
+module _ {A : Type 0} (means : Given → Meaning A) where
   -- the endings agree on every list that is shorter than this one
-  abbrev AgreeBelow : (List Matched → Ending) → (List Matched → Ending) → List Matched → Type 0
+  abbrev AgreeBelow : (List Matched → Ending A) → (List Matched → Ending A) → List Matched → Type 0
   AgreeBelow f g ds = (xs : List Matched) → length xs < length ds → f xs ≡ g xs
 
-  on_meaning : (f g : List Matched → Ending) (ds : List Matched) → AgreeBelow f g ds → (w : Matched) (meaning : Meaning) → greatest_of ds ≡ Some w → ending_on f ds w meaning ≡ ending_on g ds w meaning
+  on_meaning : (f g : List Matched → Ending A) (ds : List Matched) → AgreeBelow f g ds → (w : Matched) (meaning : Meaning A) → greatest_of ds ≡ Some w → ending_on f ds w meaning ≡ ending_on g ds w meaning
   on_meaning f g ds agree w (keyword inherit) found = refl
   on_meaning f g ds agree w (keyword initial) found = refl
   on_meaning f g ds agree w (keyword unset) found = refl
@@ -62,7 +62,7 @@ module _ (means : Given → Meaning) where
       agree (of_lower_level w ds) (filter-drops (λ d. is_lt (level_cmp d w)) (is_greatest ds) ds w found (level_itself w))
   on_meaning f g ds agree w (value v) found = refl
 
-  on_winner : (f g : List Matched → Ending) (ds : List Matched) → AgreeBelow f g ds → (o : Option Matched) → greatest_of ds ≡ o → option_map_or (λ w. ending_on f ds w (means w.given)) o unsets ≡ option_map_or (λ w. ending_on g ds w (means w.given)) o unsets
+  on_winner : (f g : List Matched → Ending A) (ds : List Matched) → AgreeBelow f g ds → (o : Option Matched) → greatest_of ds ≡ o → option_map_or (λ w. ending_on f ds w (means w.given)) o unsets ≡ option_map_or (λ w. ending_on g ds w (means w.given)) o unsets
   on_winner f g ds agree None found = refl
   on_winner f g ds agree (Some w) found = on_meaning f g ds agree w (means w.given) found
 

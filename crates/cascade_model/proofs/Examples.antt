@@ -3,6 +3,8 @@ use Rattle.std.proofs.Common.{◌≡◌, ℕ, ◌&&◌, Bool, List, [], ◌∷�
 use Rattle.std.specs.Prelude.{codes}
 use Rattle.std.specs.FinMap as maps
 use Rattle.std.specs.FinMap.{gets}
+use Rattle.custom_model.proofs.Maps.{resolved-empty}
+use Rattle.custom_model.specs.Expand.{Lookup}
 use Rattle.base_model.specs.Text.{Characters}
 use Rattle.base_model.specs.Origin.{Origin, user_agent, user, author}
 use Rattle.base_model.specs.Specificity.{Specificity, nothing, one_id, one_class}
@@ -24,6 +26,7 @@ use Rattle.sheet_model.specs.Sources.{Sources, all_placed}
 use Rattle.cascade_model.specs.Key.{Matched}
 use Rattle.cascade_model.specs.Matching.{matching_rules, matching_style}
 use Rattle.cascade_model.specs.Ending.{Ending, inherits, initially, unsets, ends_at, ending, ending_of}
+use Rattle.cascade_model.specs.Custom.{declared_values}
 use Rattle.cascade_model.specs.Cascade.{cascaded}
 use Rattle.cascade_model.specs.StyleOf.{style_of}
 
@@ -81,17 +84,21 @@ sources = record { rules = all_placed sheet 0 0 rules; layers = layers_of [] }
 abbrev values : Value → Value → Value → Value → List Value
 values a b c d = a ∷ b ∷ c ∷ d ∷ []
 
-the_root : style_of doc sources 1 ≡ record { values = values lime (keyword (codes "block")) none hidden }
-unfolding style_of ancestors matching_rules matching_style layer_order declared rank_in ending_of table
-the_root = simp gets
+-- a style without custom properties
+abbrev styled : List Value → Style
+styled list = record { values = list; custom = maps.empty }
 
-higher_wins : style_of doc sources 2 ≡ record { values = values blue (keyword (codes "block")) none hidden }
-unfolding style_of ancestors matching_rules matching_style layer_order declared rank_in ending_of table
-higher_wins = simp gets
+the_root : style_of doc sources 1 ≡ styled (values lime (keyword (codes "block")) none hidden)
+unfolding style_of ancestors matching_rules matching_style layer_order declared rank_in ending_of table declared_values
+the_root = simp (gets, resolved-empty)
 
-plain : style_of doc sources 3 ≡ record { values = values red (keyword (codes "inline")) none hidden }
-unfolding style_of ancestors matching_rules matching_style layer_order declared rank_in ending_of table
-plain = simp gets
+higher_wins : style_of doc sources 2 ≡ styled (values blue (keyword (codes "block")) none hidden)
+unfolding style_of ancestors matching_rules matching_style layer_order declared rank_in ending_of table declared_values
+higher_wins = simp (gets, resolved-empty)
+
+plain : style_of doc sources 3 ≡ styled (values red (keyword (codes "inline")) none hidden)
+unfolding style_of ancestors matching_rules matching_style layer_order declared rank_in ending_of table declared_values
+plain = simp (gets, resolved-empty)
 
 -- Which of two declarations of `color` wins. Each here is of an author's sheet and of `*`, but for what is said.
 abbrev plainly : Value → Matched
@@ -108,15 +115,19 @@ plainly value = record {
   index = 0;
 }
 
-abbrev is_red : Ending → Bool
+-- where no custom property has a value
+abbrev no_custom : Lookup
+no_custom name = None
+
+abbrev is_red : Ending Value → Bool
 is_red (ends_at value) = same_value value red
 is_red end = false
 
 -- the first wins over the second, in whichever order they come
 abbrev beats : (Value → Matched) → (Value → Matched) → Bool
 beats one other =
-    is_red (ending color_property (one red ∷ other lime ∷ []))
-    && is_red (ending color_property (other lime ∷ one red ∷ []))
+    is_red (ending no_custom color_property (one red ∷ other lime ∷ []))
+    && is_red (ending no_custom color_property (other lime ∷ one red ∷ []))
 
 -- each wins over the one before it
 abbrev rises : {A : Type 0} → (A → Value → Matched) → (A → Value → Matched) → List A → Bool
@@ -161,7 +172,7 @@ by_position : beats (λ value. record (plainly value) { position = 1 }) (λ valu
 unfolding ending_of
 by_position = refl
 
-first_of_equal_ones : ending color_property (plainly red ∷ plainly lime ∷ []) ≡ ends_at red
+first_of_equal_ones : ending no_custom color_property (plainly red ∷ plainly lime ∷ []) ≡ ends_at red
 unfolding ending_of
 first_of_equal_ones = refl
 
@@ -193,7 +204,7 @@ earlier_layer : beats (λ value. record (with_specificity one_class value) { imp
 unfolding ending_of
 earlier_layer = refl
 
-no_ending : ending color_property [] ≡ unsets
+no_ending : ending no_custom color_property [] ≡ unsets
 unfolding ending_of
 no_ending = refl
 
@@ -201,8 +212,8 @@ no_ending = refl
 abbrev says : Wide → Matched
 says keyword_given = record (plainly red) { given = wide keyword_given; index = 9 }
 
-abbrev comes_to : List Matched → Ending
-comes_to ds = ending color_property ds
+abbrev comes_to : List Matched → Ending Value
+comes_to ds = ending no_custom color_property ds
 
 three_keywords : map (λ w. comes_to (says w ∷ plainly lime ∷ [])) (inherit ∷ initial ∷ unset ∷ []) ≡ inherits ∷ initially ∷ unsets ∷ []
 unfolding ending_of
@@ -269,30 +280,30 @@ abbrev word : Characters → Value
 word text = keyword text
 
 abbrev parent : Style
-parent = record { values = values lime (word (codes "flex")) (word (codes "both")) hidden }
+parent = styled (values lime (word (codes "flex")) (word (codes "both")) hidden)
 
 abbrev declares_one : ℕ → Value → Matched
 declares_one property value = record (plainly value) { target = longhand property }
 
-without_a_declaration : cascaded false parent [] ≡ record { values = values lime (word (codes "inline")) none hidden }
-unfolding ending_of table
-without_a_declaration = refl
+without_a_declaration : cascaded false parent [] ≡ styled (values lime (word (codes "inline")) none hidden)
+unfolding ending_of table declared_values
+without_a_declaration = simp resolved-empty
 
-each_property_alone : cascaded false parent (declares_one 3 (word (codes "collapse")) ∷ declares_one 1 (word (codes "inline-block")) ∷ declares_one 2 (word (codes "left")) ∷ []) ≡ record { values = values lime (word (codes "inline-block")) (word (codes "left")) (word (codes "collapse")) }
-unfolding ending_of table
-each_property_alone = refl
+each_property_alone : cascaded false parent (declares_one 3 (word (codes "collapse")) ∷ declares_one 1 (word (codes "inline-block")) ∷ declares_one 2 (word (codes "left")) ∷ []) ≡ styled (values lime (word (codes "inline-block")) (word (codes "left")) (word (codes "collapse")))
+unfolding ending_of table declared_values
+each_property_alone = simp resolved-empty
 
 current_color_inherits : cascaded false parent (plainly current_color ∷ []) ≡ cascaded false parent []
-unfolding ending_of table
-current_color_inherits = refl
+unfolding ending_of table declared_values
+current_color_inherits = simp resolved-empty
 
 current_color_of_the_root : cascaded true initial_style (plainly current_color ∷ []) ≡ cascaded true initial_style []
-unfolding ending_of table
-current_color_of_the_root = refl
+unfolding ending_of table declared_values
+current_color_of_the_root = simp resolved-empty
 
-bare_root : cascaded true initial_style [] ≡ record { values = values (color black) (word (codes "block")) none (word (codes "visible")) }
-unfolding ending_of table
-bare_root = refl
+bare_root : cascaded true initial_style [] ≡ styled (values (color black) (word (codes "block")) none (word (codes "visible")))
+unfolding ending_of table declared_values
+bare_root = simp resolved-empty
 
 -- each `display` at the root, and below it
 abbrev displays : List Value
@@ -304,9 +315,9 @@ display_at is_root value =
     slice_get (cascaded is_root initial_style (declares_one display_property value ∷ [])).values display_property
 
 root_displays : map (display_at true) displays ≡ map (λ value. Some (blockified value)) displays
-unfolding ending_of table
+unfolding ending_of table declared_values
 root_displays = refl
 
 other_displays : map (display_at false) displays ≡ map Some displays
-unfolding ending_of table
+unfolding ending_of table declared_values
 other_displays = refl

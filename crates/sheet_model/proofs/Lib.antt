@@ -1,3 +1,5 @@
+pub mod RuleCuts
+pub mod DeclaredWritable
 pub mod ExampleCases
 mod Examples
 mod ValueExamples

@@ -1,5 +1,5 @@
--- After the function `url` in a text without bad strings comes a string, with whitespace or none between.
-use Rattle.std.proofs.Common.{◌≡◌, ℕ, zero, suc, ◌+◌, ◌<◌, ◌≤◌, Bool, true, false, eqb, ◌&&◌, List, [], ◌∷◌, ◌++◌, length, drop, refl, sym, ap, ◌∙◌, arith, inl, inr, length-drop}
+-- After the function `url` in a text comes a string, with whitespace or none between: a bad one, if the text has such.
+use Rattle.std.proofs.Common.{◌≡◌, ℕ, zero, suc, ◌+◌, ◌<◌, ◌≤◌, Bool, true, false, cond, eqb, ◌&&◌, ◌||◌, List, [], ◌∷◌, ◌++◌, length, drop, refl, sym, ap, ◌∙◌, arith, inl, inr, length-drop}
 use Rattle.std.specs.Prelude.{codes, not}
 use Rattle.std.specs.List.{list_all, prefix_len}
 use Rattle.std.proofs.lemmas.Bool.{cond_both, cond-false, cond-true, and_from, and_parts, cases_Bool, eqb-true, false≢true, or_cases}
@@ -8,19 +8,28 @@ use Rattle.base_model.specs.Text.{Characters, is_word}
 use Rattle.syntax_model.specs.Letters.{begins, is_blank, is_quote}
 use Rattle.syntax_model.specs.Units.{len_of, string_unit}
 use Rattle.syntax_model.specs.Numbers.{number_len}
-use Rattle.syntax_model.specs.Token.{Token, Kind, function}
-use Rattle.syntax_model.specs.Kinds.{begins_with, without_white}
+use Rattle.syntax_model.specs.Token.{Token, Kind, function, string, bad_string}
+use Rattle.syntax_model.specs.Kinds.{begins_with, is_white, without_white}
 use Rattle.syntax_model.specs.Pieces.{Piece, Row, comment_row, ident_piece, is_line_feed, mark_kind, name_in, name_len, number_piece, piece_of, plain, quote_follows, row_at, row_len, row_tokens, starts_ident, string_piece, string_row, token_of, url_piece, white_row}
 use Rattle.syntax_model.specs.TokensIn.{tokens_from, tokens_in}
-use Rattle.syntax_model.specs.Written.{is_bad_string, is_string, is_url_function, url_goes_on, urls_go_on}
+use Rattle.syntax_model.specs.Written.{is_bad_string, is_string, is_url_function, urls_go_on}
 use Rattle.syntax_model.proofs.PieceLemmas.{first_is, not_false, row_any, url_any}
 
 abbrev NoBad : List Token → Type 0
 NoBad tokens = list_all (λ token. not (is_bad_string token.kind)) tokens ≡ true
 
--- a string comes, with whitespace or none before it
-abbrev StringComes : List Token → Type 0
-StringComes tokens = begins_with is_string (without_white tokens) ≡ true
+-- a string, or a bad one
+abbrev pub is_quoted : Kind → Bool
+is_quoted kind = is_string kind || is_bad_string kind
+
+-- such a token comes, with whitespace or none before it
+abbrev pub QuoteComes : List Token → Type 0
+QuoteComes tokens = begins_with is_quoted (without_white tokens) ≡ true
+
+-- one comes after each function `url`
+abbrev pub QuotesFollow : List Token → Type 0
+QuotesFollow [] = Unit
+QuotesFollow (token ∷ tokens) = (is_url_function token ≡ true → QuoteComes tokens) × QuotesFollow tokens
 
 -- quotes and blanks decide their rows
 quote_row : (c : ℕ) (cs : Characters) → is_quote c ≡ true → row_at (c ∷ cs) ≡ string_row
@@ -40,31 +49,31 @@ blank_row c cs blank =
       ]
     ]
 
-string_first : (start c : ℕ) (cs : Characters) (more : List Token) → NoBad (token_of start (string_piece c cs) ∷ more) → StringComes (token_of start (string_piece c cs) ∷ more)
+string_first : (start c : ℕ) (cs : Characters) (more : List Token) → QuoteComes (token_of start (string_piece c cs) ∷ more)
 string_first start c cs more =
-    cond_both (begins is_line_feed (drop (len_of (string_unit c) cs) cs)) _ _ (λ (piece : Piece). NoBad (token_of start piece ∷ more) → StringComes (token_of start piece ∷ more)) (λ _ bad. absurd (false≢true bad)) (λ _ _. refl)
+    cond_both (begins is_line_feed (drop (len_of (string_unit c) cs) cs)) _ _ (λ (piece : Piece). QuoteComes (token_of start piece ∷ more)) (λ _. refl) (λ _. refl)
 
 -- from a quote on
-from_quote : (n start c : ℕ) (cs : Characters) → is_quote c ≡ true → NoBad (tokens_from (suc n) start (c ∷ cs)) → StringComes (tokens_from (suc n) start (c ∷ cs))
+from_quote : (n start c : ℕ) (cs : Characters) → is_quote c ≡ true → QuoteComes (tokens_from (suc n) start (c ∷ cs))
 from_quote n start c cs quote =
     rw (quote_row c cs quote) (string_first start c cs (tokens_from n (start + (string_piece c cs).length) (drop (string_piece c cs).length (c ∷ cs))))
 
 -- from whitespace on, where a quote comes after it
-past_white : (m start : ℕ) (rest : Characters) → length rest ≤ m → begins is_quote rest ≡ true → NoBad (tokens_from m start rest) → StringComes (tokens_from m start rest)
+past_white : (m start : ℕ) (rest : Characters) → length rest ≤ m → begins is_quote rest ≡ true → QuoteComes (tokens_from m start rest)
 past_white m start [] h quote = absurd (false≢true quote)
 past_white zero start (c ∷ cs) h quote = absurd (omega (arith, h))
 past_white (suc m) start (c ∷ cs) h quote = from_quote m start c cs quote
 
-white_first : (n start c : ℕ) (cs : Characters) → length (c ∷ cs) ≤ suc n → is_blank c ≡ true → quote_follows (c ∷ cs) ≡ true → NoBad (tokens_from (suc n) start (c ∷ cs)) → StringComes (tokens_from (suc n) start (c ∷ cs))
+white_first : (n start c : ℕ) (cs : Characters) → length (c ∷ cs) ≤ suc n → is_blank c ≡ true → quote_follows (c ∷ cs) ≡ true → QuoteComes (tokens_from (suc n) start (c ∷ cs))
 white_first n start c cs h blank quote =
     let k : ℕ = prefix_len is_blank (c ∷ cs) in
     let some : 0 < k = omega (arith, cond-true (is_blank c) (1 + prefix_len is_blank cs) 0 blank) in
     rw (blank_row c cs blank) (past_white n (start + k) (drop k (c ∷ cs)) (omega (arith, h, some, length-drop k (c ∷ cs))) quote)
 
-string_after : (n start : ℕ) (text : Characters) → length text ≤ n → quote_follows text ≡ true → NoBad (tokens_from n start text) → StringComes (tokens_from n start text)
-string_after n start [] h quote = absurd (false≢true quote)
-string_after zero start (c ∷ cs) h quote = absurd (omega (arith, h))
-string_after (suc n) start (c ∷ cs) h quote =
+quote_after : (n start : ℕ) (text : Characters) → length text ≤ n → quote_follows text ≡ true → QuoteComes (tokens_from n start text)
+quote_after n start [] h quote = absurd (false≢true quote)
+quote_after zero start (c ∷ cs) h quote = absurd (omega (arith, h))
+quote_after (suc n) start (c ∷ cs) h quote =
     elim (cases_Bool (is_blank c)) [
       | inl blank ↦ white_first n start c cs h blank quote
       | inr none ↦ from_quote n start c cs (ap (λ k. begins is_quote (drop k (c ∷ cs))) (sym (cond-false (is_blank c) (1 + prefix_len is_blank cs) 0 none)) ∙ quote)
@@ -120,32 +129,53 @@ piece_goes_on c cs =
     (λ _. ident_goes_on (c ∷ cs))
     (plain_goes_on (mark_kind c) 1 (c ∷ cs))
 
--- the token of a piece, before the others
-one_goes_on : (token : Token) (rest : List Token) → (is_url_function token ≡ true → StringComes rest) → url_goes_on token rest ≡ true
-one_goes_on token rest comes =
-    cond_both (is_url_function token) _ _ (λ b. b ≡ true) (λ url. comes url) (λ _. refl)
-
-row_goes_on : (row : Row) (start c : ℕ) (cs : Characters) (rest : List Token) → (is_url_function (token_of start (piece_of row c cs)) ≡ true → NoBad rest → StringComes rest) → (NoBad rest → urls_go_on rest ≡ true) → NoBad (row_tokens row start c cs ++ rest) → urls_go_on (row_tokens row start c cs ++ rest) ≡ true
-row_goes_on comment_row start c cs rest comes later bad = later bad
-row_goes_on row start c cs rest comes later bad =
-    let others : NoBad rest = (and_parts (not (is_bad_string (piece_of row c cs).kind)) _ bad).1 in
-    and_from _ _ (one_goes_on (token_of start (piece_of row c cs)) rest (λ url. comes url others)) (later others)
+-- the token of a row, before the others
+row_follows : (row : Row) (start c : ℕ) (cs : Characters) (rest : List Token) → (is_url_function (token_of start (piece_of row c cs)) ≡ true → QuoteComes rest) → QuotesFollow rest → QuotesFollow (row_tokens row start c cs ++ rest)
+row_follows comment_row start c cs rest comes later = later
+row_follows row start c cs rest comes later = (comes, later)
 
 -- what comes after the piece is read from where it ends
-url_comes : (n start : ℕ) (row : Row) (c : ℕ) (cs : Characters) → length (drop (row_len row c cs) (c ∷ cs)) ≤ n → GoesOn (c ∷ cs) (piece_of row c cs) → is_url_function (token_of 0 (piece_of row c cs)) ≡ true → NoBad (tokens_from n start (drop (row_len row c cs) (c ∷ cs))) → StringComes (tokens_from n start (drop (row_len row c cs) (c ∷ cs)))
-url_comes n start comment_row c cs h goes url bad = absurd (false≢true (sym (no_name (mark_kind c) 1) ∙ url))
-url_comes n start row c cs h goes url bad = string_after n start (drop (row_len row c cs) (c ∷ cs)) h (goes url) bad
+url_comes : (n start : ℕ) (row : Row) (c : ℕ) (cs : Characters) → length (drop (row_len row c cs) (c ∷ cs)) ≤ n → GoesOn (c ∷ cs) (piece_of row c cs) → is_url_function (token_of 0 (piece_of row c cs)) ≡ true → QuoteComes (tokens_from n start (drop (row_len row c cs) (c ∷ cs)))
+url_comes n start comment_row c cs h goes url = absurd (false≢true (sym (no_name (mark_kind c) 1) ∙ url))
+url_comes n start row c cs h goes url = quote_after n start (drop (row_len row c cs) (c ∷ cs)) h (goes url)
 
-urls_from : (n start : ℕ) (text : Characters) → length text ≤ n → NoBad (tokens_from n start text) → urls_go_on (tokens_from n start text) ≡ true
-urls_from zero start text h bad = refl
-urls_from (suc n) start [] h bad = refl
-urls_from (suc n) start (c ∷ cs) h bad =
+quotes_from : (n start : ℕ) (text : Characters) → length text ≤ n → QuotesFollow (tokens_from n start text)
+quotes_from zero start text h = tt
+quotes_from (suc n) start [] h = tt
+quotes_from (suc n) start (c ∷ cs) h =
     let row : Row = row_at (c ∷ cs) in
     let taken : ℕ = row_len row c cs in
     let rest : Characters = drop taken (c ∷ cs) in
     let inside : length rest ≤ n = omega (arith, h, (first_is c cs).some, length-drop taken (c ∷ cs)) in
-    row_goes_on row start c cs (tokens_from n (start + taken) rest) (url_comes n (start + taken) row c cs inside (piece_goes_on c cs)) (urls_from n (start + taken) rest inside) bad
+    row_follows row start c cs (tokens_from n (start + taken) rest) (url_comes n (start + taken) row c cs inside (piece_goes_on c cs)) (quotes_from n (start + taken) rest inside)
+
+-- In the tokens of a text, a string or a bad one follows each function `url`.
+pub quotes_in : (text : Characters) → QuotesFollow (tokens_in text)
+unfolding tokens_in
+quotes_in text = quotes_from (length text) 0 text (omega arith)
+
+-- without bad strings it is a string
+
+quoted_string : (kind : Kind) → not (is_bad_string kind) ≡ true → is_quoted kind ≡ true → is_string kind ≡ true
+quoted_string string good h = refl
+quoted_string bad_string good h = absurd (false≢true good)
+quoted_string kind good h = absurd (false≢true h)
+
+string_comes : (tokens : List Token) → NoBad tokens → QuoteComes tokens → begins_with is_string (without_white tokens) ≡ true
+string_comes [] bad h = h
+string_comes (token ∷ tokens) bad h = by (is_white token.kind) (string_comes tokens parts.1) h where
+  parts : (not (is_bad_string token.kind) ≡ true) × NoBad tokens
+  parts = and_parts (not (is_bad_string token.kind)) _ bad
+
+  by : (b : Bool) → (QuoteComes tokens → begins_with is_string (without_white tokens) ≡ true) → begins_with is_quoted (cond b (without_white tokens) (token ∷ tokens)) ≡ true → begins_with is_string (cond b (without_white tokens) (token ∷ tokens)) ≡ true
+  by true later h = later h
+  by false later h = quoted_string token.kind parts.0 h
+
+urls_by : (tokens : List Token) → NoBad tokens → QuotesFollow tokens → urls_go_on tokens ≡ true
+urls_by [] bad follow = refl
+urls_by (token ∷ tokens) bad follow =
+    let rest : NoBad tokens = (and_parts (not (is_bad_string token.kind)) _ bad).1 in
+    and_from _ _ (cond_both (is_url_function token) _ _ (λ b. b ≡ true) (λ url. string_comes tokens rest (follow.0 url)) (λ _. refl)) (urls_by tokens rest follow.1)
 
 pub urls_go_on_in : (text : Characters) → NoBad (tokens_in text) → urls_go_on (tokens_in text) ≡ true
-unfolding tokens_in
-urls_go_on_in text bad = urls_from (length text) 0 text (omega arith) bad
+urls_go_on_in text bad = urls_by (tokens_in text) bad (quotes_in text)

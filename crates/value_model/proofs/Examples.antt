@@ -3,6 +3,8 @@ use Rattle.std.proofs.Common.{◌≡◌, true, not, List, [], ◌∷◌, ◌++�
 use Rattle.std.specs.Prelude.{codes}
 use Rattle.std.specs.List.{list_all}
 use Rattle.base_model.specs.Text.{Characters}
+use Rattle.std.specs.FinMap as finmap
+use Rattle.custom_model.proofs.Maps.{texts-empty}
 use Rattle.value_model.specs.Color.{Color, opaque, rgba, transparent, black}
 use Rattle.value_model.specs.Value.{Value, keyword, color, written, same_value, current_color}
 use Rattle.value_model.specs.Table.{table, property_named, display_property}
@@ -56,7 +58,7 @@ not_same = refl
 -- a style of four values
 abbrev style : Color → Characters → Characters → Characters → Style
 style c display clear visibility =
-    record { values = color c ∷ word display ∷ word clear ∷ word visibility ∷ [] }
+    record { values = color c ∷ word display ∷ word clear ∷ word visibility ∷ []; custom = finmap.empty }
 
 abbrev red : Color
 red = opaque 255 0 0
@@ -105,4 +107,4 @@ printed =
 
 styles_printed : map printed_declarations styles ≡ printed
 unfolding table
-styles_printed = refl
+styles_printed = simp texts-empty

@@ -1,6 +1,7 @@
 -- How the declarations of a style are printed.
 use Rattle.std.specs.Prelude.{List, [], ◌∷◌, ◌++◌, if◌then◌else◌, codes}
 use Rattle.base_model.specs.Text.{Characters}
+use Rattle.custom_model.specs.Printed.{joined, custom_texts}
 use Rattle.value_model.specs.Value.{Value, written, same_value}
 use Rattle.value_model.specs.Table.{Row, table}
 use Rattle.value_model.specs.Style.{Style}
@@ -17,16 +18,7 @@ declaration_texts (row ∷ rows) (value ∷ values) =
     if same_value value row.standing then declaration_texts rows values
     else declaration_text row value ∷ declaration_texts rows values
 
--- each text after a separator
-abbrev pub each_after : Characters → List Characters → Characters
-each_after separator [] = []
-each_after separator (text ∷ texts) = separator ++ (text ++ each_after separator texts)
-
--- the texts with a separator between each two
-abbrev pub joined : Characters → List Characters → Characters
-joined separator [] = []
-joined separator (text ∷ texts) = text ++ each_after separator texts
-
--- the declarations of a style as they are printed
+-- the declarations of a style as they are printed: behind the properties of the table are the custom ones
 abbrev pub printed_declarations : Style → Characters
-printed_declarations style = joined (codes "; ") (declaration_texts table style.values)
+printed_declarations style =
+    joined (codes "; ") (declaration_texts table style.values ++ custom_texts style.custom)
