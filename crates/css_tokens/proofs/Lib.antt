@@ -5,3 +5,13 @@ pub mod RunLemmas
 pub mod UrlLemmas
 pub mod TokenizerLemmas
 pub mod DecimalLemmas
+pub mod MapLemmas
+pub mod OpenedLemmas
+pub mod HeadLemmas
+pub mod NextLemmas
+pub mod SearchLemmas
+pub mod OrderLemmas
+pub mod SpacedLemmas
+pub mod FoundLemmas
+pub mod NameLemmas
+pub mod ListLemmas

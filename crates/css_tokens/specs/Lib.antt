@@ -3,3 +3,10 @@ pub mod Input
 pub mod Scanned
 pub mod Taken
 pub mod View
+pub mod KeptTokens
+pub mod Found
+pub mod CustomView
+pub mod EntriesView
+pub mod Steps
+pub mod Opened
+pub mod OpenView

@@ -1,10 +1,12 @@
 //! Tokens.
 
-ghost use Rattle.std.specs.Prelude.{◌≡◌, ◌+◌, ◌^◌, ◌<◌, IfOk};
+ghost use Rattle.std.specs.Prelude.{◌≡◌, ◌↔◌, ◌+◌, ◌^◌, ◌<◌, IfOk, IsTrue};
 ghost use Rattle.std.specs.Option.{option_map};
 ghost use Rattle.syntax_model.specs.Brackets.{closer};
 ghost use Rattle.syntax_model.specs.Kinds as kinds;
 ghost use Rattle.syntax_model.specs.Pieces.{token_of};
+ghost use Rattle.syntax_model.specs.Token.{said};
+ghost use Rattle.custom_model.specs.Value.{unplaced, white_space};
 ghost use Rattle.css_tokens.specs.View as view;
 ghost use Rattle.css_tokens.specs.Scanned.{found};
 ghost use Rattle.css_tokens.specs.View.{bracket_of, kind_of, span_of};
@@ -174,6 +176,37 @@ impl Token {
             spelling: self.spelling.to_vec(alloc)?,
             span: self.span,
         })
+    }
+
+    /// A token that says the same, and is of no text.
+    pub fn bare(&self, alloc: Global) -> Result<Token, NoMemory>
+        ensures { IfOk result (λ t. t ≡ unplaced (said self.now)) }
+    {
+        Ok(Token {
+            kind: self.kind,
+            name: self.name.copy(alloc)?,
+            spelling: self.spelling.to_vec(alloc)?,
+            span: None,
+        })
+    }
+
+    /// Whitespace of no text. It takes no memory.
+    pub fn white_space(alloc: Global) -> Token
+        ensures { result ≡ unplaced white_space }
+    {
+        Token {
+            kind: Kind::Whitespace,
+            name: Text::new(alloc),
+            spelling: Vec::new(alloc),
+            span: None,
+        }
+    }
+
+    /// Whether both say the same, wherever they are.
+    pub fn says_same(&self, other: &Token) -> bool
+        ensures { IsTrue result ↔ (said self.now ≡ said other.now) }
+    {
+        self.kind == other.kind && self.name.is_same(&other.name) && self.spelling == other.spelling
     }
 
     /// Whether it is an at-keyword.

@@ -41,8 +41,8 @@ impl Wide {
     }
 }
 
-// Whether a text is this word, which is in lower-case ASCII, ignoring ASCII case.
-fn is_word(text: &str, word: &str) -> bool
+/// Whether a text is this word, which is in lower-case ASCII, ignoring ASCII case.
+pub(crate) fn is_word(text: &str, word: &str) -> bool
     requires ascii { is_all_ascii word.now ≡ true }
     requires lower { IsTrue (same_text (ascii_lower word.now) word.now) }
     ensures { result ≡ is_word word.now (chars text.now) }

@@ -1,8 +1,13 @@
 //! What is true of written tokens, as the contracts of functions that do nothing.
 
-ghost use Rattle.std.specs.Prelude.{◌≡◌, ◌||◌, List, map, not, true};
+ghost use Rattle.std.specs.Prelude.{◌≡◌, ◌||◌, List, Some, map, not, true};
+ghost use Rattle.std.specs.FinMap as finmap;
 ghost use Rattle.std.specs.List.{list_all};
 ghost use Rattle.base_model.specs.Text.{Characters};
+ghost use Rattle.custom_model.specs.Computed.{resolved};
+ghost use Rattle.custom_model.specs.Cycles.{DeclaredValues};
+ghost use Rattle.custom_model.specs.Expand.{Lookup, expansion};
+ghost use Rattle.custom_model.specs.Value.{CustomValue, CustomValues, unplaced};
 ghost use Rattle.syntax_model.specs.Preprocess.{preprocessed};
 ghost use Rattle.syntax_model.specs.Token.{Token, said};
 ghost use Rattle.syntax_model.specs.TokensIn.{tokens_in};
@@ -33,4 +38,26 @@ pub fn strings_follow_urls()
     ensures { (text : Characters)
         → list_all (λ token. not (is_bad_string token.kind)) (tokens_in text) ≡ true
         → urls_go_on (tokens_in text) ≡ true }
+{}
+
+/// What a value expands to is writable, where the value is and those of the custom properties are.
+pub fn expansions_are_writable()
+    ensures { (values : Lookup)
+        → ((name : Characters) (value : CustomValue) → values name ≡ Some value
+        → is_writable (map unplaced value) ≡ true)
+        → (tokens result : CustomValue) → is_writable (map unplaced tokens) ≡ true
+        → expansion values tokens ≡ Some result → is_writable (map unplaced result) ≡ true }
+{}
+
+/// So are the values of an element's custom properties, where what is declared and what is inherited
+/// is.
+pub fn computed_values_are_writable()
+    ensures { (declared : DeclaredValues) (inherited : CustomValues)
+        → ((name : Characters) (value : CustomValue) → finmap.get declared name ≡ Some (Some value)
+        → is_writable (map unplaced value) ≡ true)
+        → ((name : Characters) (value : CustomValue) → finmap.get inherited name ≡ Some value
+        → is_writable (map unplaced value) ≡ true)
+        → (name : Characters) (value : CustomValue)
+        → finmap.get (resolved declared inherited) name ≡ Some value
+        → is_writable (map unplaced value) ≡ true }
 {}

@@ -16,13 +16,21 @@ pub fn write(alloc: Global, tokens: &[Token]) -> Result<Text, NoMemory>
     ensures { IfOk result (λ text. text ≡ model.written tokens.now) }
 {
     let mut out = Output::new(alloc);
+    push_tokens(alloc, &mut out, tokens)?;
+    Ok(out.into_text())
+}
+
+/// Appends the text of the tokens.
+pub(crate) fn push_tokens(alloc: Global, out: &mut Output, tokens: &[Token]) -> Result<(), NoMemory>
+    ensures { OnOk result (out.new ≡ out.old ++ model.written tokens.now) }
+{
     let mut rest = tokens;
     while let Some((token, after)) = rest.split_first() {
-        push_token(alloc, &mut out, token)?;
-        push_gap(&mut out, token.kind(), after)?;
+        push_token(alloc, out, token)?;
+        push_gap(out, token.kind(), after)?;
         rest = after;
     }
-    Ok(out.into_text())
+    Ok(())
 }
 
 // Appends an empty comment after a token of this kind, where the next one needs it.

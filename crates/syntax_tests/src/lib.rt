@@ -4,6 +4,8 @@
 #[cfg(test)]
 mod cursor;
 #[cfg(test)]
+mod custom;
+#[cfg(test)]
 mod rules;
 #[cfg(test)]
 mod tokens;

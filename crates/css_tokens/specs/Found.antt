@@ -1,0 +1,30 @@
+-- What is found of a value.
+use Rattle.std.specs.Prelude.{List, Bool, true, false, ◌||◌, if◌then◌else◌, Option, Some, None}
+use Rattle.std.specs.List.{list_any}
+use Rattle.custom_model.specs.Steps.{Step, token}
+use Rattle.css_tokens.specs.declared.custom_value.Found.{Found}
+use Rattle.css_tokens.specs.declared.custom_value.Found.TheVariants as variant
+
+-- whether a step is one of a `var()`
+abbrev pub is_of_var : Step → Bool
+is_of_var (token said) = false
+is_of_var step = true
+
+-- what is found of the steps that are left, after some that were of a `var()` or not
+abbrev pub found_after : Bool → Option (List Step) → Found
+found_after refers None = variant.Invalid
+found_after refers (Some steps) = if refers || list_any is_of_var steps then variant.Referring else variant.Plain
+
+-- whether a value is valid, whether it refers to a custom property, and whether it is valid and refers to none
+
+abbrev pub is_found_valid : Found → Bool
+is_found_valid variant.Invalid = false
+is_found_valid found = true
+
+abbrev pub is_found_referring : Found → Bool
+is_found_referring variant.Referring = true
+is_found_referring found = false
+
+abbrev pub is_found_plain : Found → Bool
+is_found_plain variant.Plain = true
+is_found_plain found = false
