@@ -1,0 +1,13 @@
+pub mod Place
+pub mod Entries
+pub mod Confirmed
+pub mod Graph
+pub mod Added
+pub mod KnownView
+pub mod Off
+pub mod Plain
+pub mod Merged
+pub mod Front
+pub mod FrontView
+pub mod Expanding
+pub mod ExpanderView

@@ -1,0 +1,24 @@
+//! Computes the custom properties of an element, and puts their values in the place of `var()`
+//! (css-variables-1).
+#![tactic(auto)]
+
+mod components;
+mod computed;
+mod confirmed;
+mod declared_map;
+mod expander;
+mod expansion;
+mod front;
+mod graph;
+mod known;
+mod mark;
+mod merged;
+mod ordered;
+mod plain;
+mod resolution;
+mod substitution;
+mod values;
+
+pub use declared_map::{DeclaredEntry, DeclaredMap};
+pub use resolution::{changed, resolve};
+pub use substitution::substitute;
