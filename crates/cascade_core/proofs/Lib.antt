@@ -1,4 +1,10 @@
 pub mod BestLemmas
 pub mod SortedLemmas
 pub mod RollbackLemmas
+pub mod DeclaredLemmas
+pub mod NameLemmas
+pub mod ListedLemmas
+pub mod ByNameLemmas
+pub mod TokenLemmas
+pub mod SeenLemmas
 pub mod FilledLemmas

@@ -9,9 +9,10 @@ use Rattle.std.specs.Option.{option_map_or}
 use Rattle.std.specs.Ordering.{is_lt, ordering_then, nat_cmp, bool_cmp}
 use Rattle.base_model.specs.Origin.{origin_rank}
 use Rattle.syntax_model.specs.Wide.{inherit, initial, unset, revert, revert_layer}
+use Rattle.sheet_model.specs.Declared.{Given}
 use Rattle.cascade_model.specs.Key.{Matched}
 use Rattle.cascade_model.specs.Winner.{greatest_of}
-use Rattle.cascade_model.specs.Ending.{Ending, unsets, Meaning, keyword, value, meaning_of, ending_of, ending_on}
+use Rattle.cascade_model.specs.Ending.{Ending, unsets, Meaning, keyword, value, ending_of, ending_on}
 use Rattle.cascade_model.proofs.EndingLemmas.{ending_of-step}
 use Rattle.cascade_core.specs.Rollback.{Descends, Level, level_of, compare_level, Limit, no_limit, below_origin, below_level, keeps, settled, limit_by, walked}
 
@@ -72,12 +73,12 @@ module _ {X : Type 0} where
   stricter_step p q false false x xs ys is_p is_q h k = k
 
   -- a filter after one that is less strict
-  stricter : (p q : X → Bool) → ((x : X) → q x ≡ true → p x ≡ true) → (xs : List X) → filter q (filter p xs) ≡ filter q xs
+  pub stricter : (p q : X → Bool) → ((x : X) → q x ≡ true → p x ≡ true) → (xs : List X) → filter q (filter p xs) ≡ filter q xs
   stricter p q h [] = refl
   stricter p q h (x ∷ xs) =
       stricter_step p q (p x) (q x) x (filter p xs) (filter q xs) refl refl (h x) (stricter p q h xs)
 
-module _ (ds ss : List Matched) (descends : Descends ds ss) where
+module _ {A : Type 0} (means : Given → Meaning A) (ds ss : List Matched) (descends : Descends ds ss) where
   -- what is asked still is found in the rest
   abbrev IsAhead : Limit → List Matched → Type 0
   IsAhead limit rest = (q : Matched → Bool) → ((d : Matched) → q d ≡ true → keeps limit d ≡ true) → find q ss ≡ find q rest
@@ -86,15 +87,15 @@ module _ (ds ss : List Matched) (descends : Descends ds ss) where
   asked limit = filter (keeps limit) ds
 
   abbrev Comes : Limit → List Matched → Type 0
-  Comes limit rest = walked limit rest ≡ ending_of meaning_of (asked limit)
+  Comes limit rest = walked means limit rest ≡ ending_of means (asked limit)
 
   found_first : (limit : Limit) (rest : List Matched) (o : Option Matched) → IsAhead limit rest → find (keeps limit) rest ≡ o → greatest_of (asked limit) ≡ o
   found_first limit rest o ahead is = sym (descends (keeps limit)) ∙ (ahead (keeps limit) (λ d k. k) ∙ is)
 
   at_end : (limit : Limit) → IsAhead limit [] → Comes limit []
   at_end limit ahead =
-      sym (ending_of-step meaning_of (asked limit)
-      ∙ ap (λ (o : Option Matched). option_map_or (λ w. ending_on (ending_of meaning_of) (asked limit) w (meaning_of w.given)) o unsets) (found_first limit [] None ahead refl))
+      sym (ending_of-step means (asked limit)
+      ∙ ap (λ (o : Option Matched). option_map_or (λ w. ending_on (ending_of means) (asked limit) w (means w.given)) o unsets) (found_first limit [] None ahead refl))
 
   passed : (q : Matched → Bool) (d : Matched) (rest : List Matched) → q d ≡ false → find q (d ∷ rest) ≡ find q rest
   passed q d rest fails = rw fails refl
@@ -114,31 +115,31 @@ module _ (ds ss : List Matched) (descends : Descends ds ss) where
   abbrev Goes : List Matched → Type 0
   Goes rest = (limit : Limit) → IsAhead limit rest → Comes limit rest
 
-  abbrev after : Matched → List Matched → Meaning → Ending
+  abbrev after : Matched → List Matched → Meaning A → Ending A
   after d rest meaning = elim (settled meaning) [
     | Some end ↦ end
-    | None ↦ walked (limit_by d meaning) rest
+    | None ↦ walked means (limit_by d meaning) rest
   ]
 
-  by_meaning : (limit : Limit) (d : Matched) (rest : List Matched) → Goes rest → keeps limit d ≡ true → IsAhead limit (d ∷ rest) → (meaning : Meaning) → after d rest meaning ≡ ending_on (ending_of meaning_of) (asked limit) d meaning
+  by_meaning : (limit : Limit) (d : Matched) (rest : List Matched) → Goes rest → keeps limit d ≡ true → IsAhead limit (d ∷ rest) → (meaning : Meaning A) → after d rest meaning ≡ ending_on (ending_of means) (asked limit) d meaning
   by_meaning limit d rest goes kept ahead (keyword inherit) = refl
   by_meaning limit d rest goes kept ahead (keyword initial) = refl
   by_meaning limit d rest goes kept ahead (keyword unset) = refl
   by_meaning limit d rest goes kept ahead (keyword revert) =
       let next : Limit = below_origin (origin_rank d.origin) in
       goes next (taken_back limit next d rest (λ e. by_origin limit d e kept) (not_origin d) ahead)
-      ∙ ap (ending_of meaning_of) (sym (stricter (keeps limit) (keeps next) (λ e. by_origin limit d e kept) ds))
+      ∙ ap (ending_of means) (sym (stricter (keeps limit) (keeps next) (λ e. by_origin limit d e kept) ds))
   by_meaning limit d rest goes kept ahead (keyword revert_layer) =
       let next : Limit = below_level (level_of d) in
       goes next (taken_back limit next d rest (λ e. by_level limit d e kept) (not_level d) ahead)
-      ∙ ap (ending_of meaning_of) (sym (stricter (keeps limit) (keeps next) (λ e. by_level limit d e kept) ds))
+      ∙ ap (ending_of means) (sym (stricter (keeps limit) (keeps next) (λ e. by_level limit d e kept) ds))
   by_meaning limit d rest goes kept ahead (value given) = refl
 
-  by_kept : (limit : Limit) (d : Matched) (rest : List Matched) → Goes rest → IsAhead limit (d ∷ rest) → (b : Bool) → keeps limit d ≡ b → cond b (after d rest (meaning_of d.given)) (walked limit rest) ≡ ending_of meaning_of (asked limit)
+  by_kept : (limit : Limit) (d : Matched) (rest : List Matched) → Goes rest → IsAhead limit (d ∷ rest) → (b : Bool) → keeps limit d ≡ b → cond b (after d rest (means d.given)) (walked means limit rest) ≡ ending_of means (asked limit)
   by_kept limit d rest goes ahead true kept =
-      by_meaning limit d rest goes kept ahead (meaning_of d.given)
-      ∙ sym (ending_of-step meaning_of (asked limit)
-      ∙ ap (λ (o : Option Matched). option_map_or (λ w. ending_on (ending_of meaning_of) (asked limit) w (meaning_of w.given)) o unsets) (found_first limit (d ∷ rest) (Some d) ahead (ap (λ b. cond b (Some d) (find (keeps limit) rest)) kept)))
+      by_meaning limit d rest goes kept ahead (means d.given)
+      ∙ sym (ending_of-step means (asked limit)
+      ∙ ap (λ (o : Option Matched). option_map_or (λ w. ending_on (ending_of means) (asked limit) w (means w.given)) o unsets) (found_first limit (d ∷ rest) (Some d) ahead (ap (λ b. cond b (Some d) (find (keeps limit) rest)) kept)))
   by_kept limit d rest goes ahead false fails = goes limit (not_asked limit d rest fails ahead)
 
   goes_on : (rest : List Matched) → Goes rest
@@ -150,5 +151,5 @@ module _ (ds ss : List Matched) (descends : Descends ds ss) where
   all_kept (x ∷ xs) = ap (λ l. x ∷ l) (all_kept xs)
 
   -- what the declarations come to, from the greatest down
-  pub walked_down : walked no_limit ss ≡ ending_of meaning_of ds
-  walked_down = goes_on ss no_limit (λ q within. refl) ∙ ap (ending_of meaning_of) (all_kept ds)
+  pub walked_down : walked means no_limit ss ≡ ending_of means ds
+  walked_down = goes_on ss no_limit (λ q within. refl) ∙ ap (ending_of means) (all_kept ds)

@@ -41,7 +41,7 @@ module _ {X : Type 0} where
   failing_step false x rest fails none = none
 
   -- and none is left
-  none_left : (p : X → Bool) (xs : List X) → list_all (λ x. not (p x)) xs ≡ true → filter p xs ≡ []
+  pub none_left : (p : X → Bool) (xs : List X) → list_all (λ x. not (p x)) xs ≡ true → filter p xs ≡ []
   none_left p [] all = refl
   none_left p (x ∷ xs) all =
       let parts = and_parts (not (p x)) (list_all (λ y. not (p y)) xs) all in
@@ -70,7 +70,7 @@ module _ {X : Type 0} where
   swap_step p t false false y ps ts h is_b is_c = h
 
   -- two tests may be asked in either order
-  found_either : (p t : X → Bool) (xs : List X) → find t (filter p xs) ≡ find p (filter t xs)
+  pub found_either : (p t : X → Bool) (xs : List X) → find t (filter p xs) ≡ find p (filter t xs)
   found_either p t [] = refl
   found_either p t (y ∷ ys) =
       swap_step p t (p y) (t y) y (filter p ys) (filter t ys) (found_either p t ys) refl refl
@@ -79,7 +79,7 @@ module _ {X : Type 0} where
   alike_step p q b y one other same rest passes = rw (same passes, rest) refl
 
   -- tests that agree on those that pass a third find the same among them
-  found_among : (p q r : X → Bool) → ((x : X) → r x ≡ true → p x ≡ q x) → (xs : List X) → list_all r xs ≡ true → find p xs ≡ find q xs
+  pub found_among : (p q r : X → Bool) → ((x : X) → r x ≡ true → p x ≡ q x) → (xs : List X) → list_all r xs ≡ true → find p xs ≡ find q xs
   found_among p q r same [] all = refl
   found_among p q r same (y ∷ ys) all =
       let parts = and_parts (r y) (list_all r ys) all in

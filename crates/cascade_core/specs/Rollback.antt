@@ -4,9 +4,10 @@ use Rattle.std.specs.declared.cmp.Ordering.{Ordering}
 use Rattle.std.specs.Ordering.{is_lt, ordering_then, nat_cmp, bool_cmp}
 use Rattle.base_model.specs.Origin.{origin_rank}
 use Rattle.syntax_model.specs.Wide.{inherit, initial, unset, revert, revert_layer}
+use Rattle.sheet_model.specs.Declared.{Given}
 use Rattle.cascade_model.specs.Key.{Matched}
 use Rattle.cascade_model.specs.Winner.{greatest_of}
-use Rattle.cascade_model.specs.Ending.{Ending, inherits, initially, unsets, ends_at, Meaning, keyword, value, meaning_of}
+use Rattle.cascade_model.specs.Ending.{Ending, inherits, initially, unsets, ends_at, Meaning, keyword, value}
 
 -- a list of declarations from the greatest down: the first that passes is the greatest of those that do
 abbrev pub Descends : List Matched → List Matched → Type 0
@@ -39,7 +40,7 @@ keeps (below_origin rank) d = nat_lt (origin_rank d.origin) rank
 keeps (below_level level) d = is_lt (compare_level (level_of d) level)
 
 -- what the declaration that wins comes to, unless it takes the cascade back
-abbrev pub settled : Meaning → Option Ending
+abbrev pub settled : {A : Type 0} → Meaning A → Option (Ending A)
 settled (keyword inherit) = Some inherits
 settled (keyword initial) = Some initially
 settled (keyword unset) = Some unsets
@@ -48,15 +49,15 @@ settled (keyword revert_layer) = None
 settled (value given) = Some (ends_at given)
 
 -- and where it takes it then
-abbrev pub limit_by : Matched → Meaning → Limit
+abbrev pub limit_by : {A : Type 0} → Matched → Meaning A → Limit
 limit_by winning (keyword revert_layer) = below_level (level_of winning)
 limit_by winning meaning = below_origin (origin_rank winning.origin)
 
-abbrev pub walked : Limit → List Matched → Ending
-walked limit [] = unsets
-walked limit (d ∷ ds) =
-    if keeps limit d then elim (settled (meaning_of d.given)) [
+abbrev pub walked : {A : Type 0} → (Given → Meaning A) → Limit → List Matched → Ending A
+walked means limit [] = unsets
+walked means limit (d ∷ ds) =
+    if keeps limit d then elim (settled (means d.given)) [
       | Some end ↦ end
-      | None ↦ walked (limit_by d (meaning_of d.given)) ds
+      | None ↦ walked means (limit_by d (means d.given)) ds
     ]
-    else walked limit ds
+    else walked means limit ds

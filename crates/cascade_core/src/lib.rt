@@ -1,9 +1,15 @@
 //! The style of an element, from the declarations that apply to it and the style of its parent.
 #![tactic(auto)]
 
+mod custom;
+mod customs;
 mod ending;
+mod gathered;
 mod level;
+mod longhands;
 mod matched;
+mod meaning;
+mod names;
 mod rollback;
 mod styled;
 mod winners;

@@ -1,25 +1,28 @@
 //! `revert` and `revert-layer`, which take the cascade back (css-cascade-5, sections 7.3.4 and 7.3.5).
 
-ghost use Rattle.std.specs.Prelude.{◌≡◌, ◌++◌, IfOk, OnOk, filter, map};
-ghost use Rattle.cascade_model.specs.Ending.{ending, meaning_of};
+ghost use Rattle.std.specs.Prelude.{◌≡◌, ◌++◌, IfOk, filter, map};
+ghost use Rattle.std.specs.FinMap as finmap;
+ghost use Rattle.cascade_model.specs.Ending.{ending};
 ghost use Rattle.cascade_model.specs.Key.{key_cmp};
 ghost use Rattle.cascade_model.specs.Winner.{declares_longhand};
-ghost use Rattle.property_table.specs.View.{property_of};
+ghost use Rattle.property_table.specs.View.{property_of, value_of};
+ghost use Rattle.cascade_core.specs.EndingView.{ending_seen, meaning_seen};
 ghost use Rattle.cascade_core.specs.Rollback.{Descends, keeps, limit_by, no_limit, walked};
-ghost use Rattle.cascade_core.specs.View.{ending_seen, limit_seen, matched_of};
+ghost use Rattle.cascade_core.specs.View.{limit_seen, matched_of};
 
 use crate::Matched;
-use crate::ending::Ending;
+use crate::ending::{Ending, Meaning};
+use crate::gathered::{Wanted, gathered};
 use crate::level::Level;
+use crate::longhands::Longhands;
 use crate::matched::compare;
+use crate::meaning::Meanings;
 use css_tokens::Wide;
 use layer_order::Origin;
-use property_table::PropId;
+use property_table::{PropId, Value};
 use std::alloc::Global;
 use std::cmp::Ordering;
-use std::slice;
 use stylo_base::NoMemory;
-use value_parser::Given;
 
 /// How far the cascade was taken back: what is asked still.
 #[derive(Clone, Copy, Debug)]
@@ -33,12 +36,12 @@ pub(crate) enum Limit {
 }
 
 impl Limit {
-    /// Where a declaration takes the cascade back that says `revert-layer` or `revert`.
-    fn of(d: &Matched<'_>) -> Limit
-        ensures { limit_seen result ≡ limit_by (matched_of d.now) (meaning_of (matched_of d.now).given) }
+    /// Where a declaration takes the cascade back that means `revert-layer` or `revert`.
+    fn by<V: Copy>(d: &Matched<'_>, meaning: Meaning<V>) -> Limit
+        ensures { limit_seen result ≡ limit_by (matched_of d.now) (meaning_seen (λ v. v) meaning) }
     {
-        match d.declared.given {
-            Given::Wide(Wide::RevertLayer) => Limit::BelowLevel(Level::of(d)),
+        match meaning {
+            Meaning::Keyword(Wide::RevertLayer) => Limit::BelowLevel(Level::of(d)),
             _ => Limit::BelowOrigin(d.origin),
         }
     }
@@ -62,12 +65,14 @@ pub(crate) fn rolled_back<'a>(
     matched: &'a [Matched<'a>],
     attached: &'a [Matched<'a>],
     id: PropId,
-) -> Result<Ending, NoMemory>
-    ensures { IfOk result (λ end. ending_seen end
-        ≡ ending (property_of id) (map matched_of (matched.now ++ attached.now))) }
+    longhands: &Longhands<'_>,
+) -> Result<Ending<Value>, NoMemory>
+    ensures { let values = finmap.get longhands.now.custom.now in
+        IfOk result (λ end. ending_seen value_of end
+        ≡ ending values (property_of id) (map matched_of (matched.now ++ attached.now))) }
 {
     let list = descending(alloc, matched, attached, id)?;
-    Ok(walk(&list))
+    walk(alloc, &list, longhands)
 }
 
 /// The declarations of a property, from the greatest down. Of equal ones the first comes first.
@@ -81,9 +86,7 @@ fn descending<'a>(
         (filter (declares_longhand (property_of id)) (map matched_of (matched.now ++ attached.now)))
         (map matched_of list.items)) }
 {
-    let mut list = Vec::new(alloc);
-    add_declared(&mut list, matched, id)?;
-    add_declared(&mut list, attached, id)?;
+    let mut list = gathered(alloc, matched, attached, Wanted::Property(id))?;
     list.sort_by(
         |a: &Matched<'_>, b: &Matched<'_>| -> Ordering
             ensures { result ≡ key_cmp (matched_of b.now) (matched_of a.now) }
@@ -92,35 +95,24 @@ fn descending<'a>(
     Ok(list)
 }
 
-/// Adds those that declare a property.
-fn add_declared<'a>(
-    list: &mut Vec<Matched<'a>>,
-    matched: &'a [Matched<'a>],
-    id: PropId,
-) -> Result<(), NoMemory>
-    ensures { OnOk result (map matched_of list.new.items ≡ map matched_of list.old.items
-        ++ filter (declares_longhand (property_of id)) (map matched_of matched.now)) }
-{
-    for d in matched {
-        if d.declared.property == id {
-            list.extend_from_slice(slice::from_ref(d))?;
-        }
-    }
-    Ok(())
-}
-
-/// What a list that is sorted from the greatest down comes to.
-fn walk(list: &[Matched<'_>]) -> Ending
-    ensures { ending_seen result ≡ walked no_limit (map matched_of list.now) }
+/// What a list of declarations from the greatest down comes to.
+pub(crate) fn walk<'a, M: Meanings<'a>>(
+    alloc: Global,
+    list: &[Matched<'a>],
+    meanings: &M,
+) -> Result<Ending<M::Value>, NoMemory>
+    ensures { IfOk result (λ end. ending_seen M.seen end
+        ≡ walked (M.means meanings.now) no_limit (map matched_of list.now)) }
 {
     let mut limit = Limit::All;
     for d in list {
         if limit.keeps(d) {
-            if let Some(ending) = Ending::settled(d.declared.given) {
-                return ending;
+            let meaning = meanings.meaning(alloc, &d.declared.given)?;
+            if let Some(ending) = Ending::settled(meaning) {
+                return Ok(ending);
             }
-            limit = Limit::of(d);
+            limit = Limit::by(d, meaning);
         }
     }
-    Ending::Unsets
+    Ok(Ending::Unsets)
 }

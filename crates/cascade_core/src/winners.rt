@@ -1,32 +1,46 @@
 //! The declaration that wins, for each property.
 
-ghost use Rattle.std.specs.Prelude.{◌≡◌, ◌∷◌, [], ◌++◌, List, Some, IfSome, map, option_copied, option_map, slice_get};
+ghost use Rattle.std.specs.Prelude.{◌≡◌, ◌∷◌, [], ◌++◌, IfOk, List, Some, IfSome, map, option_copied, option_map, slice_get};
+ghost use Rattle.std.specs.FinMap as finmap;
 ghost use Rattle.cascade_model.specs.Key.{Matched as Declaration};
 ghost use Rattle.cascade_model.specs.Winner.{winner, declares_longhand};
 ghost use Rattle.cascade_model.specs.Ending.{ending};
-ghost use Rattle.property_table.specs.View.{property_of};
-ghost use Rattle.cascade_core.specs.View.{ending_seen, matched_of, winners_of};
+ghost use Rattle.sheet_model.specs.Declared.{longhand};
+ghost use Rattle.property_table.specs.View.{property_of, value_of};
+ghost use Rattle.cascade_core.specs.EndingView.{ending_seen};
+ghost use Rattle.cascade_core.specs.View.{matched_of};
+ghost use Rattle.cascade_core.specs.Won.{Won, winners_of};
 
 use crate::Matched;
 use crate::ending::Ending;
+use crate::longhands::Longhands;
 use crate::matched::compare;
-use property_table::{COUNT, PropId};
+use crate::meaning::Meanings;
+use property_table::{COUNT, PropId, Value};
+use std::alloc::Global;
 use std::marker::Model;
+use stylo_base::NoMemory;
+use value_parser::Target;
 
-/// For each property the declaration that wins among those that were added, if there is one.
+/// For each property the declaration that wins among those that were added, if there is one, and
+/// whether some declaration is of a custom property.
 #[derive(Drop)]
 pub(crate) struct Winners<'a> {
     best: [Option<&'a Matched<'a>>; COUNT],
+    have_custom: bool,
 }
 
 impl<'a> Model for Winners<'a> {
-    ghost use Rattle.std.specs.Prelude.{List, Option, map, option_copied, option_map};
-    ghost use Rattle.cascade_model.specs.Key as model;
+    ghost use Rattle.std.specs.Prelude.{map, option_copied, option_map};
+    ghost use Rattle.cascade_core.specs.Won as model;
     ghost use Rattle.cascade_core.specs.View.{matched_of};
 
-    ghost Value = { List (Option model.Matched) };
+    ghost Value = { model.Won };
 
-    ghost view = { λ w. map (λ d. option_map matched_of (option_copied d)) w.best };
+    ghost view = { λ w. record {
+      best = map (λ d. option_map matched_of (option_copied d)) w.best;
+      have_custom = w.have_custom;
+    } };
 }
 
 impl<'a> Winners<'a> {
@@ -46,19 +60,34 @@ impl<'a> Winners<'a> {
     }
 
     /// What the declarations of a property come to. None: the one that wins takes the cascade back.
-    pub(crate) fn ending(&self, id: PropId) -> Option<Ending>
+    pub(crate) fn ending(
+        &self,
+        alloc: Global,
+        id: PropId,
+        longhands: &Longhands<'_>,
+    ) -> Result<Option<Ending<Value>>, NoMemory>
         ensures { (ds : List Declaration) → self.now ≡ winners_of ds
-            → IfSome result (λ end. ending_seen end ≡ ending (property_of id) ds) }
+            → let values = finmap.get longhands.now.custom.now in
+            IfOk result (λ found. IfSome found (λ end.
+            ending_seen value_of end ≡ ending values (property_of id) ds)) }
     {
-        match self.of(id) {
-            Some(d) => Ending::settled(d.declared.given),
-            None => Some(Ending::Unsets),
-        }
+        let Some(d) = self.of(id) else {
+            return Ok(Some(Ending::Unsets));
+        };
+        let meaning = longhands.meaning(alloc, &d.declared.given)?;
+        Ok(Ending::settled(meaning))
+    }
+
+    /// Whether some declaration is of a custom property.
+    pub(crate) fn have_custom(&self) -> bool
+        ensures { result ≡ self.now.have_custom }
+    {
+        self.have_custom
     }
 
     /// The one that wins for a property.
     fn of(&self, id: PropId) -> Option<&'a Matched<'a>>
-        ensures { slice_get self.now (property_of id)
+        ensures { slice_get self.now.best (property_of id)
             ≡ Some (option_map matched_of (option_copied result)) }
     {
         let best = &self.best[..];
@@ -70,6 +99,7 @@ impl<'a> Winners<'a> {
     {
         Winners {
             best: [None; COUNT],
+            have_custom: false,
         }
     }
 
@@ -77,18 +107,22 @@ impl<'a> Winners<'a> {
         ensures { (ds : List Declaration) → self.old ≡ winners_of ds
             → self.new ≡ winners_of (ds ++ matched_of d.now ∷ []) }
     {
+        let Target::Longhand(id) = &d.declared.target else {
+            self.have_custom = true;
+            return;
+        };
         let best = &mut self.best[..];
-        let row = d.declared.property.row();
-        best[row] = Some(better_of(best[row], d));
+        let row = id.row();
+        best[row] = Some(better_of(*id, best[row], d));
     }
 }
 
-/// The winner of a property once this declaration comes after those in which `best` wins.
-fn better_of<'a>(best: Option<&'a Matched<'a>>, d: &'a Matched<'a>) -> &'a Matched<'a>
-    ensures { (ds : List Declaration) → let property = property_of d.now.declared.now.property in
-        winner (declares_longhand property) ds ≡ option_map matched_of (option_copied best.entry)
-        → winner (declares_longhand property) (ds ++ matched_of d.now ∷ [])
-        ≡ Some (matched_of result.now) }
+/// The winner of a property once a declaration of it comes after those in which `best` wins.
+fn better_of<'a>(id: PropId, best: Option<&'a Matched<'a>>, d: &'a Matched<'a>) -> &'a Matched<'a>
+    requires { (matched_of d.now).target ≡ longhand (property_of id) }
+    ensures { (ds : List Declaration) → let passes = declares_longhand (property_of id) in
+        winner passes ds ≡ option_map matched_of (option_copied best.entry)
+        → winner passes (ds ++ matched_of d.now ∷ []) ≡ Some (matched_of result.now) }
 {
     let Some(winner) = best else {
         return d;

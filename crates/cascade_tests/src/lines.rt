@@ -9,7 +9,7 @@ use stylo_base::{NoMemory, Text};
 
 // a style that has no box, and clears both sides
 fn cleared(alloc: Global) -> Result<Style, NoMemory> {
-    let mut draft = StyleDraft::inheriting(&Style::initial(alloc)?);
+    let mut draft = StyleDraft::inheriting(alloc, &Style::initial(alloc)?)?;
     draft.set(PropId::Clear, Value::Keyword(Keyword::Both));
     draft.set(PropId::Display, Value::Keyword(Keyword::None));
     draft.finish(alloc)

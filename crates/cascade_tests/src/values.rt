@@ -5,7 +5,7 @@ use property_table::{Color, Keyword, PropId, Value};
 use std::alloc::Global;
 use std::test::Fail;
 use stylo_base::{NoMemory, Text};
-use value_parser::{Given, declared_value, value, wide_keyword};
+use value_parser::{Given, custom_declared_value, declared_value, value, wide_keyword};
 
 const HALF_LIME: Value = Value::Color(Color {
     red: 0,
@@ -56,12 +56,42 @@ fn no_value(rt: HostRuntime) -> Result<(), Fail> {
 
 #[test]
 fn wide(rt: HostRuntime) -> Result<(), Fail> {
-    let text = preprocess(rt.alloc(), "Revert-LAYER")?;
-    let list = tokens(rt.alloc(), text.as_str())?;
-    let word = wide_keyword(list.as_slice());
-    let given = declared_value(PropId::Clear, list.as_slice());
-    let wanted = Wide::RevertLayer;
-    assert_eq!(rt; (word, given), (Some(wanted), Some(Given::Wide(wanted))));
+    let alloc = rt.alloc();
+    let text = preprocess(alloc, "Revert-LAYER")?;
+    let list = tokens(alloc, text.as_str())?;
+    let given = declared_value(alloc, PropId::Clear, list.as_slice())?;
+    let is_wide = matches!(given, Some(Given::Wide(Wide::RevertLayer)));
+    assert!(rt; is_wide);
+    assert_eq!(rt; wide_keyword(list.as_slice()), Some(Wide::RevertLayer));
+    Ok(())
+}
+
+// How many tokens are kept of what is given.
+fn kept(given: &Option<Given>) -> usize {
+    match given {
+        Some(Given::Referring { value, .. }) => value.tokens().len(),
+        Some(Given::Holding(value)) => value.tokens().len(),
+        _ => 0,
+    }
+}
+
+#[test]
+fn referring(rt: HostRuntime) -> Result<(), Fail> {
+    let alloc = rt.alloc();
+    let text = preprocess(alloc, "a var( --b )")?;
+    let list = tokens(alloc, text.as_str())?;
+    let given = declared_value(alloc, PropId::Clear, list.as_slice())?;
+    assert_eq!(rt; kept(&given), 7);
+    Ok(())
+}
+
+#[test]
+fn custom(rt: HostRuntime) -> Result<(), Fail> {
+    let alloc = rt.alloc();
+    let text = preprocess(alloc, " a  b ")?;
+    let list = tokens(alloc, text.as_str())?;
+    let given = custom_declared_value(alloc, list.as_slice())?;
+    assert_eq!(rt; kept(&given), 3);
     Ok(())
 }
 

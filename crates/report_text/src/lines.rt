@@ -34,8 +34,8 @@ pub fn batch_line(
     Ok(line)
 }
 
-/// The line of an element: its number, its tag, and each property whose value is not the standing
-/// one.
+/// The line of an element: its number, its tag, each property whose value is not the standing one,
+/// and each custom property.
 pub fn element_line(alloc: Global, number: u32, tag: &str, style: &Style) -> Result<Text, NoMemory>
     ensures { IfOk result (λ t. t ≡ element_line number (chars tag.now) style.now) }
 {
@@ -62,7 +62,7 @@ pub fn push_element_line(
     line.push_str("}\n")
 }
 
-/// Appends the properties whose value is not the standing one to the line.
+/// Appends the properties whose value is not the standing one, and the custom ones, to the line.
 fn push_declarations(line: &mut Text, style: &Style) -> Result<(), NoMemory>
     ensures { OnOk result (line.new ≡ line.old ++ printed_declarations style.now) }
 {
@@ -74,6 +74,11 @@ fn push_declarations(line: &mut Text, style: &Style) -> Result<(), NoMemory>
             push_declaration(line, row, value)?;
             separator = "; ";
         }
+    }
+    let custom = style.custom().text();
+    if !custom.is_empty() {
+        line.push_str(separator)?;
+        line.push_str(custom)?;
     }
     Ok(())
 }

@@ -3,6 +3,7 @@
 
 mod declared;
 mod kept_sheet;
+pub mod laws;
 mod parse_block;
 mod ranks;
 mod rule_collector;

@@ -19,7 +19,7 @@ pub(crate) fn parse_block(alloc: Global, block: &[Token]) -> Result<Vec<Declared
     let declarations = declaration_list(alloc, block)?;
     let mut kept = Vec::new(alloc);
     for declaration in &declarations {
-        if let Some(one) = declared_by(declaration) {
+        if let Some(one) = declared_by(alloc, declaration)? {
             kept.push(one)?;
         }
     }

@@ -30,6 +30,9 @@ use Rattle.sheet_model.specs.Sources.{PlacedRule, Sources, sources_of, rules_of_
 use Rattle.cascade_model.specs.Key.{Matched}
 use Rattle.cascade_model.specs.Matching.{matching, matching_rules, matching_style, all_matched}
 use Rattle.cascade_model.specs.Ending.{ending_of}
+use Rattle.cascade_model.specs.Custom.{declared_values}
+use Rattle.custom_model.specs.Parts.{parts}
+use Rattle.custom_model.proofs.Maps.{resolved-empty, texts-empty}
 use Rattle.cascade_model.specs.StyleOf.{style_of}
 use Rattle.report_text.specs.Lines.{batch_line, element_line}
 use Rattle.layer_order.specs.View.{sheets_of}
@@ -111,8 +114,8 @@ smallest_job_lines : lines_of (scene_of smallest_job.nodes) (sources_of (sheets_
     ≡ codes "batch 0: 0 accepted, 0 refused, 1 matched, 1 cascaded\n"
     ∷ codes "1 a{display: block}\n"
     ∷ []
-unfolding style_of ancestors ending_of batch_line element_line table scene_of tree_order matching_rules matching_style layer_order declared rank_in rules_of_sheets layers_of_sheets
-smallest_job_lines = rw (digit_0, digit_1) (simp gets)
+unfolding style_of ancestors ending_of batch_line element_line table scene_of tree_order matching_rules matching_style layer_order declared rank_in rules_of_sheets layers_of_sheets declared_values
+smallest_job_lines = rw (digit_0, digit_1) (simp (gets, resolved-empty, texts-empty))
 
 smallest_job_text : text_of smallest_job ≡ encode_utf8_all (codes "batch 0: 0 accepted, 0 refused, 1 matched, 1 cascaded\n1 a{display: block}\n")
 smallest_job_text = in_utf8 (scene_of smallest_job.nodes) (sources_of (sheets_of smallest_job.sheets)) _ smallest_job_lines
@@ -133,8 +136,8 @@ first_job_lines : lines_of (scene_of first_job.nodes) (sources_of (sheets_of fir
     ∷ codes "1 html{display: block}\n"
     ∷ codes "2 p{}\n"
     ∷ []
-unfolding style_of ancestors ending_of batch_line element_line table scene_of tree_order matching_rules matching_style layer_order declared rank_in rules_of_sheets layers_of_sheets
-first_job_lines = rw (digit_0, digit_1, digit_2) (simp gets)
+unfolding style_of ancestors ending_of batch_line element_line table scene_of tree_order matching_rules matching_style layer_order declared rank_in rules_of_sheets layers_of_sheets declared_values
+first_job_lines = rw (digit_0, digit_1, digit_2) (simp (gets, resolved-empty, texts-empty))
 
 first_job_text : text_of first_job ≡ encode_utf8_all (codes "batch 0: 0 accepted, 0 refused, 2 matched, 2 cascaded\n1 html{display: block}\n2 p{}\n")
 first_job_text = in_utf8 (scene_of first_job.nodes) (sources_of (sheets_of first_job.sheets)) _ first_job_lines
@@ -163,8 +166,8 @@ order_job_lines : lines_of (scene_of order_job.nodes) (sources_of (sheets_of ord
     ∷ codes "3 q{}\n"
     ∷ (codes "5 " ++ (233 ∷ []) ++ codes "{}\n")
     ∷ []
-unfolding style_of ancestors ending_of batch_line element_line table scene_of tree_order matching_rules matching_style layer_order declared rank_in rules_of_sheets layers_of_sheets
-order_job_lines = rw (digit_0, digit_1, digit_2, digit_3, digit_4, digit_5, digit_6) (simp gets)
+unfolding style_of ancestors ending_of batch_line element_line table scene_of tree_order matching_rules matching_style layer_order declared rank_in rules_of_sheets layers_of_sheets declared_values
+order_job_lines = rw (digit_0, digit_1, digit_2, digit_3, digit_4, digit_5, digit_6) (simp (gets, resolved-empty, texts-empty))
 
 order_job_text : text_of order_job ≡ encode_utf8_all ((codes "batch 0: 0 accepted, 0 refused, 6 matched, 6 cascaded\n1 html{display: block}\n2 p{}\n4 i{}\n6 b{}\n3 q{}\n5 " ++ (233 ∷ []) ++ codes "{}\n"))
 order_job_text = in_utf8 (scene_of order_job.nodes) (sources_of (sheets_of order_job.sheets)) _ order_job_lines
@@ -191,8 +194,8 @@ page_job_lines : lines_of (scene_of page_job.nodes) (sources_of (sheets_of page_
     ∷ codes "4 p{}\n"
     ∷ codes "5 a{}\n"
     ∷ []
-unfolding style_of ancestors ending_of batch_line element_line table scene_of tree_order matching_rules matching_style layer_order declared rank_in rules_of_sheets layers_of_sheets
-page_job_lines = rw (digit_0, digit_1, digit_2, digit_3, digit_4, digit_5) (simp gets)
+unfolding style_of ancestors ending_of batch_line element_line table scene_of tree_order matching_rules matching_style layer_order declared rank_in rules_of_sheets layers_of_sheets declared_values
+page_job_lines = rw (digit_0, digit_1, digit_2, digit_3, digit_4, digit_5) (simp (gets, resolved-empty, texts-empty))
 
 page_job_text : text_of page_job ≡ encode_utf8_all (codes "batch 0: 0 accepted, 0 refused, 5 matched, 5 cascaded\n1 html{display: block}\n2 body{}\n3 h1{}\n4 p{}\n5 a{}\n")
 page_job_text = in_utf8 (scene_of page_job.nodes) (sources_of (sheets_of page_job.sheets)) _ page_job_lines
@@ -219,7 +222,7 @@ sheet_job_rules =
     ∷ []
 
 sheet_job_read : sources_of (sheets_of sheet_job.sheets) ≡ over sheet_job_rules
-unfolding rules_of_sheets layers_of_sheets layers_in layer_order declared style_rules_in rules_in tokens_in declarations_in selectors_in value_in named_colors table
+unfolding rules_of_sheets layers_of_sheets layers_in layer_order declared style_rules_in rules_in tokens_in declarations_in selectors_in value_in named_colors table parts
 sheet_job_read = refl
 
 sheet_job_at_1 : matching (scene_of sheet_job.nodes) (over sheet_job_rules) 1
@@ -249,8 +252,8 @@ sheet_job_lines : lines_of (scene_of sheet_job.nodes) (sources_of (sheets_of she
     ∷ codes "4 i{color: #0000ff}\n"
     ∷ codes "3 p{color: #ff0000; display: block; visibility: hidden}\n"
     ∷ []
-unfolding style_of ancestors ending_of batch_line element_line table scene_of tree_order layer_order declared rank_in
-sheet_job_lines = rw (sheet_job_read, sheet_job_at_1, sheet_job_at_2, sheet_job_at_3, sheet_job_at_4, digit_0, digit_1, digit_2, digit_3, digit_4) refl
+unfolding style_of ancestors ending_of batch_line element_line table scene_of tree_order layer_order declared rank_in declared_values
+sheet_job_lines = rw (sheet_job_read, sheet_job_at_1, sheet_job_at_2, sheet_job_at_3, sheet_job_at_4, digit_0, digit_1, digit_2, digit_3, digit_4) (simp (resolved-empty, texts-empty))
 
 sheet_job_text : text_of sheet_job ≡ encode_utf8_all (codes "batch 0: 0 accepted, 0 refused, 4 matched, 4 cascaded\n1 html{display: block; visibility: hidden}\n2 p{color: #0000ff; display: block; visibility: hidden}\n4 i{color: #0000ff}\n3 p{color: #ff0000; display: block; visibility: hidden}\n")
 sheet_job_text = in_utf8 (scene_of sheet_job.nodes) (sources_of (sheets_of sheet_job.sheets)) _ sheet_job_lines
@@ -275,7 +278,7 @@ classes_job_rules =
     ∷ []
 
 classes_job_read : sources_of (sheets_of classes_job.sheets) ≡ over classes_job_rules
-unfolding rules_of_sheets layers_of_sheets layers_in layer_order declared style_rules_in rules_in tokens_in declarations_in selectors_in value_in named_colors table
+unfolding rules_of_sheets layers_of_sheets layers_in layer_order declared style_rules_in rules_in tokens_in declarations_in selectors_in value_in named_colors table parts
 classes_job_read = refl
 
 classes_job_at_1 : matching (scene_of classes_job.nodes) (over classes_job_rules) 1
@@ -299,8 +302,8 @@ classes_job_lines : lines_of (scene_of classes_job.nodes) (sources_of (sheets_of
     ∷ codes "2 p{color: #0000ff; display: block; visibility: hidden}\n"
     ∷ codes "3 p{color: #ff0000; visibility: hidden}\n"
     ∷ []
-unfolding style_of ancestors ending_of batch_line element_line table scene_of tree_order layer_order declared rank_in
-classes_job_lines = rw (classes_job_read, classes_job_at_1, classes_job_at_2, classes_job_at_3, digit_0, digit_1, digit_2, digit_3) refl
+unfolding style_of ancestors ending_of batch_line element_line table scene_of tree_order layer_order declared rank_in declared_values
+classes_job_lines = rw (classes_job_read, classes_job_at_1, classes_job_at_2, classes_job_at_3, digit_0, digit_1, digit_2, digit_3) (simp (resolved-empty, texts-empty))
 
 classes_job_text : text_of classes_job ≡ encode_utf8_all (codes "batch 0: 0 accepted, 0 refused, 3 matched, 3 cascaded\n1 html{display: block; visibility: hidden}\n2 p{color: #0000ff; display: block; visibility: hidden}\n3 p{color: #ff0000; visibility: hidden}\n")
 classes_job_text = in_utf8 (scene_of classes_job.nodes) (sources_of (sheets_of classes_job.sheets)) _ classes_job_lines
@@ -322,7 +325,7 @@ dropped_job_rules =
     ∷ []
 
 dropped_job_read : sources_of (sheets_of dropped_job.sheets) ≡ over dropped_job_rules
-unfolding rules_of_sheets layers_of_sheets layers_in layer_order declared style_rules_in rules_in tokens_in declarations_in selectors_in value_in named_colors table
+unfolding rules_of_sheets layers_of_sheets layers_in layer_order declared style_rules_in rules_in tokens_in declarations_in selectors_in value_in named_colors table parts
 dropped_job_read = refl
 
 dropped_job_at_1 : matching (scene_of dropped_job.nodes) (over dropped_job_rules) 1
@@ -340,8 +343,8 @@ dropped_job_lines : lines_of (scene_of dropped_job.nodes) (sources_of (sheets_of
     ∷ codes "1 html{display: block}\n"
     ∷ codes "2 p{color: #00ff00; display: none}\n"
     ∷ []
-unfolding style_of ancestors ending_of batch_line element_line table scene_of tree_order layer_order declared rank_in
-dropped_job_lines = rw (dropped_job_read, dropped_job_at_1, dropped_job_at_2, digit_0, digit_1, digit_2) refl
+unfolding style_of ancestors ending_of batch_line element_line table scene_of tree_order layer_order declared rank_in declared_values
+dropped_job_lines = rw (dropped_job_read, dropped_job_at_1, dropped_job_at_2, digit_0, digit_1, digit_2) (simp (resolved-empty, texts-empty))
 
 dropped_job_text : text_of dropped_job ≡ encode_utf8_all (codes "batch 0: 0 accepted, 0 refused, 2 matched, 2 cascaded\n1 html{display: block}\n2 p{color: #00ff00; display: none}\n")
 dropped_job_text = in_utf8 (scene_of dropped_job.nodes) (sources_of (sheets_of dropped_job.sheets)) _ dropped_job_lines

@@ -7,7 +7,7 @@ use sheet_set::{Declared, SheetInput, Sheets, parse_style};
 use std::alloc::Global;
 use std::test::Fail;
 use stylo_base::Text;
-use value_parser::Given;
+use value_parser::{Given, Target};
 
 /// The sheets of a document with one author sheet.
 fn author(alloc: Global, text: &str) -> Result<Sheets, Fail> {
@@ -30,19 +30,63 @@ fn one_rule(rt: HostRuntime) -> Result<(), Fail> {
     Ok(())
 }
 
+/// The declarations of the only rule.
+fn only_rule(sheets: &Sheets) -> &[Declared] {
+    match sheets.rules() {
+        [rule] => rule.declarations(),
+        _ => &[],
+    }
+}
+
+/// Whether it gives the property this value.
+fn is_exactly(one: &Declared, wanted: PropId, value: Keyword) -> bool {
+    match (&one.target, &one.given) {
+        (Target::Longhand(property), Given::Exactly(given)) => {
+            *property == wanted && *given == Value::Keyword(value)
+        }
+        _ => false,
+    }
+}
+
 #[test]
 fn a_declaration(rt: HostRuntime) -> Result<(), Fail> {
     let sheets = author(rt.alloc(), "p{display:Inline-Block}")?;
-    let first = match sheets.rules() {
-        [rule] => rule.declarations().first().copied(),
-        _ => None,
+    let is_kept = match only_rule(&sheets) {
+        [one] => is_exactly(one, PropId::Display, Keyword::InlineBlock) && !one.important,
+        _ => false,
     };
-    let wanted = Declared {
-        property: PropId::Display,
-        given: Given::Exactly(Value::Keyword(Keyword::InlineBlock)),
-        important: false,
+    assert!(rt; is_kept);
+    Ok(())
+}
+
+/// Whether it is a custom property of this name whose value is so many tokens.
+fn is_custom(one: &Declared, wanted: &str, count: usize) -> bool {
+    match (&one.target, &one.given) {
+        (Target::Custom(name), Given::Holding(value)) => {
+            name.as_str() == wanted && value.tokens().len() == count
+        }
+        _ => false,
+    }
+}
+
+/// Whether it gives the property so many tokens that refer to custom properties.
+fn is_referring(one: &Declared, wanted: PropId, count: usize) -> bool {
+    match (&one.target, &one.given) {
+        (Target::Longhand(longhand), Given::Referring { property, value }) => {
+            *longhand == wanted && *property == wanted && value.tokens().len() == count
+        }
+        _ => false,
+    }
+}
+
+#[test]
+fn custom_properties(rt: HostRuntime) -> Result<(), Fail> {
+    let sheets = author(rt.alloc(), "p{--A: x;color:var(--A);--:x;--b:(];clear:f()}")?;
+    let are_kept = match only_rule(&sheets) {
+        [custom, color] => is_custom(custom, "--A", 1) && is_referring(color, PropId::Color, 3),
+        _ => false,
     };
-    assert_eq!(rt; first, Some(wanted));
+    assert!(rt; are_kept);
     Ok(())
 }
 
@@ -116,16 +160,15 @@ fn layers(rt: HostRuntime) -> Result<(), Fail> {
 #[test]
 fn a_style_attribute(rt: HostRuntime) -> Result<(), Fail> {
     let list = parse_style(rt.alloc(), "color:initial;;display:block!important")?;
-    let color = Declared {
-        property: PropId::Color,
-        given: Given::Wide(Wide::Initial),
-        important: false,
+    let are_kept = match list.as_slice() {
+        [color, display] => {
+            matches!(color.given, Given::Wide(Wide::Initial))
+                && !color.important
+                && is_exactly(display, PropId::Display, Keyword::Block)
+                && display.important
+        }
+        _ => false,
     };
-    let display = Declared {
-        property: PropId::Display,
-        given: Given::Exactly(Value::Keyword(Keyword::Block)),
-        important: true,
-    };
-    assert_eq!(rt; list.as_slice(), [color, display].as_slice());
+    assert!(rt; are_kept);
     Ok(())
 }

@@ -8,6 +8,7 @@ use sheet_set::{SheetInput, Sheets};
 use std::alloc::Global;
 use std::test::Fail;
 use stylo_base::Text;
+use value_parser::Target;
 
 /// A node with a tag alone.
 fn node(tag: &str) -> NodeInput<'_> {
@@ -98,7 +99,9 @@ fn declared(alloc: Global, doc: &Doc, sheets: &Sheets) -> Result<Vec<(PropId, u6
     let mut seen = Vec::new(alloc);
     if doc.contains(1) {
         for one in &match_rules(alloc, doc, sheets, 1)? {
-            seen.push((one.declared.property, one.index))?;
+            if let Target::Longhand(property) = &one.declared.target {
+                seen.push((*property, one.index))?;
+            }
         }
     }
     Ok(seen)

@@ -5,17 +5,18 @@ ghost use Rattle.value_model.specs.Table.{display_property, table};
 ghost use Rattle.value_model.specs.Style.{blockified, inherited_part, initial_style, with_changed};
 ghost use Rattle.property_table.specs.View.{property_of, value_of};
 
-use crate::{Style, blockified};
+use crate::{Custom, Style, blockified};
 use property_table::{COUNT, PropId, Row, Value};
 use std::alloc::Global;
 use std::marker::Model;
 use stylo_base::NoMemory;
 
-/// A value for each property, on the way to a style: the cascade begins with what an element takes
-/// from its parent, sets the values, and finishes the draft as a style, which alone takes memory.
+/// A value for each property, and custom properties, on the way to a style: the cascade begins with
+/// what an element takes from its parent, sets the values, and finishes the draft as a style.
 #[derive(Debug, Drop)]
 pub struct StyleDraft {
     values: [Value; COUNT],
+    custom: Custom,
 }
 
 impl Model for StyleDraft {
@@ -28,35 +29,37 @@ impl Model for StyleDraft {
 
     ghost coded = { model.style_code };
 
-    ghost view = { λ s. record { values = map value_of s.values } };
+    ghost view = { λ s. record { values = map value_of s.values; custom = s.custom } };
 
     ghost invariant = { λ s. length s.values ≡ length table };
 }
 
 impl StyleDraft {
-    /// The draft in which each property has its initial value.
+    /// The draft in which each property has its initial value, and no custom property has one.
     pub(crate) fn initial() -> StyleDraft
         ensures { result ≡ initial_style }
     {
         StyleDraft {
             values: std::array::from_fn(initial_at),
+            custom: Custom::none(),
         }
     }
 
     /// The draft in which each inherited property has its value in `parent`, and each other one its
-    /// initial value.
-    pub fn inheriting(parent: &Style) -> StyleDraft
-        ensures { result ≡ inherited_part parent.now }
+    /// initial value. It shares the custom properties of `parent`.
+    pub fn inheriting(_alloc: Global, parent: &Style) -> Result<StyleDraft, NoMemory>
+        ensures { IfOk result (λ draft. draft ≡ inherited_part parent.now) }
     {
         let mut draft = StyleDraft {
             values: parent.values,
+            custom: parent.custom.share()?,
         };
         for row in Row::all() {
             if !row.inherited {
                 draft.set(row.id, row.initial);
             }
         }
-        draft
+        Ok(draft)
     }
 
     /// The value of a property.
@@ -75,6 +78,13 @@ impl StyleDraft {
         self.values[id.row()] = value;
     }
 
+    /// Replaces the custom properties.
+    pub fn set_custom(&mut self, custom: Custom)
+        ensures { self.new ≡ record self.old { custom = custom } }
+    {
+        self.custom = custom;
+    }
+
     /// Makes the element a block.
     pub fn blockify(&mut self)
         ensures { self.new ≡ with_changed blockified display_property self.old }
@@ -87,8 +97,8 @@ impl StyleDraft {
     pub fn finish(self, _alloc: Global) -> Result<Style, NoMemory>
         ensures { IfOk result (λ s. s ≡ self) }
     {
-        let StyleDraft { values } = self;
-        Ok(Style { values })
+        let StyleDraft { values, custom } = self;
+        Ok(Style { values, custom })
     }
 }
 

@@ -5,4 +5,4 @@ use Rattle.report_text.proofs.lines.push_declarations.Given as goal
 
 abbrev pub invariant-loop-row : goal.invariant-loop-row
 invariant-loop-row l =
-    IsPrinted l.style.values l.line l.separator (l.initial.line ++ printed_declarations l.style) l.row-index
+    IsPrinted l.style l.line l.separator (l.initial.line ++ printed_declarations l.style) l.row-index

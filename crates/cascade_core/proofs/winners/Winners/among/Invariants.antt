@@ -1,5 +1,6 @@
 use Rattle.std.proofs.Common.{◌≡◌, ◌++◌, map, take}
-use Rattle.cascade_core.specs.View.{matched_of, winners_of}
+use Rattle.cascade_core.specs.View.{matched_of}
+use Rattle.cascade_core.specs.Won.{winners_of}
 use Rattle.cascade_core.proofs.winners.Winners.among.Given as goal
 
 abbrev pub invariant-loop-d : goal.invariant-loop-d

@@ -5,7 +5,7 @@ use Rattle.value_model.specs.Style.{Style}
 use Rattle.value_model.proofs.ByRow.{length-inherited, filled_all}
 use Rattle.property_table.specs.View.{value_of}
 use Rattle.property_table.proofs.RowLemmas.{property_at, length-rows}
-use Rattle.style_value.proofs.InheritedLemmas.{inherits_one, resets_one}
+use Rattle.style_value.proofs.InheritedLemmas.{all_inherited, inherits_one, resets_one}
 use Rattle.style_value.proofs.draft.StyleDraft.inheriting.Goals as goal
 use Rattle.style_value.proofs.draft.StyleDraft.inheriting.Goals.{then-not-row, else-not-row}
 
@@ -14,7 +14,10 @@ long c = ap (λ (s : Style). length s.values) (sym c.parent.view_is) ∙ (length
 
 pub loop-row-init : goal.loop-row-init
 loop-row-init c =
-    record { long = length-inherited table _ (long c); filled = ap (λ (s : Style). s.values) c.parent.view_is }
+    record {
+      values = record { long = length-inherited table _ (long c); filled = ap (λ (s : Style). s.values) c.parent.view_is };
+      custom = c.in_ok-share.ensures ∙ ap (λ (s : Style). s.custom) c.parent.view_is;
+    }
 
 pub loop-row-preserved : goal.loop-row-preserved
 loop-row-preserved c =
@@ -28,4 +31,4 @@ loop-row-preserved c =
 pub returns : goal.returns
 returns c =
     let long : length c.args.parent.now.values ≡ length table = ap (λ (s : Style). length s.values) (sym c.parent.view_is) ∙ (length-map c.parent.inside.values value_of ∙ c.parent.invariant) in
-    ap (λ list. record { values = list }) (filled_all _ _ _ c.loop-row.row-index (omega (arith, length-inherited table _ long, length-rows _ c.all-row-items.ensures.rows, c.loop-row-test.false)) c.loop-row.invariant)
+    all_inherited c.args.parent.now c.loop-row.draft (filled_all _ _ _ c.loop-row.row-index (omega (arith, length-inherited table _ long, length-rows _ c.all-row-items.ensures.rows, c.loop-row-test.false)) c.loop-row.invariant.values) c.loop-row.invariant.custom

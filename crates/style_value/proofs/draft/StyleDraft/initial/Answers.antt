@@ -9,4 +9,4 @@ invariant_of-result c = c.from_fn.ensures.items.long ∙ sym length-table
 pub returns : goal.returns
 returns c =
     let items = c.from_fn.ensures.items in
-    all_initial c.from_fn.result (items.long ∙ sym length-table) (λ k d lt. search (rules, items.at k d (omega (arith, length-table))))
+    all_initial c.from_fn.result _ c.none.ensures (items.long ∙ sym length-table) (λ k d lt. search (rules, items.at k d (omega (arith, length-table))))

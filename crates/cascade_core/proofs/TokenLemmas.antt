@@ -1,0 +1,53 @@
+-- What a value that refers to custom properties means, by the tokens that it expands to.
+use Rattle.std.proofs.Common.{◌≡◌, ℕ, Bool, true, false, List, [], ◌∷◌, map, Option, Some, None, option_map, refl, ap, ◌∙◌}
+use Rattle.std.specs.Prelude.{if◌then◌else◌}
+use Rattle.std.specs.Option.{option_map_or}
+use Rattle.base_model.specs.Options.{◌>>=◌}
+use Rattle.base_model.specs.Text.{Characters}
+use Rattle.syntax_model.specs.Kinds.{is_ident}
+use Rattle.syntax_model.specs.Token.{Token, said}
+use Rattle.syntax_model.specs.Wide.{Wide, wide_named, unset}
+use Rattle.custom_model.specs.Value.{CustomValue, unplaced}
+use Rattle.custom_model.specs.Computed.{wide_of}
+use Rattle.custom_model.specs.Expand.{Lookup, expansion}
+use Rattle.value_model.specs.Value.{Value}
+use Rattle.sheet_model.specs.ValueIn.{value_in}
+use Rattle.sheet_model.specs.Declared.{wide_in}
+use Rattle.cascade_model.specs.Ending.{Meaning, keyword, expanded_meaning, referring_meaning}
+use Rattle.cascade_core.specs.Tokens.{keyword_or_value, token_meaning}
+
+said_again : (value : CustomValue) → map said (map unplaced value) ≡ value
+said_again [] = refl
+said_again (token ∷ tokens) = ap (λ l. token ∷ l) (said_again tokens)
+
+wide_again : (value : CustomValue) → wide_in (map unplaced value) ≡ wide_of value
+wide_again [] = refl
+wide_again (token ∷ []) = by_kind (is_ident token.kind) token.name
+  where
+    by_kind : (b : Bool) (name : Characters) → (do
+      text ← (if b then Some name else None)
+      wide_named text) ≡ (if b then wide_named name else None)
+    by_kind true name = refl
+    by_kind false name = refl
+wide_again (token ∷ second ∷ tokens) = refl
+
+tokens_mean : (property : ℕ) (value : CustomValue) → token_meaning property (map unplaced value) ≡ expanded_meaning property value (wide_of value)
+tokens_mean property value =
+    ap (λ word. keyword_or_value word (value_in property (map unplaced value))) (wide_again value)
+    ∙ by_word (wide_of value)
+  where
+    by_word : (word : Option Wide) → keyword_or_value word (value_in property (map unplaced value)) ≡ expanded_meaning property value word
+    by_word (Some word) = refl
+    by_word None = refl
+
+abbrev of_tokens : ℕ → Option (List Token) → Meaning Value
+of_tokens property o = option_map_or (token_meaning property) o (keyword unset)
+
+pub referring_means : (property : ℕ) (values : Lookup) (value : CustomValue) (tokens : List Token) (o : Option (List Token)) → tokens ≡ map unplaced value → o ≡ option_map (map unplaced) (expansion values (map said tokens)) → of_tokens property o ≡ referring_meaning property (expansion values value)
+referring_means property values value tokens o bare is =
+    let same : expansion values (map said tokens) ≡ expansion values value = ap (expansion values) (ap (map said) bare ∙ said_again value) in
+    ap (of_tokens property) (is ∙ ap (option_map (map unplaced)) same) ∙ by_expansion (expansion values value)
+  where
+    by_expansion : (e : Option CustomValue) → of_tokens property (option_map (map unplaced) e) ≡ referring_meaning property e
+    by_expansion None = refl
+    by_expansion (Some result) = tokens_mean property result

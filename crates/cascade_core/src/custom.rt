@@ -1,0 +1,97 @@
+//! The custom properties of an element (css-variables-1, sections 2 and 3).
+
+ghost use Rattle.std.specs.Prelude.{◌≡◌, ◌++◌, IfOk, IsTrue, map, option_map};
+ghost use Rattle.std.specs.Cmp.Lexicographic.{slice_cmp};
+ghost use Rattle.std.specs.FinMap as finmap;
+ghost use Rattle.std.specs.Option.{unwrap_or};
+ghost use Rattle.std.specs.Ordering.{nat_cmp};
+ghost use Rattle.base_model.specs.Text.{Characters};
+ghost use Rattle.cascade_model.specs.Custom.{custom_values};
+ghost use Rattle.custom_properties.specs.Entries.{declared_entry};
+ghost use Rattle.cascade_core.specs.Names.{NamesRise, declared_of, run_entry};
+ghost use Rattle.cascade_core.specs.View.{matched_of};
+
+use crate::Matched;
+use crate::customs::Customs;
+use crate::ending::Ending;
+use crate::names::{run_length, sorted_by_name};
+use crate::rollback::walk;
+use css_tokens::CustomMap;
+use css_writer::custom_declarations;
+use custom_properties::{DeclaredEntry, DeclaredMap, changed};
+use std::alloc::Global;
+use style_value::Custom;
+use stylo_base::NoMemory;
+use value_parser::Target;
+
+/// The custom properties by the declarations that apply, over those of the parent. None: they are
+/// the parent's.
+pub(crate) fn changed_custom<'a>(
+    alloc: Global,
+    matched: &'a [Matched<'a>],
+    attached: &'a [Matched<'a>],
+    parent: &Custom,
+) -> Result<Option<Custom>, NoMemory>
+    ensures { IfOk result (λ custom. unwrap_or custom parent.now
+        ≡ custom_values parent.now (map matched_of (matched.now ++ attached.now))) }
+{
+    let list = sorted_by_name(alloc, matched, attached)?;
+    let declared = DeclaredMap::of_entries(declared_entries(alloc, &list)?);
+    match changed(alloc, &declared, parent.map())? {
+        None => Ok(None),
+        Some(map) => Ok(Some(printed(alloc, map)?)),
+    }
+}
+
+/// These custom properties with their text.
+fn printed(alloc: Global, map: CustomMap) -> Result<Custom, NoMemory>
+    ensures { IfOk result (λ custom. custom ≡ map) }
+{
+    let text = custom_declarations(alloc, &map)?;
+    Custom::new(alloc, map, text)
+}
+
+/// What each name is declared to be, in the order of the names.
+fn declared_entries<'a>(
+    alloc: Global,
+    list: &[Matched<'a>],
+) -> Result<Vec<DeclaredEntry<'a>>, NoMemory>
+    requires { NamesRise (map matched_of list.now) }
+    ensures sorted { IfOk result (λ entries.
+        IsTrue (finmap.is_sorted (slice_cmp nat_cmp) (map declared_entry entries.items))) }
+    ensures each { IfOk result (λ entries. (name : Characters)
+        → finmap.find (slice_cmp nat_cmp) name (map declared_entry entries.items)
+        ≡ declared_of (map matched_of list.now) name) }
+{
+    let mut entries = Vec::new(alloc);
+    let mut start = 0;
+    while start < list.len() {
+        let rest = &list[start..];
+        let run = &rest[..run_length(rest)];
+        if let Some(entry) = entry_of(alloc, run)? {
+            entries.push(entry)?;
+        }
+        start += run.len();
+    }
+    Ok(entries)
+}
+
+/// What the declarations of one name declare. None: it inherits.
+fn entry_of<'a>(alloc: Global, run: &[Matched<'a>]) -> Result<Option<DeclaredEntry<'a>>, NoMemory>
+    ensures { IfOk result (λ entry. option_map declared_entry entry ≡ run_entry (map matched_of run.now)) }
+{
+    let Some(first) = run.first() else {
+        return Ok(None);
+    };
+    let Target::Custom(name) = &first.declared.target else {
+        return Ok(None);
+    };
+    Ok(match walk(alloc, run, &Customs)? {
+        Ending::EndsAt(value) => Some(DeclaredEntry {
+            name,
+            value: Some(value),
+        }),
+        Ending::Initially => Some(DeclaredEntry { name, value: None }),
+        Ending::Inherits | Ending::Unsets => None,
+    })
+}
