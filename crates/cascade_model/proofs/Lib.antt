@@ -1,5 +1,11 @@
-mod Examples
 pub mod KeyOrder
 pub mod StyleAlong
 pub mod WinnerLemmas
 pub mod EndingLemmas
+pub mod ValuesLemmas
+pub mod ExampleCases
+mod Examples
+mod DocumentExamples
+mod ComputedExamples
+mod MeaningExamples
+mod OrderExamples

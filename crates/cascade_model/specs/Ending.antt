@@ -9,7 +9,7 @@ use Rattle.custom_model.specs.Value.{CustomValue, unplaced}
 use Rattle.custom_model.specs.Expand.{Lookup, expansion}
 use Rattle.custom_model.specs.Computed.{wide_of}
 use Rattle.value_model.specs.Value.{Value}
-use Rattle.sheet_model.specs.ValueIn.{value_in}
+use Rattle.sheet_model.specs.Shorthands.{Subject, value_for}
 use Rattle.sheet_model.specs.Declared.{Given, wide, exactly, referring, holding}
 use Rattle.cascade_model.specs.Key.{Matched, level_cmp}
 use Rattle.cascade_model.specs.Winner.{greatest_of, declares_longhand, declares_custom}
@@ -34,28 +34,28 @@ abbrev pub value_or_unset : {A : Type 0} → Option A → Meaning A
 value_or_unset (Some given) = value given
 value_or_unset None = keyword unset
 
--- What tokens mean for a property once they are expanded: a CSS-wide keyword acts as it, and what the property does not
--- take behaves as `unset`.
-abbrev pub expanded_meaning : ℕ → CustomValue → Option Wide → Meaning Value
-expanded_meaning property tokens (Some word) = keyword word
-expanded_meaning property tokens None = value_or_unset (value_in property (map unplaced tokens))
+-- What tokens mean for a property once they are expanded, as the value of it or of a shorthand: a CSS-wide keyword acts
+-- as it, and what is not taken behaves as `unset`.
+abbrev pub expanded_meaning : ℕ → Subject → CustomValue → Option Wide → Meaning Value
+expanded_meaning id subject tokens (Some word) = keyword word
+expanded_meaning id subject tokens None = value_or_unset (value_for subject id (map unplaced tokens))
 
-abbrev pub referring_meaning : ℕ → Option CustomValue → Meaning Value
-referring_meaning property None = keyword unset
-referring_meaning property (Some tokens) = expanded_meaning property tokens (wide_of tokens)
+abbrev pub referring_meaning : ℕ → Subject → Option CustomValue → Meaning Value
+referring_meaning id subject None = keyword unset
+referring_meaning id subject (Some tokens) = expanded_meaning id subject tokens (wide_of tokens)
 
 -- what a declaration means for a property of the table, over the values of the custom properties
-abbrev pub meaning_of : Lookup → Given → Meaning Value
-meaning_of values (wide word) = keyword word
-meaning_of values (exactly given) = value given
-meaning_of values (referring property tokens) = referring_meaning property (expansion values tokens)
-meaning_of values (holding tokens) = keyword unset
+abbrev pub meaning_of : Lookup → ℕ → Given → Meaning Value
+meaning_of values id (wide word) = keyword word
+meaning_of values id (exactly given) = value given
+meaning_of values id (referring subject tokens) = referring_meaning id subject (expansion values tokens)
+meaning_of values id (holding tokens) = keyword unset
 
 -- and for a custom property, whose value is expanded later
 abbrev pub custom_meaning : Given → Meaning CustomValue
 custom_meaning (wide word) = keyword word
 custom_meaning (exactly given) = keyword unset
-custom_meaning (referring property tokens) = keyword unset
+custom_meaning (referring subject tokens) = keyword unset
 custom_meaning (holding tokens) = value tokens
 
 -- `revert` takes the cascade back to the origins below, of which there is none below the user agent's (section 7.3.4)
@@ -92,7 +92,7 @@ ending_of means ds = ending_within (length ds) means ds
 
 -- what the declarations of a property of the table come to, over the values of the custom properties
 abbrev pub ending : Lookup → ℕ → List Matched → Ending Value
-ending values property ds = ending_of (meaning_of values) (filter (declares_longhand property) ds)
+ending values property ds = ending_of (meaning_of values property) (filter (declares_longhand property) ds)
 
 -- what those of a custom property come to, before it is expanded
 abbrev pub custom_ending : Characters → List Matched → Ending CustomValue

@@ -1,6 +1,6 @@
 -- What the declarations of a text hold of custom properties can be written: the values of these, and the tokens that
 -- refer to them.
-use Rattle.std.proofs.Common.{◌≡◌, ℕ, List, [], ◌∷◌, flat_map, Option, Some, None, option_map, filter_map, IfSome, refl}
+use Rattle.std.proofs.Common.{◌≡◌, ℕ, List, [], ◌∷◌, flat_map, Option, Some, None, option_map, filter_map, IfSome, map, zip, unwrap_or, refl}
 use Rattle.std.specs.List.{AllByRecursion, cons_option}
 use Rattle.std.specs.Option.{option_or, option_to_list}
 use Rattle.std.proofs.lemmas.Bool.{cond_both}
@@ -19,11 +19,10 @@ use Rattle.custom_model.proofs.WritableLemmas.{Writable, custom_value_writable, 
 use Rattle.custom_model.proofs.CutLemmas.{OfText, of_text}
 use Rattle.custom_model.proofs.DeclarationCuts.{DeclarationOfText, block_declarations, each-append}
 use Rattle.value_model.specs.Value.{Value}
-use Rattle.value_model.specs.Table.{property_named}
 use Rattle.selector_model.specs.Selector.{Selector}
 use Rattle.sheet_model.specs.SelectorsIn.{selectors_in}
-use Rattle.sheet_model.specs.ValueIn.{value_in}
-use Rattle.sheet_model.specs.Declared.{Target, longhand, custom, Given, wide, exactly, referring, holding, Declared, wide_in, given_in, custom_given_in, declared_with, declared_by, declared_in, block_declared, style_declared}
+use Rattle.sheet_model.specs.Shorthands.{Subject, subject_longhands, values_in}
+use Rattle.sheet_model.specs.Declared.{longhand, custom, Given, wide, exactly, referring, holding, Declared, wide_in, for_each, givens_in, custom_given_in, declared_with, declared_each, subject_named, declared_in, block_declared, style_declared}
 use Rattle.sheet_model.specs.StyleRules.{StyleRule, style_rule_in, style_rules_in}
 use Rattle.sheet_model.proofs.RuleCuts.{RuleOfText, sheet_rules_of_text}
 
@@ -37,56 +36,90 @@ GivenWritable (holding value) = Writable value
 abbrev pub DeclaredWritable : Declared → Type 0
 DeclaredWritable declared = GivenWritable declared.given
 
-or_given : (first other : Option Given) → IfSome first GivenWritable → IfSome other GivenWritable → IfSome (option_or first other) GivenWritable
-or_given None other h k = k
-or_given (Some given) other h k = h
+-- what each property of a subject is given
+abbrev GivensWritable : List Given → Type 0
+GivensWritable givens = AllByRecursion GivenWritable givens
+
+or_writable : {A : Type 0} (P : A → Type 0) (first other : Option A) → IfSome first P → IfSome other P → IfSome (option_or first other) P
+or_writable P None other h k = k
+or_writable P (Some given) other h k = h
+
+for_each_writable : (ids : List ℕ) (given : Given) → GivenWritable given → GivensWritable (map (λ id. given) ids)
+for_each_writable [] given h = tt
+for_each_writable (id ∷ ids) given h = (h, for_each_writable ids given h)
+
+exactly_writable : (values : List Value) → GivensWritable (map exactly values)
+exactly_writable [] = tt
+exactly_writable (value ∷ values) = (tt, exactly_writable values)
+
+wide_givens : (subject : Subject) (o : Option Wide) → IfSome (option_map (λ word. for_each subject (wide word)) o) GivensWritable
+wide_givens subject None = tt
+wide_givens subject (Some word) = for_each_writable (subject_longhands subject) (wide word) tt
+
+exact_givens : (o : Option (List Value)) → IfSome (option_map (map exactly) o) GivensWritable
+exact_givens None = tt
+exact_givens (Some values) = exactly_writable values
+
+referring_givens : (subject : Subject) (o : Option CustomValue) → ((value : CustomValue) → o ≡ Some value → Writable value) → IfSome (option_map (λ value. for_each subject (referring subject value)) o) GivensWritable
+referring_givens subject None h = tt
+referring_givens subject (Some value) h =
+    for_each_writable (subject_longhands subject) (referring subject value) (h value refl)
+
+givens_writable : (subject : Subject) (tokens : List Token) → OfText tokens → IfSome (givens_in subject tokens) GivensWritable
+givens_writable subject tokens h =
+    or_writable GivensWritable (option_map (λ word. for_each subject (wide word)) (wide_in tokens)) _
+    (wide_givens subject (wide_in tokens))
+    (or_writable GivensWritable (option_map (λ value. for_each subject (referring subject value)) (referring_value_in tokens)) _
+    (referring_givens subject (referring_value_in tokens) (λ value e. referring_value_writable tokens value (as_read tokens h) e))
+    (exact_givens (values_in subject tokens)))
 
 wide_given : (o : Option Wide) → IfSome (option_map wide o) GivenWritable
 wide_given None = tt
 wide_given (Some word) = tt
 
-exact_given : (o : Option Value) → IfSome (option_map exactly o) GivenWritable
-exact_given None = tt
-exact_given (Some value) = tt
-
-held_given : (hold : CustomValue → Given) → ((value : CustomValue) → Writable value → GivenWritable (hold value)) → (o : Option CustomValue) → ((value : CustomValue) → o ≡ Some value → Writable value) → IfSome (option_map hold o) GivenWritable
-held_given hold holds None h = tt
-held_given hold holds (Some value) h = holds value (h value refl)
-
-given_writable : (property : ℕ) (tokens : List Token) → OfText tokens → IfSome (given_in property tokens) GivenWritable
-given_writable property tokens h =
-    or_given (option_map wide (wide_in tokens)) _ (wide_given (wide_in tokens))
-    (or_given (option_map (referring property) (referring_value_in tokens)) _
-    (held_given (referring property) (λ _ w. w) (referring_value_in tokens) (λ value e. referring_value_writable tokens value (as_read tokens h) e))
-    (exact_given (value_in property tokens)))
+held_given : (o : Option CustomValue) → ((value : CustomValue) → o ≡ Some value → Writable value) → IfSome (option_map holding o) GivenWritable
+held_given None h = tt
+held_given (Some value) h = h value refl
 
 custom_given_writable : (tokens : List Token) → OfText tokens → IfSome (custom_given_in tokens) GivenWritable
 custom_given_writable tokens h =
-    or_given (option_map wide (wide_in tokens)) _ (wide_given (wide_in tokens))
-    (held_given holding (λ _ w. w) (custom_value_in tokens) (λ value e. custom_value_writable tokens value (as_read tokens h) e))
+    or_writable GivenWritable (option_map wide (wide_in tokens)) _ (wide_given (wide_in tokens))
+    (held_given (custom_value_in tokens) (λ value e. custom_value_writable tokens value (as_read tokens h) e))
 
-declared_given : (declaration : Declaration) (target : Target) (o : Option Given) → IfSome o GivenWritable → IfSome (option_map (declared_with declaration target) o) DeclaredWritable
-declared_given declaration target None h = tt
-declared_given declaration target (Some given) h = h
+-- a list of declarations
+abbrev AllWritable : List Declared → Type 0
+AllWritable ds = AllByRecursion DeclaredWritable ds
 
-declared_by_writable : (declaration : Declaration) → DeclarationOfText declaration → IfSome (declared_by declaration) DeclaredWritable
-declared_by_writable declaration h =
-    cond_both (is_custom_name declaration.name) _ _ (λ o. IfSome o DeclaredWritable)
-    (λ _. declared_given declaration (custom declaration.name) (custom_given_in declaration.value) (custom_given_writable declaration.value h))
-    (λ _. by (property_named declaration.name)) where
-      by : (o : Option ℕ) → IfSome (o >>= (λ property. option_map (declared_with declaration (longhand property)) (given_in property declaration.value))) DeclaredWritable
-      by None = tt
-      by (Some property) = declared_given declaration (longhand property) (given_in property declaration.value) (given_writable property declaration.value h)
+custom_writable : (declaration : Declaration) (o : Option Given) → IfSome o GivenWritable → AllWritable (option_to_list (option_map (declared_with declaration (custom declaration.name)) o))
+custom_writable declaration None h = tt
+custom_writable declaration (Some given) h = (h, tt)
 
-declared_in_writable : (declarations : List Declaration) → AllByRecursion DeclarationOfText declarations → AllByRecursion DeclaredWritable (flat_map declared_in declarations)
+each_writable : (declaration : Declaration) (ids : List ℕ) (givens : List Given) → GivensWritable givens → AllWritable (map (λ (pair : ℕ × Given). declared_with declaration (longhand pair.0) pair.1) (zip ids givens))
+each_writable declaration [] givens h = tt
+each_writable declaration (id ∷ ids) [] h = tt
+each_writable declaration (id ∷ ids) (given ∷ givens) h = (h.0, each_writable declaration ids givens h.1)
+
+givens_declared : (declaration : Declaration) (subject : Subject) (o : Option (List Given)) → IfSome o GivensWritable → AllWritable (unwrap_or (option_map (declared_each declaration subject) o) [])
+givens_declared declaration subject None h = tt
+givens_declared declaration subject (Some givens) h = each_writable declaration (subject_longhands subject) givens h
+
+longhands_writable : (declaration : Declaration) → OfText declaration.value → (o : Option Subject) → AllWritable (unwrap_or (o >>= (λ subject. option_map (declared_each declaration subject) (givens_in subject declaration.value))) [])
+longhands_writable declaration h None = tt
+longhands_writable declaration h (Some subject) =
+    givens_declared declaration subject (givens_in subject declaration.value) (givens_writable subject declaration.value h)
+
+declaration_writable : (declaration : Declaration) → DeclarationOfText declaration → AllWritable (declared_in declaration)
+declaration_writable declaration h =
+    cond_both (is_custom_name declaration.name) _ _ AllWritable
+    (λ _. custom_writable declaration (custom_given_in declaration.value) (custom_given_writable declaration.value h))
+    (λ _. longhands_writable declaration h (subject_named declaration.name))
+
+declared_in_writable : (declarations : List Declaration) → AllByRecursion DeclarationOfText declarations → AllWritable (flat_map declared_in declarations)
 declared_in_writable [] h = tt
 declared_in_writable (declaration ∷ declarations) h =
     each-append DeclaredWritable (declared_in declaration) (flat_map declared_in declarations)
-    (by (declared_by declaration) (declared_by_writable declaration h.0))
-    (declared_in_writable declarations h.1) where
-      by : (o : Option Declared) → IfSome o DeclaredWritable → AllByRecursion DeclaredWritable (option_to_list o)
-      by None k = tt
-      by (Some d) k = (k, tt)
+    (declaration_writable declaration h.0)
+    (declared_in_writable declarations h.1)
 
 -- the declarations of a block that is cut from a text
 pub block_writable : (block : List Token) → OfText block → AllByRecursion DeclaredWritable (block_declared block)

@@ -3,6 +3,8 @@ pub mod DeclaredWritable
 pub mod ExampleCases
 mod Examples
 mod ValueExamples
+mod LengthExamples
+mod ShorthandExamples
 mod SelectorExamples
 mod AnPlusBExamples
 mod LimitExamples

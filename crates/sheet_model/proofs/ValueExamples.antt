@@ -1,26 +1,20 @@
 -- What values are read from tokens, computed.
-use Rattle.std.proofs.Common.{◌≡◌, ℕ, true, List, [], ◌∷◌, ◌++◌, map, Option, Some, is_none, refl}
+use Rattle.std.proofs.Common.{◌≡◌, ℕ, true, List, [], ◌∷◌, ◌++◌, map, replicate, Option, Some, None, is_none, refl}
 use Rattle.std.specs.Prelude.{codes}
-use Rattle.std.specs.List.{list_all}
 use Rattle.base_model.specs.Text.{Characters}
 use Rattle.value_model.specs.Color.{Color, opaque, rgba, transparent, black, named_colors}
-use Rattle.value_model.specs.Value.{Value, keyword, color, current_color}
+use Rattle.value_model.specs.Value.{Value, color, current_color}
 use Rattle.value_model.specs.Table.{table, color_property, display_property}
+use Rattle.syntax_model.specs.Numbers.{thousandths}
 use Rattle.syntax_model.specs.TokensIn.{tokens_in}
-use Rattle.sheet_model.specs.ValueIn.{value_in}
+use Rattle.sheet_model.specs.ValueIn.{value_in, units}
+use Rattle.sheet_model.proofs.ExampleCases.{reads, reads_none, words}
 
 abbrev clear_property : ℕ
-clear_property = 2
+clear_property = 5
 
 abbrev visibility_property : ℕ
-visibility_property = 3
-
--- the values of a property in texts
-abbrev reads : ℕ → List Characters → List (Option Value)
-reads property texts = map (λ text. value_in property (tokens_in text)) texts
-
-abbrev words : List Characters → List (Option Value)
-words texts = map (λ text. Some (keyword text)) texts
+visibility_property = 6
 
 abbrev colors : List Color → List (Option Value)
 colors list = map (λ c. Some (color c)) list
@@ -37,6 +31,44 @@ clears = refl
 visibilities : reads visibility_property (codes "visiBLE" ∷ codes "Hidden" ∷ codes "collaPse" ∷ []) ≡ words (codes "visible" ∷ codes "hidden" ∷ codes "collapse" ∷ [])
 unfolding value_in tokens_in table
 visibilities = refl
+
+directions : reads 1 (codes "ltr" ∷ codes "RTL" ∷ []) ≡ words (codes "ltr" ∷ codes "rtl" ∷ [])
+unfolding value_in tokens_in table
+directions = refl
+
+positions : reads 3 (codes "static" ∷ codes "Relative" ∷ codes "ABSOLUTE" ∷ codes "fiXed" ∷ codes "stickY" ∷ []) ≡ words (codes "static" ∷ codes "relative" ∷ codes "absolute" ∷ codes "fixed" ∷ codes "sticky" ∷ [])
+unfolding value_in tokens_in table
+positions = refl
+
+floats : reads 4 (codes "none" ∷ codes "LEFT" ∷ codes "Right" ∷ []) ≡ words (codes "none" ∷ codes "left" ∷ codes "right" ∷ [])
+unfolding value_in tokens_in table
+floats = refl
+
+overflows : map (λ property. reads property (codes "visible" ∷ codes "hidden" ∷ codes "SCROLL" ∷ codes "Auto" ∷ [])) (7 ∷ 8 ∷ []) ≡ map (λ (property : ℕ). words (codes "visible" ∷ codes "hidden" ∷ codes "scroll" ∷ codes "auto" ∷ [])) (7 ∷ 8 ∷ [])
+unfolding value_in tokens_in table
+overflows = refl
+
+abbrev styles : List Characters
+styles =
+    codes "none" ∷ codes "hidden" ∷ codes "dotted" ∷ codes "dashed" ∷ codes "solid" ∷ codes "double" ∷ codes "groove"
+    ∷ codes "ridge" ∷ codes "inset" ∷ codes "outset" ∷ []
+
+border_styles : map (λ property. reads property styles) (27 ∷ 28 ∷ 29 ∷ 30 ∷ []) ≡ map (λ (property : ℕ). words styles) (27 ∷ 28 ∷ 29 ∷ 30 ∷ [])
+unfolding value_in tokens_in table
+border_styles = refl
+
+font_styles : reads 38 (codes "normal" ∷ codes "Italic" ∷ codes "OBLIQUE" ∷ []) ≡ words (codes "normal" ∷ codes "italic" ∷ codes "oblique" ∷ [])
+unfolding value_in tokens_in table
+font_styles = refl
+
+-- the words of other properties are none of these
+no_words : map (λ (pair : ℕ × Characters). is_none (value_in pair.0 (tokens_in pair.1))) (
+    (1, codes "left") ∷ (3, codes "none") ∷ (4, codes "both") ∷ (5, codes "inline-start") ∷ (7, codes "clip")
+    ∷ (8, codes "collapse") ∷ (27, codes "thin") ∷ (30, codes "auto") ∷ (38, codes "bold") ∷ (38, codes "oblique 10deg")
+    ∷ (39, codes "auto") ∷ (37, codes "medium") ∷ (36, codes "bold") ∷ (40, codes "none") ∷ []
+    ) ≡ replicate 14 true
+unfolding value_in tokens_in table units thousandths
+no_words = refl
 
 current : reads color_property (codes "CurrentColor" ∷ []) ≡ Some current_color ∷ []
 unfolding value_in tokens_in table
@@ -73,9 +105,37 @@ by_digits : reads color_property hexadecimals ≡ colors (
 unfolding value_in tokens_in table
 by_digits = refl
 
+-- `rgb()` of three integers: each is brought within 0 and 255
+abbrev functions : List Characters
+functions =
+    codes "rgb(1,2,3)" ∷ codes "rgb( 1 ,\t2\n, 3 )" ∷ codes "RGB(300, -5, 7)" ∷ codes "rgb(+12,007,-0)"
+    ∷ codes "rgb(255,256,254)" ∷ codes "\\72 gb(4,5,6)" ∷ codes "rgb(/**/7,/**/ 8/**/,9/**/)" ∷ codes "rgb(99999999999999999999,0,0)"
+    ∷ codes "rgb(0,0,0)/**/" ∷ []
+
+by_parts : reads color_property functions ≡ colors (
+    opaque 1 2 3
+    ∷ opaque 1 2 3 ∷ opaque 255 0 7 ∷ opaque 12 7 0
+    ∷ opaque 255 255 254 ∷ opaque 4 5 6 ∷ opaque 7 8 9 ∷ opaque 255 0 0
+    ∷ black ∷ []
+    )
+unfolding value_in tokens_in table named_colors thousandths
+by_parts = refl
+
+no_functions : reads_none color_property (
+    codes "rgb(1.0,2,3)" ∷ codes "rgb(1,2.5,3)" ∷ codes "rgb(1,2,1e1)" ∷ codes "rgb(1%,2%,3%)" ∷ codes "rgb(1,2,3px)"
+    ∷ codes "rgb()" ∷ codes "rgb(1)" ∷ codes "rgb(1,2)" ∷ codes "rgb(1,2,3,4)" ∷ codes "rgb(1,2,3,)" ∷ codes "rgb(,1,2)"
+    ∷ codes "rgb(1,,2)" ∷ codes "rgb(1 2 3)" ∷ codes "rgb(1,2,3" ∷ codes "rgb(1,2,3))" ∷ codes "rgb(1,2,3) " ∷ codes "rgb(1,2,3]"
+    ∷ codes "rgb (1,2,3)" ∷ codes "rgb((1),2,3)" ∷ codes "rgba(1,2,3,1)" ∷ codes "hsl(1,2,3)" ∷ codes "rgb(1;2;3)" ∷ codes "rgb(red)" ∷ []
+    )
+unfolding value_in tokens_in table named_colors thousandths
+no_functions = refl
+
+-- the colours of borders and of the background are read likewise
+other_colors : map (λ property. reads property (codes "Red" ∷ codes "#0f00" ∷ codes "rgb(1,2,3)" ∷ codes "currentColor" ∷ codes "none" ∷ [])) (31 ∷ 32 ∷ 33 ∷ 34 ∷ 35 ∷ []) ≡ replicate 5 (Some (color (opaque 255 0 0)) ∷ Some (color (rgba 0 255 0 0)) ∷ Some (color (opaque 1 2 3)) ∷ Some current_color ∷ None ∷ [])
+unfolding value_in tokens_in table named_colors thousandths
+other_colors = refl
+
 -- texts that are no value
-abbrev reads_none : ℕ → List Characters → Type 0
-reads_none property texts = list_all is_none (reads property texts) ≡ true
 
 no_hexadecimals : reads_none color_property (
     codes "#1" ∷ codes "#12" ∷ codes "#12345" ∷ codes "#1234567" ∷ codes "#123456789" ∷ codes "#12g" ∷ codes "#ggg"
@@ -89,7 +149,7 @@ no_color_names : reads_none color_property (
     [] ∷ codes " " ∷ codes "abc" ∷ codes "re" ∷ codes "redd" ∷ codes "current-color" ∷ codes "currentcolo"
     ∷ (383 ∷ codes "ilver") ∷ codes " red" ∷ codes "red " ∷ codes "red red" ∷ codes "red blue" ∷ codes "red,"
     ∷ codes "(red)" ∷ codes "inherit" ∷ codes "initial" ∷ codes "unset" ∷ codes "block" ∷ codes "none"
-    ∷ codes "rgb(1,2,3)" ∷ codes "rgb(" ∷ codes "*" ∷ []
+    ∷ codes "rgb" ∷ codes "rgb(" ∷ codes "*" ∷ []
     )
 unfolding value_in tokens_in table named_colors
 no_color_names = refl

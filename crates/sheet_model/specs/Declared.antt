@@ -1,7 +1,7 @@
 -- The declarations of a block that are kept (css-syntax-3, sections 5 and 8; css-cascade-5, section 4.1;
 -- css-variables-1, sections 2 and 3).
-use Rattle.std.specs.Prelude.{ℕ, ◌==◌, List, Bool, false, if◌then◌else◌, Option, option_map}
-use Rattle.std.specs.Prelude.{option_to_list, flat_map}
+use Rattle.std.specs.Prelude.{ℕ, ◌==◌, List, [], map, zip, Bool, false, if◌then◌else◌, Option, option_map}
+use Rattle.std.specs.Prelude.{option_to_list, flat_map, unwrap_or}
 use Rattle.std.specs.Option.{option_or}
 use Rattle.base_model.specs.Options.{◌>>=◌}
 use Rattle.base_model.specs.Text.{Characters, same_text}
@@ -15,7 +15,9 @@ use Rattle.custom_model.specs.Value.{CustomValue, is_custom_name}
 use Rattle.custom_model.specs.Parts.{custom_value_in, referring_value_in}
 use Rattle.value_model.specs.Value.{Value}
 use Rattle.value_model.specs.Table.{property_named}
-use Rattle.sheet_model.specs.ValueIn.{ident_in, value_in}
+use Rattle.value_model.specs.Shorthand.{short_named}
+use Rattle.sheet_model.specs.ValueIn.{ident_in}
+use Rattle.sheet_model.specs.Shorthands.{Subject, single, shorthand, subject_longhands, values_in}
 
 -- what is declared
 pub data Target : Type 0 where
@@ -27,8 +29,8 @@ pub data Target : Type 0 where
 pub data Given : Type 0 where
   wide : Wide → Given
   exactly : Value → Given
-  -- tokens that refer to custom properties, which this property takes once they are expanded
-  referring : ℕ → CustomValue → Given
+  -- tokens that refer to custom properties, which this property or shorthand takes once they are expanded
+  referring : Subject → CustomValue → Given
   -- the value of a custom property
   holding : CustomValue → Given
 
@@ -53,12 +55,17 @@ wide_in tokens = do
   name ← ident_in tokens
   wide_named name
 
--- what tokens give a property: every one takes the CSS-wide keywords, and values that refer to custom properties
-abbrev pub given_in : ℕ → List Token → Option Given
-given_in property tokens =
-    option_or (option_map wide (wide_in tokens))
-    (option_or (option_map (referring property) (referring_value_in tokens))
-    (option_map exactly (value_in property tokens)))
+-- the same for each property that is set
+abbrev pub for_each : Subject → Given → List Given
+for_each subject given = map (λ id. given) (subject_longhands subject)
+
+-- What tokens give each property that is set: every one takes the CSS-wide keywords, and values that refer to custom
+-- properties.
+abbrev pub givens_in : Subject → List Token → Option (List Given)
+givens_in subject tokens =
+    option_or (option_map (λ word. for_each subject (wide word)) (wide_in tokens))
+    (option_or (option_map (λ value. for_each subject (referring subject value)) (referring_value_in tokens))
+    (option_map (map exactly) (values_in subject tokens)))
 
 -- what tokens give a custom property
 abbrev pub custom_given_in : List Token → Option Given
@@ -75,18 +82,26 @@ abbrev pub custom_declared : Declaration → Option Declared
 custom_declared declaration =
     option_map (declared_with declaration (custom declaration.name)) (custom_given_in declaration.value)
 
--- and of another: nothing where its name is of no property, or the property does not take its value
-abbrev pub longhand_declared : Declaration → Option Declared
-longhand_declared declaration = do
-  property ← property_named declaration.name
-  option_map (declared_with declaration (longhand property)) (given_in property declaration.value)
+-- a property, or a shorthand
+abbrev pub subject_named : Characters → Option Subject
+subject_named name = option_or (option_map single (property_named name)) (option_map shorthand (short_named name))
 
-abbrev pub declared_by : Declaration → Option Declared
-declared_by declaration =
-    if is_custom_name declaration.name then custom_declared declaration else longhand_declared declaration
+-- a declaration for each property of a subject
+abbrev pub declared_each : Declaration → Subject → List Given → List Declared
+declared_each declaration subject givens =
+    map (λ pair. declared_with declaration (longhand pair.0) pair.1) (zip (subject_longhands subject) givens)
+
+-- And of another: a shorthand stands for a declaration of each of its properties (css-cascade-5, section 3). Nothing
+-- where its name is of none, or the value is not taken.
+abbrev pub longhands_declared : Declaration → Option (List Declared)
+longhands_declared declaration = do
+  subject ← subject_named declaration.name
+  option_map (declared_each declaration subject) (givens_in subject declaration.value)
 
 abbrev pub declared_in : Declaration → List Declared
-declared_in declaration = option_to_list (declared_by declaration)
+declared_in declaration =
+    if is_custom_name declaration.name then option_to_list (custom_declared declaration)
+    else unwrap_or (longhands_declared declaration) []
 
 -- the declarations of a block that are kept, in its order
 abbrev pub block_declared : List Token → List Declared

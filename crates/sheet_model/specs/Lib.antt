@@ -3,6 +3,7 @@ pub mod AttributeIn
 pub mod AnPlusB
 pub mod SelectorsIn
 pub mod ValueIn
+pub mod Shorthands
 pub mod Declared
 pub mod StyleRules
 pub mod Sources

@@ -1,14 +1,30 @@
 -- The table of properties, in the order in which they are printed (css-cascade-5, section 7, for what a row says).
-use Rattle.std.specs.Prelude.{ℕ, List, [], ◌∷◌, map, position, Bool, true, false, Option, codes}
+use Rattle.std.specs.Prelude.{ℕ, ℤ, pos, List, [], ◌∷◌, ◌++◌, map, position, Bool, true, false, Option, codes}
 use Rattle.base_model.specs.Text.{Characters, is_word}
-use Rattle.value_model.specs.Color.{black}
-use Rattle.value_model.specs.Value.{Value, keyword, color}
+use Rattle.base_model.specs.Thousandths.{most}
+use Rattle.value_model.specs.Color.{black, transparent}
+use Rattle.value_model.specs.Value.{Value, keyword, color, pixels, number, current_color}
 
 -- what a property takes as a value, beside the keywords that all take
 pub data ValueForm : Type 0 where
-  -- this keyword
-  word : Characters → ValueForm
+  -- this word, which is read as this value
+  named : Characters → Value → ValueForm
   any_color : ValueForm
+  -- whether it may be negative, and whether a number that is 0 is one
+  length : Bool → Bool → ValueForm
+  -- whether it may be negative
+  percentage : Bool → ValueForm
+  -- a number of at least and at most so many thousandths
+  number_within : ℤ → ℤ → ValueForm
+
+-- how a value of a property is computed
+pub data Rule : Type 0 where
+  -- lengths become pixels
+  plain : Rule
+  of_color : Rule
+  of_font_size : Rule
+  of_font_weight : Rule
+  of_line_height : Rule
 
 pub record Row : Type 0 where
   pub name : Characters
@@ -19,6 +35,11 @@ pub record Row : Type 0 where
   pub standing : Value
   -- what it takes
   pub forms : List ValueForm
+  pub rule : Rule
+
+-- a keyword, which is read as itself
+abbrev pub word : Characters → ValueForm
+word text = named text (keyword text)
 
 -- the name, the initial value and the keywords of a property that takes keywords alone
 abbrev pub of_words : Characters → Bool → Characters → List Characters → Row
@@ -28,9 +49,10 @@ of_words name inherited initial others = record {
   initial = keyword initial;
   standing = keyword initial;
   forms = word initial ∷ map word others;
+  rule = plain;
 }
 
--- css-color-4, section 3
+-- css-color-4, section 3; CSS 2.2, section 8.5.2; CSS 2.2, section 14.2.1
 abbrev pub color_row : Row
 color_row = record {
   name = codes "color";
@@ -38,31 +60,182 @@ color_row = record {
   initial = color black;
   standing = color black;
   forms = any_color ∷ [];
+  rule = of_color;
 }
 
--- css-display-3, section 2
-abbrev pub display_row : Row
-display_row =
-    of_words (codes "display") false (codes "inline")
+abbrev pub color_of_part : Characters → Value → Row
+color_of_part name initial = record {
+  name = name;
+  inherited = false;
+  initial = initial;
+  standing = initial;
+  forms = any_color ∷ [];
+  rule = plain;
+}
+
+-- a property that takes lengths, percentages and perhaps a word, and none of them negative unless said
+abbrev pub of_size : Characters → Value → Bool → List ValueForm → Row
+of_size name initial negative words = record {
+  name = name;
+  inherited = false;
+  initial = initial;
+  standing = initial;
+  forms = words ++ (length negative true ∷ percentage negative ∷ []);
+  rule = plain;
+}
+
+-- css-sizing-3, section 3.1
+abbrev pub box_size : Characters → Row
+box_size name = of_size name (keyword (codes "auto")) false (word (codes "auto") ∷ [])
+
+abbrev pub box_limit : Characters → Row
+box_limit name = of_size name (keyword (codes "none")) false (word (codes "none") ∷ [])
+
+-- CSS 2.2, section 8.3 and 8.4
+abbrev pub margin_row : Characters → Row
+margin_row name = of_size name (pixels (pos 0)) true (word (codes "auto") ∷ [])
+
+abbrev pub padding_row : Characters → Row
+padding_row name = of_size name (pixels (pos 0)) false []
+
+-- CSS 2.2, section 8.5.1; css-backgrounds-3, section 3.3
+abbrev pub border_width_row : Characters → Row
+border_width_row name = record {
+  name = name;
+  inherited = false;
+  initial = pixels (pos 3_000);
+  standing = pixels (pos 0);
+  forms =
+      named (codes "thin") (pixels (pos 1_000)) ∷ named (codes "medium") (pixels (pos 3_000))
+      ∷ named (codes "thick") (pixels (pos 5_000)) ∷ length false true ∷ [];
+  rule = plain;
+}
+
+-- css-backgrounds-3, section 3.2
+abbrev pub border_style_row : Characters → Row
+border_style_row name =
+    of_words name false (codes "none")
+    (codes "hidden" ∷ codes "dotted" ∷ codes "dashed" ∷ codes "solid" ∷ codes "double" ∷ codes "groove"
+    ∷ codes "ridge" ∷ codes "inset" ∷ codes "outset" ∷ [])
+
+-- css-overflow-3, section 3
+abbrev pub overflow_row : Characters → Row
+overflow_row name =
+    of_words name false (codes "visible") (codes "hidden" ∷ codes "scroll" ∷ codes "auto" ∷ [])
+
+-- the forms of `font-size` (css-fonts-4, section 2.5)
+abbrev pub font_size_row : Row
+font_size_row = record {
+  name = codes "font-size";
+  inherited = true;
+  initial = pixels (pos 16_000);
+  standing = pixels (pos 16_000);
+  forms =
+      named (codes "xx-small") (pixels (pos 9_000)) ∷ named (codes "x-small") (pixels (pos 10_000))
+      ∷ named (codes "small") (pixels (pos 13_000)) ∷ named (codes "medium") (pixels (pos 16_000))
+      ∷ named (codes "large") (pixels (pos 18_000)) ∷ named (codes "x-large") (pixels (pos 24_000))
+      ∷ named (codes "xx-large") (pixels (pos 32_000)) ∷ word (codes "larger") ∷ word (codes "smaller")
+      ∷ length false true ∷ percentage false ∷ [];
+  rule = of_font_size;
+}
+
+-- css-fonts-4, section 2.2
+abbrev pub font_weight_row : Row
+font_weight_row = record {
+  name = codes "font-weight";
+  inherited = true;
+  initial = number (pos 400_000);
+  standing = number (pos 400_000);
+  forms =
+      named (codes "normal") (number (pos 400_000)) ∷ named (codes "bold") (number (pos 700_000))
+      ∷ word (codes "bolder") ∷ word (codes "lighter") ∷ number_within (pos 1_000) (pos 1_000_000) ∷ [];
+  rule = of_font_weight;
+}
+
+-- CSS 2.2, section 10.8.1
+abbrev pub line_height_row : Row
+line_height_row = record {
+  name = codes "line-height";
+  inherited = true;
+  initial = keyword (codes "normal");
+  standing = keyword (codes "normal");
+  forms =
+      word (codes "normal") ∷ number_within (pos 0) (pos most) ∷ length false false ∷ percentage false ∷ [];
+  rule = of_line_height;
+}
+
+-- css-writing-modes-4, section 2.1; css-display-3, sections 2 and 4; css-position-3, section 2; CSS 2.2, section 9.5
+abbrev pub first_rows : List Row
+first_rows =
+    color_row
+    ∷ of_words (codes "direction") true (codes "ltr") (codes "rtl" ∷ [])
+    ∷ of_words (codes "display") false (codes "inline")
     (codes "block" ∷ codes "inline-block" ∷ codes "flex" ∷ codes "inline-flex" ∷ codes "none" ∷ [])
+    ∷ of_words (codes "position") false (codes "static")
+    (codes "relative" ∷ codes "absolute" ∷ codes "fixed" ∷ codes "sticky" ∷ [])
+    ∷ of_words (codes "float") false (codes "none") (codes "left" ∷ codes "right" ∷ [])
+    ∷ of_words (codes "clear") false (codes "none") (codes "left" ∷ codes "right" ∷ codes "both" ∷ [])
+    ∷ of_words (codes "visibility") true (codes "visible") (codes "hidden" ∷ codes "collapse" ∷ [])
+    ∷ overflow_row (codes "overflow-x")
+    ∷ overflow_row (codes "overflow-y")
+    ∷ []
 
--- CSS 2.2, section 9.5.2
-abbrev pub clear_row : Row
-clear_row = of_words (codes "clear") false (codes "none") (codes "left" ∷ codes "right" ∷ codes "both" ∷ [])
+abbrev pub box_rows : List Row
+box_rows =
+    box_size (codes "width") ∷ box_size (codes "height")
+    ∷ box_size (codes "min-width") ∷ box_size (codes "min-height")
+    ∷ box_limit (codes "max-width") ∷ box_limit (codes "max-height")
+    ∷ margin_row (codes "margin-top") ∷ margin_row (codes "margin-right")
+    ∷ margin_row (codes "margin-bottom") ∷ margin_row (codes "margin-left")
+    ∷ padding_row (codes "padding-top") ∷ padding_row (codes "padding-right")
+    ∷ padding_row (codes "padding-bottom") ∷ padding_row (codes "padding-left")
+    ∷ []
 
--- css-display-3, section 4
-abbrev pub visibility_row : Row
-visibility_row = of_words (codes "visibility") true (codes "visible") (codes "hidden" ∷ codes "collapse" ∷ [])
+abbrev pub border_rows : List Row
+border_rows =
+    border_width_row (codes "border-top-width") ∷ border_width_row (codes "border-right-width")
+    ∷ border_width_row (codes "border-bottom-width") ∷ border_width_row (codes "border-left-width")
+    ∷ border_style_row (codes "border-top-style") ∷ border_style_row (codes "border-right-style")
+    ∷ border_style_row (codes "border-bottom-style") ∷ border_style_row (codes "border-left-style")
+    ∷ color_of_part (codes "border-top-color") current_color
+    ∷ color_of_part (codes "border-right-color") current_color
+    ∷ color_of_part (codes "border-bottom-color") current_color
+    ∷ color_of_part (codes "border-left-color") current_color
+    ∷ color_of_part (codes "background-color") (color transparent)
+    ∷ []
+
+abbrev pub font_rows : List Row
+font_rows =
+    font_size_row ∷ font_weight_row
+    ∷ of_words (codes "font-style") true (codes "normal") (codes "italic" ∷ codes "oblique" ∷ [])
+    ∷ line_height_row
+    ∷ []
 
 unfoldable pub table : List Row
-table = color_row ∷ display_row ∷ clear_row ∷ visibility_row ∷ []
+table = first_rows ++ (box_rows ++ (border_rows ++ font_rows))
 
 -- A property is its row, from 0. These are the properties that have a rule of their own.
 abbrev pub color_property : ℕ
 color_property = 0
 
 abbrev pub display_property : ℕ
-display_property = 1
+display_property = 2
+
+abbrev pub position_property : ℕ
+position_property = 3
+
+abbrev pub float_property : ℕ
+float_property = 4
+
+abbrev pub font_size_property : ℕ
+font_size_property = 36
+
+abbrev pub font_weight_property : ℕ
+font_weight_property = 37
+
+-- the width of the border at each side, and the style of it there
+abbrev pub border_sides : List (ℕ × ℕ)
+border_sides = (23, 27) ∷ (24, 28) ∷ (25, 29) ∷ (26, 30) ∷ []
 
 -- names ignore ASCII case
 abbrev pub property_named : Characters → Option ℕ
