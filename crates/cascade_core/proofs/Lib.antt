@@ -1,10 +1,15 @@
+pub mod CountLemmas
+pub mod EntryLemmas
+pub mod WonLemmas
 pub mod BestLemmas
 pub mod SortedLemmas
 pub mod RollbackLemmas
+pub mod AlikeLemmas
 pub mod DeclaredLemmas
 pub mod NameLemmas
 pub mod ListedLemmas
 pub mod ByNameLemmas
+pub mod PartLemmas
 pub mod TokenLemmas
 pub mod SeenLemmas
 pub mod FilledLemmas

@@ -1,6 +1,8 @@
+pub mod CameView
 pub mod EndingView
 pub mod Names
 pub mod Rollback
+pub mod Sizes
 pub mod Tokens
 pub mod View
 pub mod Wanted

@@ -1,27 +1,80 @@
 -- What a declaration that applies to an element stands for.
+use Rattle.std.specs.Prelude.{ℕ, ◌+◌, ◌==◌, List, [], ◌∷◌, Bool, true, false}
+use Rattle.std.specs.List.{list_any}
 use Rattle.base_model.specs.Origin.{origin_rank}
+use Rattle.sheet_model.specs.Declared as said
+use Rattle.sheet_model.specs.Declared.{longhand, custom}
 use Rattle.cascade_model.specs.Key as model
 use Rattle.layer_order.specs.View.{origin_of}
-use Rattle.value_parser.specs.View.{target_of, given_of}
+use Rattle.property_table.specs.View.{property_of}
+use Rattle.shorthands.specs.View.{given_of, taker_of, declared_as, declared_of, declared_longhands, offset_of}
+use Rattle.shorthands.specs.declared.declared.Declared.{Declared}
+use Rattle.shorthands.specs.declared.declared.Target.{Target}
+use Rattle.shorthands.specs.declared.declared.Target.TheVariants.{Longhand, Shorthand, Custom}
 use Rattle.cascade_core.specs.declared.matched.Matched.{Matched}
 use Rattle.cascade_core.specs.Rollback as rollback
 use Rattle.cascade_core.specs.declared.level.Level.{Level}
 use Rattle.cascade_core.specs.declared.rollback.Limit.{Limit}
 use Rattle.cascade_core.specs.declared.rollback.Limit.TheVariants.{All, BelowOrigin, BelowLevel}
 
-abbrev pub matched_of : Matched → model.Matched
-matched_of d = record {
-  target = target_of d.declared.now.target;
-  given = given_of d.declared.now.given;
+-- a declaration of a longhand or a custom property, as it applies at this place of its sheet's text
+abbrev pub applied : Matched → ℕ → said.Declared → model.Matched
+applied d index declared = record {
+  target = declared.target;
+  given = declared.given;
   origin = origin_of d.origin;
-  important = d.declared.now.important;
+  important = declared.important;
   attached = d.attached;
   layer = d.layer;
   specificity = d.specificity;
   sheet = d.sheet;
   position = d.position;
-  index = d.index;
+  index = index;
 }
+
+abbrev pub all_applied : Matched → ℕ → List said.Declared → List model.Matched
+all_applied d index [] = []
+all_applied d index (declared ∷ others) = applied d index declared ∷ all_applied d (index + 1) others
+
+-- one for each longhand that it sets, and one for a custom property
+abbrev pub matched_of : Matched → List model.Matched
+matched_of d = all_applied d d.index (declared_of d.declared.now)
+
+-- what each of them is declared to be
+abbrev pub given_in : Declared → said.Given
+given_in declared = given_of (taker_of declared.target) declared.given
+
+-- that of a target
+abbrev pub for_target : said.Target → ℕ → Matched → model.Matched
+for_target target index d = applied d index (declared_as d.declared.now target)
+
+-- that of a property
+abbrev pub entry_of : ℕ → Matched → model.Matched
+entry_of property d = for_target (longhand property) (d.index + offset_of d.declared.now property) d
+
+-- what all of them have in common, and the name of a custom property
+abbrev pub name_seen : Target → said.Target
+name_seen (Longhand id) = longhand (property_of id)
+name_seen (Shorthand short) = longhand 0
+name_seen (Custom name) = custom name
+
+abbrev pub placed : ℕ → Matched → model.Matched
+placed index d = for_target (name_seen d.declared.now.target) index d
+
+abbrev pub head_of : Matched → model.Matched
+head_of d = placed d.index d
+
+-- whether a property is among those that it sets
+abbrev pub is_among : ℕ → Matched → Bool
+is_among property d = list_any (λ other. other == property) (declared_longhands d.declared.now)
+
+abbrev pub is_custom_target : Target → Bool
+is_custom_target (Longhand id) = false
+is_custom_target (Shorthand short) = false
+is_custom_target (Custom name) = true
+
+abbrev pub is_of_custom : Matched → Bool
+is_of_custom d = is_custom_target d.declared.now.target
 
 abbrev pub level_seen : Level → rollback.Level
 level_seen level = record {

@@ -1,6 +1,6 @@
 //! The custom properties of an element (css-variables-1, sections 2 and 3).
 
-ghost use Rattle.std.specs.Prelude.{◌≡◌, ◌++◌, IfOk, IsTrue, map, option_map};
+ghost use Rattle.std.specs.Prelude.{◌≡◌, ◌++◌, IfOk, IsTrue, flat_map, map, option_map};
 ghost use Rattle.std.specs.Cmp.Lexicographic.{slice_cmp};
 ghost use Rattle.std.specs.FinMap as finmap;
 ghost use Rattle.std.specs.Option.{unwrap_or};
@@ -9,7 +9,7 @@ ghost use Rattle.base_model.specs.Text.{Characters};
 ghost use Rattle.cascade_model.specs.Custom.{custom_values};
 ghost use Rattle.custom_properties.specs.Entries.{declared_entry};
 ghost use Rattle.cascade_core.specs.Names.{NamesRise, declared_of, run_entry};
-ghost use Rattle.cascade_core.specs.View.{matched_of};
+ghost use Rattle.cascade_core.specs.View.{head_of, matched_of};
 
 use crate::Matched;
 use crate::customs::Customs;
@@ -19,10 +19,10 @@ use crate::rollback::walk;
 use css_tokens::CustomMap;
 use css_writer::custom_declarations;
 use custom_properties::{DeclaredEntry, DeclaredMap, changed};
+use shorthands::Target;
 use std::alloc::Global;
 use style_value::Custom;
 use stylo_base::NoMemory;
-use value_parser::Target;
 
 /// The custom properties by the declarations that apply, over those of the parent. None: they are
 /// the parent's.
@@ -33,7 +33,7 @@ pub(crate) fn changed_custom<'a>(
     parent: &Custom,
 ) -> Result<Option<Custom>, NoMemory>
     ensures { IfOk result (λ custom. unwrap_or custom parent.now
-        ≡ custom_values parent.now (map matched_of (matched.now ++ attached.now))) }
+        ≡ custom_values parent.now (flat_map matched_of (matched.now ++ attached.now))) }
 {
     let list = sorted_by_name(alloc, matched, attached)?;
     let declared = DeclaredMap::of_entries(declared_entries(alloc, &list)?);
@@ -56,12 +56,12 @@ fn declared_entries<'a>(
     alloc: Global,
     list: &[Matched<'a>],
 ) -> Result<Vec<DeclaredEntry<'a>>, NoMemory>
-    requires { NamesRise (map matched_of list.now) }
+    requires { NamesRise (map head_of list.now) }
     ensures sorted { IfOk result (λ entries.
         IsTrue (finmap.is_sorted (slice_cmp nat_cmp) (map declared_entry entries.items))) }
     ensures each { IfOk result (λ entries. (name : Characters)
         → finmap.find (slice_cmp nat_cmp) name (map declared_entry entries.items)
-        ≡ declared_of (map matched_of list.now) name) }
+        ≡ declared_of (map head_of list.now) name) }
 {
     let mut entries = Vec::new(alloc);
     let mut start = 0;
@@ -78,7 +78,7 @@ fn declared_entries<'a>(
 
 /// What the declarations of one name declare. None: it inherits.
 fn entry_of<'a>(alloc: Global, run: &[Matched<'a>]) -> Result<Option<DeclaredEntry<'a>>, NoMemory>
-    ensures { IfOk result (λ entry. option_map declared_entry entry ≡ run_entry (map matched_of run.now)) }
+    ensures { IfOk result (λ entry. option_map declared_entry entry ≡ run_entry (map head_of run.now)) }
 {
     let Some(first) = run.first() else {
         return Ok(None);
@@ -86,7 +86,7 @@ fn entry_of<'a>(alloc: Global, run: &[Matched<'a>]) -> Result<Option<DeclaredEnt
     let Target::Custom(name) = &first.declared.target else {
         return Ok(None);
     };
-    Ok(match walk(alloc, run, &Customs)? {
+    Ok(match walk(alloc, run, &mut Customs)? {
         Ending::EndsAt(value) => Some(DeclaredEntry {
             name,
             value: Some(value),

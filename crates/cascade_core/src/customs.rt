@@ -3,9 +3,9 @@
 use crate::ending::Meaning;
 use crate::meaning::Meanings;
 use css_tokens::{CustomValue, Wide};
+use shorthands::{Declared, Given};
 use std::alloc::Global;
 use stylo_base::NoMemory;
-use value_parser::Given;
 
 /// Reads declarations as of custom properties, whose values are expanded later.
 #[derive(Clone, Copy, Debug)]
@@ -24,14 +24,14 @@ impl<'a> Meanings<'a> for Customs {
     ghost means = { λ c. custom_meaning };
 
     fn meaning(
-        &self,
+        &mut self,
         _alloc: Global,
-        given: &'a Given,
+        declared: &'a Declared,
     ) -> Result<Meaning<&'a CustomValue>, NoMemory> {
-        match given {
+        match &declared.given {
             Given::Holding(value) => Ok(Meaning::Value(value)),
             Given::Wide(word) => Ok(Meaning::Keyword(*word)),
-            Given::Exactly(_) | Given::Referring { .. } => Ok(Meaning::Keyword(Wide::Unset)),
+            Given::Exactly(_) | Given::Referring(_) => Ok(Meaning::Keyword(Wide::Unset)),
         }
     }
 }

@@ -1,36 +1,44 @@
 //! The declarations that are sorted, of all that apply.
 
-ghost use Rattle.std.specs.Prelude.{◌≡◌, ◌++◌, IfOk, OnOk, filter, map};
-ghost use Rattle.cascade_core.specs.View.{matched_of};
-ghost use Rattle.cascade_core.specs.Wanted.{wanted_by};
+ghost use Rattle.std.specs.Prelude.{◌≡◌, ◌∷◌, [], ◌++◌, IfOk, OnOk, filter, flat_map, map, if◌then◌else◌};
+ghost use Rattle.cascade_core.specs.View.{is_among, matched_of};
+ghost use Rattle.property_table.specs.View.{property_of};
+ghost use Rattle.cascade_core.specs.Wanted.{entry_by, wanted_by};
 
 use crate::Matched;
+use crate::matched::is_custom;
 use property_table::PropId;
 use std::alloc::Global;
 use std::slice;
 use stylo_base::NoMemory;
-use value_parser::Target;
 
 /// Which declarations are gathered.
 #[derive(Clone, Copy, Debug)]
 pub(crate) enum Wanted {
-    /// Those of a property of the table.
+    /// Those of a property of the table, or of a shorthand of it.
     Property(PropId),
     /// Those of custom properties.
     Customs,
 }
 
 impl Wanted {
-    /// Whether it is one of these.
+    /// Whether it is one of these, or a shorthand of one.
     pub(crate) fn takes(self, d: &Matched<'_>) -> bool
-        ensures { result ≡ wanted_by self (matched_of d.now) }
+        ensures { filter (wanted_by self) (matched_of d.now)
+            ≡ (if result then entry_by self d.now ∷ [] else []) }
     {
-        match (self, &d.declared.target) {
-            (Wanted::Property(id), Target::Longhand(other)) => *other == id,
-            (Wanted::Customs, Target::Custom(_)) => true,
-            _ => false,
+        match self {
+            Wanted::Property(id) => sets(d, id),
+            Wanted::Customs => is_custom(d),
         }
     }
+}
+
+/// Whether it sets the property.
+fn sets(d: &Matched<'_>, id: PropId) -> bool
+    ensures { result ≡ is_among (property_of id) d.now }
+{
+    d.declared.longhands().contains(&id)
 }
 
 /// The declarations that are wanted, in their order.
@@ -40,8 +48,8 @@ pub(crate) fn gathered<'a>(
     attached: &'a [Matched<'a>],
     wanted: Wanted,
 ) -> Result<Vec<Matched<'a>>, NoMemory>
-    ensures { IfOk result (λ list. map matched_of list.items
-        ≡ filter (wanted_by wanted) (map matched_of (matched.now ++ attached.now))) }
+    ensures { IfOk result (λ list. map (entry_by wanted) list.items
+        ≡ filter (wanted_by wanted) (flat_map matched_of (matched.now ++ attached.now))) }
 {
     let mut list = Vec::new(alloc);
     add_wanted(&mut list, matched, wanted)?;
@@ -55,8 +63,8 @@ fn add_wanted<'a>(
     matched: &'a [Matched<'a>],
     wanted: Wanted,
 ) -> Result<(), NoMemory>
-    ensures { OnOk result (map matched_of list.new.items ≡ map matched_of list.old.items
-        ++ filter (wanted_by wanted) (map matched_of matched.now)) }
+    ensures { OnOk result (map (entry_by wanted) list.new.items ≡ map (entry_by wanted) list.old.items
+        ++ filter (wanted_by wanted) (flat_map matched_of matched.now)) }
 {
     for d in matched {
         if wanted.takes(d) {

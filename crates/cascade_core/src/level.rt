@@ -2,7 +2,7 @@
 
 ghost use Rattle.std.specs.Prelude.{◌≡◌};
 ghost use Rattle.cascade_core.specs.Rollback.{compare_level, level_of};
-ghost use Rattle.cascade_core.specs.View.{level_seen, matched_of};
+ghost use Rattle.cascade_core.specs.View.{head_of, level_seen};
 
 use crate::Matched;
 use layer_order::Origin;
@@ -19,7 +19,7 @@ pub(crate) struct Level {
 impl Level {
     /// That of a declaration.
     pub(crate) fn of(d: &Matched<'_>) -> Level
-        ensures { level_seen result ≡ level_of (matched_of d.now) }
+        ensures { level_seen result ≡ level_of (head_of d.now) }
     {
         Level {
             origin: d.origin,

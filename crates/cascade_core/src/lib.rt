@@ -1,6 +1,9 @@
 //! The style of an element, from the declarations that apply to it and the style of its parent.
 #![tactic(auto)]
 
+mod applied;
+mod came;
+mod computed;
 mod custom;
 mod customs;
 mod ending;

@@ -2,20 +2,23 @@
 
 ghost use Rattle.std.specs.Prelude.{◌≡◌};
 ghost use Rattle.cascade_model.specs.Key.{band, key_cmp, layer_cmp};
-ghost use Rattle.cascade_core.specs.View.{matched_of};
+ghost use Rattle.property_table.specs.View.{property_of};
+ghost use Rattle.cascade_core.specs.View.{entry_of, head_of, is_of_custom, placed};
 
 use layer_order::Origin;
+use property_table::PropId;
+use shorthands::{Declared, Target};
 use std::cmp::Ordering;
 use stylo_base::Specificity;
-use value_parser::Declared;
 
 /// One declaration that applies to an element, with what the cascade compares. It borrows the
 /// declaration from what it was read into: for a rule that is the sheet, and for a `style` attribute
 /// the list that was read from it. An entry that is kept for longer than that list is to own its
-/// declaration: then `declared` becomes an enum of the two.
+/// declaration: then `declared` becomes an enum of the two. A declaration of a shorthand stands for
+/// one of each of its longhands (css-cascade-5, section 3).
 #[derive(Clone, Copy, Debug)]
 pub struct Matched<'a> {
-    /// The property, what it is declared to be, and whether that is `!important`.
+    /// What is declared, what it is declared to be, and whether that is `!important`.
     pub declared: &'a Declared,
     /// Where its sheet comes from.
     pub origin: Origin,
@@ -29,13 +32,37 @@ pub struct Matched<'a> {
     pub sheet: u32,
     /// The position of that among the enabled sheets, from 0.
     pub position: u32,
-    /// How many declarations come before it in the text of its own sheet.
+    /// How many declarations come before it in the text of its own sheet, where a shorthand counts
+    /// as one for each of its longhands.
     pub index: u64,
 }
 
-/// Which of two declarations of one property wins: the greater one (css-cascade-5, section 6.1).
+/// Which of two declarations of one custom property wins: the greater one (css-cascade-5, section
+/// 6.1).
 pub(crate) fn compare(a: &Matched<'_>, b: &Matched<'_>) -> Ordering
-    ensures { result ≡ key_cmp (matched_of a.now) (matched_of b.now) }
+    ensures { result ≡ key_cmp (head_of a.now) (head_of b.now) }
+{
+    compare_placed(a, b, u128::from(a.index), u128::from(b.index))
+}
+
+/// Which of two declarations wins for a property that both set, each by itself or by a shorthand of
+/// it: the greater one.
+pub(crate) fn compare_for(id: PropId, a: &Matched<'_>, b: &Matched<'_>) -> Ordering
+    ensures { result ≡ key_cmp (entry_of (property_of id) a.now) (entry_of (property_of id) b.now) }
+{
+    compare_placed(a, b, place_of(id, a), place_of(id, b))
+}
+
+/// How many declarations of longhands come before the one of this property.
+fn place_of(id: PropId, d: &Matched<'_>) -> u128
+    ensures { result ≡ (entry_of (property_of id) d.now).index }
+{
+    u128::from(d.index) + u128::from(d.declared.offset(id))
+}
+
+/// Which of two is greater, where they stand at these places of their sheets' texts.
+fn compare_placed(a: &Matched<'_>, b: &Matched<'_>, a_place: u128, b_place: u128) -> Ordering
+    ensures { result ≡ key_cmp (placed a_place a.now) (placed b_place b.now) }
 {
     band(a)
         .cmp(&band(b))
@@ -43,13 +70,13 @@ pub(crate) fn compare(a: &Matched<'_>, b: &Matched<'_>) -> Ordering
         .then(compare_layers(a, b))
         .then(a.specificity.cmp(&b.specificity))
         .then(a.position.cmp(&b.position))
-        .then(a.index.cmp(&b.index))
+        .then(a_place.cmp(&b_place))
 }
 
 /// Important declarations of the user agent are highest, normal ones of it lowest
 /// (css-cascade-5, section 6.1).
 fn band(d: &Matched<'_>) -> u32
-    ensures { result ≡ band (matched_of d.now).origin d.now.declared.now.important }
+    ensures { result ≡ band (head_of d.now).origin d.now.declared.now.important }
 {
     match (d.declared.important, d.origin) {
         (true, Origin::UserAgent) => 5,
@@ -71,4 +98,11 @@ fn compare_layers(a: &Matched<'_>, b: &Matched<'_>) -> Ordering
     } else {
         a.layer.cmp(&b.layer)
     }
+}
+
+/// Whether it is of a custom property.
+pub(crate) fn is_custom(d: &Matched<'_>) -> bool
+    ensures { result ≡ is_of_custom d.now }
+{
+    matches!(d.declared.target, Target::Custom(_))
 }

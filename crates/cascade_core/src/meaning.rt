@@ -3,15 +3,15 @@
 ghost use Rattle.std.specs.Prelude.{◌≡◌, IfOk};
 ghost use Rattle.sheet_model.specs.Declared.{Given as Written};
 ghost use Rattle.cascade_model.specs.Ending.{Meaning as Meant};
-ghost use Rattle.value_parser.specs.View.{given_of};
 ghost use Rattle.cascade_core.specs.EndingView.{meaning_seen};
+ghost use Rattle.cascade_core.specs.View.{given_in};
 
 use crate::ending::Meaning;
+use shorthands::Declared;
 use std::alloc::Global;
 use stylo_base::NoMemory;
-use value_parser::Given;
 
-/// How declarations are read: as of properties of the table, or as of custom properties.
+/// How declarations are read: as of a property of the table, or as of custom properties.
 pub(crate) trait Meanings<'a> {
     /// The values of what they are of.
     type Value: Copy;
@@ -24,7 +24,12 @@ pub(crate) trait Meanings<'a> {
     /// What they mean.
     ghost means: { Self → Written → Meant Seen };
 
-    /// What a declaration means that gives this.
-    fn meaning(&self, alloc: Global, given: &'a Given) -> Result<Meaning<Self::Value>, NoMemory>
-        ensures { IfOk result (λ meaning. meaning_seen seen meaning ≡ means self.now (given_of given.now)) };
+    /// What a declaration means.
+    fn meaning(
+        &mut self,
+        alloc: Global,
+        declared: &'a Declared,
+    ) -> Result<Meaning<Self::Value>, NoMemory>
+        ensures same { self.new ≡ self.old }
+        ensures meaning { IfOk result (λ meaning. meaning_seen seen meaning ≡ means self.old (given_in declared.now)) };
 }

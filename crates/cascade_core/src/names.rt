@@ -1,16 +1,17 @@
 //! The names of custom properties, by which their declarations are sorted.
 
-ghost use Rattle.std.specs.Prelude.{◌≡◌, ◌++◌, ◌<◌, ◌≤◌, IfOk, length, map, take, drop, true};
-ghost use Rattle.cascade_core.specs.Names.{AreByName, by_name, compare_names, is_run};
-ghost use Rattle.cascade_core.specs.View.{matched_of};
+ghost use Rattle.std.specs.Prelude.{◌≡◌, ◌++◌, ◌<◌, ◌≤◌, IfOk, flat_map, length, map, take, drop, true, option_copied};
+ghost use Rattle.cascade_core.specs.Names.{AreByName, by_name, compare_names, is_run, name_of};
+ghost use Rattle.cascade_core.specs.View.{head_of, matched_of};
 
 use crate::Matched;
 use crate::gathered::{Wanted, gathered};
 use crate::matched::compare;
+use css_tokens::CustomName;
+use shorthands::Target;
 use std::alloc::Global;
 use std::cmp::Ordering;
 use stylo_base::NoMemory;
-use value_parser::Target;
 
 /// The declarations of custom properties by name, and those of one name from the greatest down. Of
 /// equal ones the first comes first.
@@ -19,13 +20,13 @@ pub(crate) fn sorted_by_name<'a>(
     matched: &'a [Matched<'a>],
     attached: &'a [Matched<'a>],
 ) -> Result<Vec<Matched<'a>>, NoMemory>
-    ensures { IfOk result (λ list. AreByName (map matched_of (matched.now ++ attached.now))
-        (map matched_of list.items)) }
+    ensures { IfOk result (λ list. AreByName (flat_map matched_of (matched.now ++ attached.now))
+        (map head_of list.items)) }
 {
     let mut list = gathered(alloc, matched, attached, Wanted::Customs)?;
     list.sort_by(
         |a: &Matched<'_>, b: &Matched<'_>| -> Ordering
-            ensures { result ≡ by_name (matched_of a.now) (matched_of b.now) }
+            ensures { result ≡ by_name (head_of a.now) (head_of b.now) }
         { compare_names(a, b).then(compare(b, a)) },
     )?;
     Ok(list)
@@ -35,7 +36,7 @@ pub(crate) fn sorted_by_name<'a>(
 pub(crate) fn run_length(list: &[Matched<'_>]) -> usize
     ensures within { result ≤ length list.now }
     ensures some { 0 < length list.now → 0 < result }
-    ensures run { is_run (map matched_of (take result list.now)) (map matched_of (drop result list.now)) ≡ true }
+    ensures run { is_run (map head_of (take result list.now)) (map head_of (drop result list.now)) ≡ true }
 {
     let Some(first) = list.first() else {
         return 0;
@@ -50,12 +51,22 @@ pub(crate) fn run_length(list: &[Matched<'_>]) -> usize
 
 /// Which name comes first, in the order of their characters. Those of the table have none.
 fn compare_names(a: &Matched<'_>, b: &Matched<'_>) -> Ordering
-    ensures { result ≡ compare_names (matched_of a.now) (matched_of b.now) }
+    ensures { result ≡ compare_names (head_of a.now) (head_of b.now) }
 {
-    match (&a.declared.target, &b.declared.target) {
-        (Target::Custom(one), Target::Custom(other)) => one.compare(other),
-        (Target::Custom(_), Target::Longhand(_)) => Ordering::Greater,
-        (Target::Longhand(_), Target::Custom(_)) => Ordering::Less,
-        (Target::Longhand(_), Target::Longhand(_)) => Ordering::Equal,
+    match (name_of(a), name_of(b)) {
+        (Some(one), Some(other)) => one.compare(other),
+        (Some(_), None) => Ordering::Greater,
+        (None, Some(_)) => Ordering::Less,
+        (None, None) => Ordering::Equal,
+    }
+}
+
+/// The name, where it is of a custom property.
+fn name_of<'a>(d: &Matched<'a>) -> Option<&'a CustomName>
+    ensures { option_copied result ≡ name_of (head_of d.now) }
+{
+    match &d.declared.target {
+        Target::Custom(name) => Some(name),
+        Target::Longhand(_) | Target::Shorthand(_) => None,
     }
 }

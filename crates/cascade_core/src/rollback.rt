@@ -1,6 +1,6 @@
 //! `revert` and `revert-layer`, which take the cascade back (css-cascade-5, sections 7.3.4 and 7.3.5).
 
-ghost use Rattle.std.specs.Prelude.{◌≡◌, ◌++◌, IfOk, filter, map};
+ghost use Rattle.std.specs.Prelude.{◌≡◌, ◌++◌, IfOk, filter, flat_map, map};
 ghost use Rattle.std.specs.FinMap as finmap;
 ghost use Rattle.cascade_model.specs.Ending.{ending};
 ghost use Rattle.cascade_model.specs.Key.{key_cmp};
@@ -8,14 +8,14 @@ ghost use Rattle.cascade_model.specs.Winner.{declares_longhand};
 ghost use Rattle.property_table.specs.View.{property_of, value_of};
 ghost use Rattle.cascade_core.specs.EndingView.{ending_seen, meaning_seen};
 ghost use Rattle.cascade_core.specs.Rollback.{Descends, keeps, limit_by, no_limit, walked};
-ghost use Rattle.cascade_core.specs.View.{limit_seen, matched_of};
+ghost use Rattle.cascade_core.specs.View.{entry_of, head_of, limit_seen, matched_of};
 
 use crate::Matched;
 use crate::ending::{Ending, Meaning};
 use crate::gathered::{Wanted, gathered};
 use crate::level::Level;
 use crate::longhands::Longhands;
-use crate::matched::compare;
+use crate::matched::compare_for;
 use crate::meaning::Meanings;
 use css_tokens::Wide;
 use layer_order::Origin;
@@ -38,7 +38,7 @@ pub(crate) enum Limit {
 impl Limit {
     /// Where a declaration takes the cascade back that means `revert-layer` or `revert`.
     fn by<V: Copy>(d: &Matched<'_>, meaning: Meaning<V>) -> Limit
-        ensures { limit_seen result ≡ limit_by (matched_of d.now) (meaning_seen (λ v. v) meaning) }
+        ensures { limit_seen result ≡ limit_by (head_of d.now) (meaning_seen (λ v. v) meaning) }
     {
         match meaning {
             Meaning::Keyword(Wide::RevertLayer) => Limit::BelowLevel(Level::of(d)),
@@ -48,7 +48,7 @@ impl Limit {
 
     /// Whether a declaration is asked still.
     fn keeps(self, d: &Matched<'_>) -> bool
-        ensures { result ≡ keeps (limit_seen self) (matched_of d.now) }
+        ensures { result ≡ keeps (limit_seen self) (head_of d.now) }
     {
         match self {
             Limit::All => true,
@@ -64,14 +64,14 @@ pub(crate) fn rolled_back<'a>(
     alloc: Global,
     matched: &'a [Matched<'a>],
     attached: &'a [Matched<'a>],
-    id: PropId,
-    longhands: &Longhands<'_>,
+    longhands: &mut Longhands<'a, '_>,
 ) -> Result<Ending<Value>, NoMemory>
-    ensures { let values = finmap.get longhands.now.custom.now in
+    ensures same { longhands.new ≡ longhands.old }
+    ensures ending { let values = finmap.get longhands.old.custom in
         IfOk result (λ end. ending_seen value_of end
-        ≡ ending values (property_of id) (map matched_of (matched.now ++ attached.now))) }
+        ≡ ending values longhands.old.property (flat_map matched_of (matched.now ++ attached.now))) }
 {
-    let list = descending(alloc, matched, attached, id)?;
+    let list = descending(alloc, matched, attached, longhands.id())?;
     walk(alloc, &list, longhands)
 }
 
@@ -83,14 +83,14 @@ fn descending<'a>(
     id: PropId,
 ) -> Result<Vec<Matched<'a>>, NoMemory>
     ensures { IfOk result (λ list. Descends
-        (filter (declares_longhand (property_of id)) (map matched_of (matched.now ++ attached.now)))
-        (map matched_of list.items)) }
+        (filter (declares_longhand (property_of id)) (flat_map matched_of (matched.now ++ attached.now)))
+        (map (entry_of (property_of id)) list.items)) }
 {
     let mut list = gathered(alloc, matched, attached, Wanted::Property(id))?;
     list.sort_by(
         |a: &Matched<'_>, b: &Matched<'_>| -> Ordering
-            ensures { result ≡ key_cmp (matched_of b.now) (matched_of a.now) }
-        { compare(b, a) },
+            ensures { result ≡ key_cmp (entry_of (property_of id) b.now) (entry_of (property_of id) a.now) }
+        { compare_for(id, b, a) },
     )?;
     Ok(list)
 }
@@ -99,15 +99,16 @@ fn descending<'a>(
 pub(crate) fn walk<'a, M: Meanings<'a>>(
     alloc: Global,
     list: &[Matched<'a>],
-    meanings: &M,
+    meanings: &mut M,
 ) -> Result<Ending<M::Value>, NoMemory>
-    ensures { IfOk result (λ end. ending_seen M.seen end
-        ≡ walked (M.means meanings.now) no_limit (map matched_of list.now)) }
+    ensures same { meanings.new ≡ meanings.old }
+    ensures ending { IfOk result (λ end. ending_seen M.seen end
+        ≡ walked (M.means meanings.old) no_limit (map head_of list.now)) }
 {
     let mut limit = Limit::All;
     for d in list {
         if limit.keeps(d) {
-            let meaning = meanings.meaning(alloc, &d.declared.given)?;
+            let meaning = meanings.meaning(alloc, d.declared)?;
             if let Some(ending) = Ending::settled(meaning) {
                 return Ok(ending);
             }

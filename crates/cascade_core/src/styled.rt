@@ -1,96 +1,83 @@
 //! The style of an element over its parent's.
 
-ghost use Rattle.std.specs.Prelude.{◌≡◌, ◌++◌, IfOk, IfSome, None, map, slice_get};
+ghost use Rattle.std.specs.Prelude.{◌≡◌, ◌++◌, IfOk, Some, flat_map, length, slice_get};
 ghost use Rattle.std.specs.FinMap as finmap;
 ghost use Rattle.std.specs.Option.{unwrap_or};
-ghost use Rattle.cascade_model.specs.Cascade.{cascaded, computed, value_at, values_from};
+ghost use Rattle.cascade_model.specs.Cascade.{cascaded, own_size, values_over};
 ghost use Rattle.cascade_model.specs.Custom.{custom_values};
-ghost use Rattle.cascade_model.specs.Ending.{unsets};
-ghost use Rattle.property_table.specs.View.{property_of, row_seen, value_of};
-ghost use Rattle.value_model.specs.Table.{table};
-ghost use Rattle.cascade_core.specs.EndingView.{ending_seen};
+ghost use Rattle.property_table.specs.View.{property_of, value_of};
+ghost use Rattle.value_model.specs.Style.{font_size_of, font_weight_of};
+ghost use Rattle.value_model.specs.Table.{font_size_property, table};
 ghost use Rattle.cascade_core.specs.View.{matched_of};
-ghost use Rattle.cascade_core.specs.Won.{winners_of};
 
 use crate::Matched;
+use crate::applied::Applied;
+use crate::computed::{Over, Sizes, own_size, value_at};
 use crate::custom::changed_custom;
-use crate::ending::Ending;
 use crate::longhands::Longhands;
-use crate::rollback::rolled_back;
-use crate::winners::Winners;
 use css_tokens::CustomMap;
-use property_table::{Keyword, PropId, Row, Value};
+use property_table::{PropId, Row, Value};
 use std::alloc::Global;
 use style_value::{Custom, Style, StyleDraft};
 use stylo_base::{Fixed, NoMemory};
 
 /// The style of an element, from the declarations of the rules that match it, those of its `style`
 /// attribute, and the style of its parent (css-cascade-5, sections 6 and 7): the custom properties
-/// first, then for each property what its declarations come to over their values, computed over the
-/// parent's value, and then the adjustments. At the root `parent` is the style of all initial values.
-/// `root_size` is the root's font size in pixels, which nothing asks for until there are lengths.
+/// first, then the font size, then for each other property what its declarations come to over their
+/// values, computed over the parent's value, and then the adjustments. At the root `parent` is the
+/// style of all initial values. `root_size` is the root's font size; at the root it is the initial
+/// one, and `rem` is of the root's own in all properties but `font-size`.
 pub fn cascade(
     alloc: Global,
     matched: &[Matched<'_>],
     attached: &[Matched<'_>],
     parent: &Style,
-    _root_size: Fixed,
+    root_size: Fixed,
     is_root: bool,
 ) -> Result<Style, NoMemory>
-    ensures { IfOk result (λ style. style ≡ cascaded is_root parent.now
-        (map matched_of (matched.now ++ attached.now))) }
+    ensures { IfOk result (λ style. style ≡ cascaded is_root parent.now root_size
+        (flat_map matched_of (matched.now ++ attached.now))) }
 {
-    let mut draft = drafted(alloc, matched, attached, parent)?;
-    if is_root {
-        draft.blockify();
-    }
+    let applied = Applied::of(matched, attached);
+    let mut draft = drafted(alloc, &applied, parent, root_size, is_root)?;
+    draft.adjust(is_root);
     draft.finish(alloc)
 }
 
 /// The style before the adjustments.
-fn drafted<'a>(
+fn drafted(
     alloc: Global,
-    matched: &'a [Matched<'a>],
-    attached: &'a [Matched<'a>],
+    applied: &Applied<'_>,
     parent: &Style,
+    root_size: Fixed,
+    is_root: bool,
 ) -> Result<StyleDraft, NoMemory>
-    ensures { let ds = map matched_of (matched.now ++ attached.now) in
-        let custom = custom_values parent.now.custom ds in
+    ensures { let custom = custom_values parent.now.custom applied.now in
         IfOk result (λ draft. draft ≡ record {
-          values = values_from (finmap.get custom) ds 0 table parent.now.values;
+          values = values_over (finmap.get custom) is_root parent.now.values root_size applied.now;
           custom = custom;
         }) }
 {
-    let winners = Winners::among(matched, attached);
-    let Some(custom) = custom_of(alloc, &winners, matched, attached, parent)? else {
-        return values(
-            alloc,
-            &winners,
-            matched,
-            attached,
-            parent,
-            parent.custom().map(),
-        );
+    let Some(custom) = custom_of(alloc, applied, parent)? else {
+        let inherited = parent.custom().map();
+        return values(alloc, applied, parent, inherited, root_size, is_root);
     };
-    let mut draft = values(alloc, &winners, matched, attached, parent, custom.map())?;
+    let mut draft = values(alloc, applied, parent, custom.map(), root_size, is_root)?;
     draft.set_custom(custom);
     Ok(draft)
 }
 
 /// The custom properties. None: they are the parent's.
-fn custom_of<'a>(
+fn custom_of(
     alloc: Global,
-    winners: &Winners<'a>,
-    matched: &'a [Matched<'a>],
-    attached: &'a [Matched<'a>],
+    applied: &Applied<'_>,
     parent: &Style,
 ) -> Result<Option<Custom>, NoMemory>
-    requires { winners.now ≡ winners_of (map matched_of (matched.now ++ attached.now)) }
     ensures { IfOk result (λ custom. unwrap_or custom parent.now.custom
-        ≡ custom_values parent.now.custom (map matched_of (matched.now ++ attached.now))) }
+        ≡ custom_values parent.now.custom applied.now) }
 {
-    if winners.have_custom() {
-        changed_custom(alloc, matched, attached, parent.custom())
+    if applied.have_custom() {
+        changed_custom(alloc, applied.matched, applied.attached, parent.custom())
     } else {
         Ok(None)
     }
@@ -98,58 +85,68 @@ fn custom_of<'a>(
 
 /// The values of the properties over those of the custom ones, and the custom properties of the
 /// parent.
-fn values<'a>(
+fn values(
     alloc: Global,
-    winners: &Winners<'a>,
-    matched: &'a [Matched<'a>],
-    attached: &'a [Matched<'a>],
+    applied: &Applied<'_>,
     parent: &Style,
     custom: &CustomMap,
+    root_size: Fixed,
+    is_root: bool,
 ) -> Result<StyleDraft, NoMemory>
-    requires { winners.now ≡ winners_of (map matched_of (matched.now ++ attached.now)) }
-    ensures { let ds = map matched_of (matched.now ++ attached.now) in
-        IfOk result (λ draft. draft ≡ record {
-          values = values_from (finmap.get custom.now) ds 0 table parent.now.values;
-          custom = parent.now.custom;
-        }) }
+    ensures { IfOk result (λ draft. draft ≡ record {
+      values = values_over (finmap.get custom.now) is_root parent.now.values root_size applied.now;
+      custom = parent.now.custom;
+    }) }
 {
-    let longhands = Longhands { custom };
+    let mut longhands = Longhands::over(custom, PropId::FontSize);
+    let own = size_of(alloc, applied, parent, &mut longhands, root_size)?;
+    let sizes = Sizes {
+        element: own,
+        root: if is_root { own } else { root_size },
+    };
     let mut draft = StyleDraft::inheriting(alloc, parent)?;
-    for row in Row::all() {
-        let ending = match winners.ending(alloc, row.id, &longhands)? {
-            Some(ending) => ending,
-            None => rolled_back(alloc, matched, attached, row.id, &longhands)?,
-        };
-        if let Some(value) = value_at(row, ending, parent) {
-            draft.set(row.id, value);
-        }
+    draft.set(PropId::FontSize, Value::Pixels(own));
+    let mut rest = applied.declared() & !(1 << PropId::FontSize.row());
+    while rest != 0 {
+        let row = &Row::all()[rest.trailing_zeros() as usize];
+        let id = row.id;
+        rest &= !(1 << id.row());
+        longhands.read_as(id);
+        let ending = applied.ending(alloc, &mut longhands)?;
+        draft.set(id, value_at(row, over(parent, id), &sizes, ending));
     }
     Ok(draft)
 }
 
-/// The value of a property, over the parent's. None: it is as if `unset`.
-fn value_at(row: &Row, ending: Ending<Value>, parent: &Style) -> Option<Value>
-    ensures sets { let property = property_of row.now.id in
-        IfSome result (λ value. IfSome (slice_get parent.now.values property) (λ parents. value_of value
-        ≡ value_at property (row_seen row.now) parents (ending_seen value_of ending))) }
-    ensures unset { result ≡ None → ending_seen value_of ending ≡ unsets }
+/// The font size.
+fn size_of<'a>(
+    alloc: Global,
+    applied: &Applied<'a>,
+    parent: &Style,
+    longhands: &mut Longhands<'a, '_>,
+    root_size: Fixed,
+) -> Result<Fixed, NoMemory>
+    requires { longhands.old.property ≡ font_size_property }
+    ensures same { longhands.new ≡ longhands.old }
+    ensures size { IfOk result (λ size. size
+        ≡ own_size (finmap.get longhands.old.custom) parent.now.values root_size applied.now) }
+    ensures all { length parent.now.values ≡ length table }
 {
-    match ending {
-        Ending::Inherits => Some(parent.value(row.id)),
-        Ending::Initially => Some(row.initial),
-        Ending::Unsets => None,
-        Ending::EndsAt(value) => Some(computed_of(row.id, value, parent)),
-    }
+    let over = over(parent, PropId::FontSize);
+    let ending = applied.ending(alloc, longhands)?;
+    Ok(own_size(over.size, over.weight, root_size, ending))
 }
 
-/// What a value is computed to. In `color` the keyword `currentcolor` acts as
-/// `inherit` (css-color-4, section 9).
-fn computed_of(id: PropId, value: Value, parent: &Style) -> Value
-    ensures { let property = property_of id in IfSome (slice_get parent.now.values property)
-        (λ parents. value_of result ≡ computed property parents (value_of value)) }
+/// What the value of a property is computed over.
+fn over(parent: &Style, id: PropId) -> Over
+    ensures value { slice_get parent.now.values (property_of id) ≡ Some (value_of result.value) }
+    ensures size { result.size ≡ font_size_of parent.now.values }
+    ensures all { length parent.now.values ≡ length table }
+    ensures weight { result.weight ≡ font_weight_of parent.now.values }
 {
-    match (id, value) {
-        (PropId::Color, Value::Keyword(Keyword::CurrentColor)) => parent.value(id),
-        _ => value,
+    Over {
+        value: parent.value(id),
+        size: parent.font_size(),
+        weight: parent.font_weight(),
     }
 }

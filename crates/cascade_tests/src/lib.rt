@@ -1,4 +1,4 @@
-//! Tests of the public calls from the table of properties and the layers up to the cascade, and of the printed lines.
+//! Tests of the public calls from the layers up to the cascade, and of the printed lines.
 #![tactic(auto)]
 
 #[cfg(test)]
@@ -8,8 +8,4 @@ mod layers;
 #[cfg(test)]
 mod lines;
 #[cfg(test)]
-mod properties;
-#[cfg(test)]
 mod styles;
-#[cfg(test)]
-mod values;

@@ -1,19 +1,11 @@
 //! The printed lines.
 
-use property_table::{Keyword, PropId, Value};
-use report_text::{batch_line, element_line, push_element_line};
+use property_table::{Color, Keyword, PropId, Value};
+use report_text::{batch_line, element_line};
 use std::alloc::Global;
 use std::test::Fail;
 use style_value::{Style, StyleDraft};
-use stylo_base::{NoMemory, Text};
-
-// a style that has no box, and clears both sides
-fn cleared(alloc: Global) -> Result<Style, NoMemory> {
-    let mut draft = StyleDraft::inheriting(alloc, &Style::initial(alloc)?)?;
-    draft.set(PropId::Clear, Value::Keyword(Keyword::Both));
-    draft.set(PropId::Display, Value::Keyword(Keyword::None));
-    draft.finish(alloc)
-}
+use stylo_base::{Fixed, NoMemory, Text};
 
 #[test]
 fn batch(rt: HostRuntime) -> Result<(), Fail> {
@@ -25,23 +17,46 @@ fn batch(rt: HostRuntime) -> Result<(), Fail> {
     Ok(())
 }
 
+// a style that has no box, and a negative margin
+fn boxless(alloc: Global) -> Result<Style, NoMemory> {
+    let mut draft = StyleDraft::inheriting(alloc, &Style::initial(alloc)?)?;
+    draft.set(PropId::MarginTop, Value::Pixels(Fixed::clamp(-1_500)));
+    draft.set(PropId::Display, Value::Keyword(Keyword::None));
+    draft.adjust(false);
+    draft.finish(alloc)
+}
+
+fn boxless_line(alloc: Global) -> Result<Text, NoMemory> {
+    let style = boxless(alloc)?;
+    element_line(alloc, u32::MAX, "é→😀", &style)
+}
+
 #[test]
 fn element(rt: HostRuntime) -> Result<(), Fail> {
-    let line = element_line(rt.alloc(), u32::MAX, "é→😀", &cleared(rt.alloc())?)?;
+    let line = boxless_line(rt.alloc())?;
     assert_eq!(rt;
         line.as_str(),
-        "4294967295 é→😀{display: none; clear: both}\n"
+        "4294967295 é→😀{display: none; margin-top: -1.5px}\n"
     );
     Ok(())
 }
 
+const HALF_LIME: Value = Value::Color(Color {
+    red: 0,
+    green: 255,
+    blue: 0,
+    alpha: 128,
+});
+
+fn printed(alloc: Global, value: Value) -> Result<Text, NoMemory> {
+    let mut text = Text::new(alloc);
+    value.write(&mut text)?;
+    Ok(text)
+}
+
 #[test]
-fn appended(rt: HostRuntime) -> Result<(), Fail> {
-    let style = cleared(rt.alloc())?;
-    let mut text = Text::of_str(rt.alloc(), "batch")?;
-    text.clear();
-    push_element_line(&mut text, 1, "a", &style)?;
-    push_element_line(&mut text, 2, "b", &Style::initial(rt.alloc())?)?;
-    assert_eq!(rt; text.as_str(), "1 a{display: none; clear: both}\n2 b{}\n");
+fn color(rt: HostRuntime) -> Result<(), Fail> {
+    let text = printed(rt.alloc(), HALF_LIME)?;
+    assert_eq!(rt; text.as_str(), "#00ff0080");
     Ok(())
 }

@@ -4,20 +4,6 @@ use io_edges::{Failed, MemorySink, MemorySource, Sink, SinkRefused, Source, StdS
 use std::io;
 use std::io::{Read, Write};
 use std::test::Fail;
-use stylo_base::NoMemory;
-
-#[test]
-fn memory_source(rt: HostRuntime) -> Result<(), Fail> {
-    let mut source = MemorySource::whole(rt.alloc(), b"hello", &[])?;
-    let mut buffer = [0u8; 4];
-    let counts = (
-        source.read(&mut buffer),
-        source.read(&mut buffer),
-        source.read(&mut buffer),
-    );
-    assert_eq!(rt; (counts, buffer), ((Ok(4), Ok(1), Ok(0)), *b"oell"));
-    Ok(())
-}
 
 /// After a fault the same bytes are still to come.
 #[test]
@@ -33,17 +19,6 @@ fn memory_source_fails(rt: HostRuntime) -> Result<(), Fail> {
     Ok(())
 }
 
-#[test]
-fn memory_sink(rt: HostRuntime) -> Result<(), Fail> {
-    let mut sink = MemorySink::whole(rt.alloc(), &[])?;
-    let counts = (sink.write(b"ab"), sink.write(b""), sink.write(b"e"));
-    assert_eq!(rt;
-        (counts, sink.held()),
-        ((Ok(2), Ok(0), Ok(1)), b"abe".as_slice())
-    );
-    Ok(())
-}
-
 /// A write that fails leaves nothing in the sink.
 #[test]
 fn memory_sink_fails(rt: HostRuntime) -> Result<(), Fail> {
@@ -55,11 +30,6 @@ fn memory_sink_fails(rt: HostRuntime) -> Result<(), Fail> {
         ((Ok(2), failed, failed), b"ab".as_slice())
     );
     Ok(())
-}
-
-#[test]
-fn out_of_memory(rt: HostRuntime) {
-    assert_eq!(rt; SinkRefused::from(NoMemory), SinkRefused::NoMemory);
 }
 
 #[test]
@@ -84,15 +54,6 @@ fn std_sink(rt: HostRuntime) -> Result<(), Fail> {
         (counts, held.as_slice()),
         ((Ok(2), Ok(0), Ok(())), b"ab".as_slice())
     );
-    Ok(())
-}
-
-#[test]
-fn std_sink_with_little_room(rt: HostRuntime) -> Result<(), Fail> {
-    let mut room = [0u8; 1];
-    let mut sink = StdSink::new(rt.alloc(), room.as_mut_slice())?;
-    let answers = (sink.write(b"ab"), sink.finish());
-    assert_eq!(rt; answers, (Ok(2), Err(Failed)));
     Ok(())
 }
 

@@ -8,10 +8,4 @@ mod ends;
 #[cfg(test)]
 mod jobs;
 #[cfg(test)]
-mod limits;
-#[cfg(test)]
-mod names;
-#[cfg(test)]
-mod numbers;
-#[cfg(test)]
 mod texts;

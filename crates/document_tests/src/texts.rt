@@ -1,77 +1,75 @@
-//! Texts, pointers, and words.
+//! Texts, names and numbers.
 
+use std::alloc::Global;
 use std::test::Fail;
-use stylo_base::{EditRefused, Kind, NoMemory, PathText, State, Text, eq_ascii_case};
+use stylo_base::{Atom, Fixed, Names, NoMemory, Text};
 
-#[test]
-fn pushes(rt: HostRuntime) -> Result<(), Fail> {
-    let mut text = Text::new(rt.alloc());
-    text.push_str("batch ")?;
+/// A text that grew by a piece of each kind.
+fn grown(alloc: Global) -> Result<Text, NoMemory> {
+    let mut text = Text::of_str(alloc, "batch")?;
+    text.push_char(' ')?;
     text.push_number(12)?;
-    assert_eq!(rt; (text.as_str(), text.byte_len()), ("batch 12", 8));
-    Ok(())
+    text.push_str(" \u{e9}")?;
+    Ok(text)
 }
 
 #[test]
-fn appends_a_text(rt: HostRuntime) -> Result<(), Fail> {
-    let mut text = Text::of_str(rt.alloc(), "12")?;
-    let tail = Text::of_str(rt.alloc(), " \u{e9}")?;
-    text.push_text(&tail)?;
-    assert_eq!(rt; (text.as_str(), text.byte_len()), ("12 \u{e9}", 5));
+fn grows(rt: HostRuntime) -> Result<(), Fail> {
+    let text = grown(rt.alloc())?;
+    assert_eq!(rt; text.as_str(), "batch 12 \u{e9}");
     Ok(())
+}
+
+/// A copy of a text, with the text behind it.
+fn doubled(alloc: Global) -> Result<Text, NoMemory> {
+    let text = Text::of_str(alloc, "\u{e9}1")?;
+    let mut copy = text.copy(alloc)?;
+    copy.push_text(&text)?;
+    Ok(copy)
 }
 
 #[test]
 fn copies(rt: HostRuntime) -> Result<(), Fail> {
-    let text = Text::of_str(rt.alloc(), "\u{e9}")?;
-    let copy = text.copy(rt.alloc())?;
-    assert!(rt; copy.is_same(&text));
+    let text = doubled(rt.alloc())?;
+    assert_eq!(rt; text.as_str(), "\u{e9}1\u{e9}1");
     Ok(())
 }
 
+fn copy_of_an_atom(alloc: Global) -> Result<Atom, NoMemory> {
+    let atom = Atom::of_text(Text::of_str(alloc, "div")?);
+    atom.copy(alloc)
+}
+
 #[test]
-fn compares(rt: HostRuntime) -> Result<(), Fail> {
-    let text = Text::of_str(rt.alloc(), "\u{e9}")?;
-    assert_eq!(rt; (text.is_str("\u{e9}"), text.is_str("e")), (true, false));
+fn atoms(rt: HostRuntime) -> Result<(), Fail> {
+    let atom = copy_of_an_atom(rt.alloc())?;
+    assert_eq!(rt; atom.as_str(), "div");
     Ok(())
 }
 
-#[test]
-fn pointer_of_a_text(rt: HostRuntime) -> Result<(), Fail> {
-    let text = Text::of_string(String::from_str(rt.alloc(), "/nodes/3")?);
-    let path = PathText::of_text(text);
-    assert_eq!(rt; path.as_str(), "/nodes/3");
-    Ok(())
+/// Names of two texts.
+fn two_names(alloc: Global) -> Result<Names, NoMemory> {
+    let mut names = Names::new(alloc);
+    names.intern("div")?;
+    names.intern("Div")?;
+    names.copy(alloc)
 }
 
 #[test]
-fn empty_pointer(rt: HostRuntime) {
-    let path = PathText::empty(rt.alloc());
-    assert_eq!(rt; path.as_str(), "");
-}
-
-#[test]
-fn words(rt: HostRuntime) {
-    let words = (Kind::Numbers.name(), Kind::Text.name());
-    assert_eq!(rt; words, ("numbers", "text"));
-}
-
-#[test]
-fn out_of_memory(rt: HostRuntime) {
-    assert_eq!(rt; EditRefused::from(NoMemory), EditRefused::NoMemory);
-}
-
-#[test]
-fn states_differ(rt: HostRuntime) {
-    assert!(rt; State::Hover != State::Focus);
-}
-
-#[test]
-fn ignores_ascii_case(rt: HostRuntime) {
-    let same = (
-        eq_ascii_case("RGB(\u{c9})", "rgb(\u{c9})"),
-        eq_ascii_case("\u{c9}", "\u{e9}"),
-        eq_ascii_case("rgb", "rgba"),
+fn names(rt: HostRuntime) -> Result<(), Fail> {
+    let names = two_names(rt.alloc())?;
+    let seen = (
+        names.len(),
+        names.find("Div").is_some(),
+        names.find("DIV").is_some(),
     );
-    assert_eq!(rt; same, (true, false, false));
+    assert_eq!(rt; seen, (2, true, false));
+    Ok(())
+}
+
+#[test]
+fn numbers(rt: HostRuntime) -> Result<(), Fail> {
+    let text = Fixed::clamp(-37_050).write(rt.alloc())?;
+    assert_eq!(rt; text.as_str(), "-37.05");
+    Ok(())
 }

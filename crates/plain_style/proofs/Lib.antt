@@ -1,3 +1,5 @@
 pub mod Walk
 pub mod Places
 pub mod MatchLemmas
+pub mod AppliedLemmas
+pub mod RootLemmas

@@ -1,5 +1,5 @@
 -- The style of an element over the one that is known of its parent.
-use Rattle.std.proofs.Common.{◌≡◌, ℕ, ◌+◌, ◌<◌, ◌==◌, ◌||◌, Bool, true, false, List, [], ◌∷◌, ◌++◌, map, length, take, drop, get_or, Option, Some, None, Result, Ok, Err, IfOk, refl, sym, ap, ◌∙◌, take-append-drop, add-one}
+use Rattle.std.proofs.Common.{◌≡◌, ℕ, ℤ, ◌+◌, ◌<◌, ◌==◌, ◌||◌, Bool, true, false, List, [], ◌∷◌, ◌++◌, map, length, take, drop, get_or, Option, Some, None, Result, Ok, Err, IfOk, refl, sym, ap, ◌∙◌, take-append-drop, add-one}
 use Rattle.std.proofs.lemmas.List.{map-append}
 use Rattle.std.proofs.Math.Seq.{drop-cons, take-suc}
 use Rattle.scene_model.specs.Element.{Element}
@@ -8,26 +8,27 @@ use Rattle.scene_model.specs.Valid.{IsValid}
 use Rattle.scene_model.proofs.Numbers.{is_in, same_number}
 use Rattle.scene_model.proofs.Found.{is_element-numbers}
 use Rattle.scene_model.proofs.ParentBefore.{parent_before}
-use Rattle.value_model.specs.Style.{Style, initial_style}
+use Rattle.value_model.specs.Style.{Style, initial_size, initial_style}
 use Rattle.cascade_model.specs.Key.{Matched}
 use Rattle.sheet_model.specs.Sources.{Sources}
-use Rattle.std.specs.Prelude.{codes}
+use Rattle.std.specs.Prelude.{codes, flat_map}
+use Rattle.std.proofs.lemmas.Grind.{flat_map-append}
 use Rattle.std.specs.Option.{option_map_or}
 use Rattle.base_model.specs.Text.{Characters}
 use Rattle.sheet_model.specs.Declared.{Declared, style_declared}
 use Rattle.cascade_model.specs.Matching.{matching, matching_rules, matching_style, all_attached}
 use Rattle.cascade_model.specs.Cascade.{cascaded}
-use Rattle.cascade_model.specs.StyleOf.{style_of}
+use Rattle.cascade_model.specs.StyleOf.{root_size_of, style_of}
 use Rattle.cascade_model.proofs.StyleAlong.{style_of-child, style_of-root}
 
 -- what applies is what the rules and the attribute give
-pub all_matching : {A : Type 0} (value : A → Matched) (items attached : List A) (doc : List Element) (sources : Sources) (x : ℕ) → map value items ≡ matching_rules doc sources x → map value attached ≡ matching_style doc sources x → map value (items ++ attached) ≡ matching doc sources x
+pub all_matching : {A : Type 0} (value : A → List Matched) (items attached : List A) (doc : List Element) (sources : Sources) (x : ℕ) → flat_map value items ≡ matching_rules doc sources x → flat_map value attached ≡ matching_style doc sources x → flat_map value (items ++ attached) ≡ matching doc sources x
 all_matching value items attached doc sources x rules style =
-    map-append value items attached
-    ∙ (ap (λ l. l ++ map value attached) rules ∙ ap (λ l. matching_rules doc sources x ++ l) style)
+    flat_map-append value items attached
+    ∙ (ap (λ l. l ++ flat_map value attached) rules ∙ ap (λ l. matching_rules doc sources x ++ l) style)
 
 -- the declarations of the attribute
-pub style_matching : {A D : Type 0} (value : A → Matched) (seen : D → Declared) (declared : List D) (attached : List A) (doc : List Element) (sources : Sources) (x : ℕ) → map seen declared ≡ option_map_or style_declared (attribute_of doc x (codes "style")) [] → map value attached ≡ all_attached sources.layers 0 (map seen declared) → map value attached ≡ matching_style doc sources x
+pub style_matching : {A D : Type 0} (value : A → List Matched) (seen : D → List Declared) (declared : List D) (attached : List A) (doc : List Element) (sources : Sources) (x : ℕ) → flat_map seen declared ≡ option_map_or style_declared (attribute_of doc x (codes "style")) [] → flat_map value attached ≡ all_attached sources.layers 0 (flat_map seen declared) → flat_map value attached ≡ matching_style doc sources x
 unfolding matching_style
 style_matching value seen declared attached doc sources x read are =
     are ∙ (ap (all_attached sources.layers 0) read ∙ by_text (attribute_of doc x (codes "style")))
@@ -36,19 +37,25 @@ style_matching value seen declared attached doc sources x read are =
     by_text None = refl
     by_text (Some text) = refl
 
-pub over_none : {E : Type 0} (applied : List Matched) (doc : List Element) (sources : Sources) (x : ℕ) (first : Style) (result : Result Style E) → IsValid doc → parent_of doc x ≡ None → first ≡ initial_style → applied ≡ matching doc sources x → IfOk result (λ style. style ≡ cascaded true first applied) → IfOk result (λ style. style ≡ style_of doc sources x)
-over_none applied doc sources x first (Err e) valid none initial matched made = tt
-over_none applied doc sources x first (Ok style) valid none initial matched made =
+-- an element without a parent is styled over all initial values, and each other one over its parent
+pub over_none : {E : Type 0} (doc : List Element) (sources : Sources) (x : ℕ) (first : Style) (size : ℤ) (result : Result Style E) → IsValid doc → parent_of doc x ≡ None → first ≡ initial_style → size ≡ initial_size → IfOk result (λ style. style ≡ cascaded true first size (matching doc sources x)) → IfOk result (λ style. style ≡ style_of doc sources x)
+over_none doc sources x first size (Err e) valid none initial initially made = tt
+over_none doc sources x first size (Ok style) valid none initial initially made =
     made
-    ∙ (ap (λ s. cascaded true s applied) initial
-    ∙ (ap (cascaded true initial_style) matched ∙ sym (style_of-root doc sources valid x none)))
+    ∙ (ap (λ s. cascaded true s size (matching doc sources x)) initial
+    ∙ (ap (λ z. cascaded true initial_style z (matching doc sources x)) initially ∙ sym (style_of-root doc sources valid x none)))
 
-pub over_parent : {E : Type 0} (applied : List Matched) (doc : List Element) (sources : Sources) (x p : ℕ) (over : Style) (result : Result Style E) → IsValid doc → parent_of doc x ≡ Some p → over ≡ style_of doc sources p → applied ≡ matching doc sources x → IfOk result (λ style. style ≡ cascaded false over applied) → IfOk result (λ style. style ≡ style_of doc sources x)
-over_parent applied doc sources x p over (Err e) valid parent is matched made = tt
-over_parent applied doc sources x p over (Ok style) valid parent is matched made =
+pub over_parent : {E : Type 0} (doc : List Element) (sources : Sources) (x p : ℕ) (over : Style) (size : ℤ) (result : Result Style E) → IsValid doc → parent_of doc x ≡ Some p → over ≡ style_of doc sources p → size ≡ root_size_of doc sources → IfOk result (λ style. style ≡ cascaded false over size (matching doc sources x)) → IfOk result (λ style. style ≡ style_of doc sources x)
+over_parent doc sources x p over size (Err e) valid parent is root made = tt
+over_parent doc sources x p over size (Ok style) valid parent is root made =
     made
-    ∙ (ap (λ s. cascaded false s applied) is
-    ∙ (ap (cascaded false (style_of doc sources p)) matched ∙ sym (style_of-child doc sources valid x p parent)))
+    ∙ (ap (λ s. cascaded false s size (matching doc sources x)) is
+    ∙ (ap (λ z. cascaded false (style_of doc sources p) z (matching doc sources x)) root ∙ sym (style_of-child doc sources valid x p parent)))
+
+-- the style by what applies
+pub styled_by : {E : Type 0} (applied : List Matched) (doc : List Element) (sources : Sources) (x : ℕ) (is_root : Bool) (over : Style) (size : ℤ) (result : Result Style E) → applied ≡ matching doc sources x → IfOk result (λ style. style ≡ cascaded is_root over size applied) → IfOk result (λ style. style ≡ cascaded is_root over size (matching doc sources x))
+styled_by applied doc sources x is_root over size (Err e) is made = tt
+styled_by applied doc sources x is_root over size (Ok style) is made = made ∙ ap (cascaded is_root over size) is
 
 -- the numbers in tree order, around the k-th
 split_order : (doc : List Element) (order : List ℕ) (k : ℕ) → order ≡ numbers doc → k < length order → numbers doc ≡ take k order ++ get_or order k 0 ∷ drop (k + 1) order

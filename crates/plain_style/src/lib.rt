@@ -1,8 +1,11 @@
 //! The style of every element, computed from nothing, from the root down.
 #![tactic(auto)]
 
+mod inputs;
 mod matching;
+mod root_size;
 mod style_attribute;
+mod styled;
 mod styles;
 
 pub use matching::match_rules;

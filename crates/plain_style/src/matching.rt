@@ -1,13 +1,13 @@
 //! The declarations that apply to an element.
 
-ghost use Rattle.std.specs.Prelude.{◌≡◌, ◌++◌, [], None, IfOk, OnOk, map};
+ghost use Rattle.std.specs.Prelude.{◌≡◌, ◌++◌, [], None, IfOk, OnOk, flat_map, map};
 ghost use Rattle.scene_model.specs.Lookups.{IsElement};
 ghost use Rattle.selector_model.specs.Holds.{holds};
 ghost use Rattle.cascade_model.specs.Matching.{all_matched, greatest_by, matching_rules};
 ghost use Rattle.cascade_core.specs.View.{matched_of};
 ghost use Rattle.selector_types.specs.View.{selector_of};
 ghost use Rattle.layer_model.specs.Order.{Layers};
-ghost use Rattle.value_parser.specs.View.{declared_of};
+ghost use Rattle.shorthands.specs.View.{declared_of};
 ghost use Rattle.sheet_set.specs.Ranks.{rank_seen};
 ghost use Rattle.sheet_set.specs.View.{rule_of, sources_seen};
 
@@ -19,7 +19,8 @@ use sheet_set::{SheetRule, Sheets};
 use std::alloc::Global;
 use stylo_base::NoMemory;
 
-/// The declarations of all rules with a selector that holds at `x`, in the order of the rules.
+/// The declarations of all rules with a selector that holds at `x`, in the order of the rules. One of a
+/// shorthand stands for those of its properties.
 pub fn match_rules<'a>(
     alloc: Global,
     doc: &Doc,
@@ -28,7 +29,7 @@ pub fn match_rules<'a>(
 ) -> Result<Vec<Matched<'a>>, NoMemory>
     requires { IsElement doc.now.elements x }
     ensures { IfOk result (λ list.
-        map matched_of list.items ≡ matching_rules doc.now.elements (sources_seen sheets.now) x) }
+        flat_map matched_of list.items ≡ matching_rules doc.now.elements (sources_seen sheets.now) x) }
 {
     let mut list = Vec::new(alloc);
     match_into(&mut list, doc, sheets, x)?;
@@ -44,7 +45,7 @@ pub(crate) fn match_into<'a>(
     x: u32,
 ) -> Result<(), NoMemory>
     requires { IsElement doc.now.elements x }
-    ensures { OnOk result (map matched_of list.new.items
+    ensures { OnOk result (flat_map matched_of list.new.items
         ≡ matching_rules doc.now.elements (sources_seen sheets.now) x) }
 {
     list.clear();
@@ -88,9 +89,9 @@ fn add_declarations<'a>(
     specificity: Specificity,
 ) -> Result<(), NoMemory>
     ensures { (layers : Layers) → rank ≡ rank_seen layers rule.now
-        → OnOk result (map matched_of list.new.items ≡ map matched_of list.old.items
+        → OnOk result (flat_map matched_of list.new.items ≡ flat_map matched_of list.old.items
         ++ all_matched layers (rule_of rule.now []) specificity rule.now.first_index
-        (map declared_of rule.now.declarations.items)) }
+        (flat_map declared_of rule.now.declarations.items)) }
 {
     let mut index = rule.first_index();
     for declared in rule.declarations() {
@@ -105,7 +106,7 @@ fn add_declarations<'a>(
             index,
         };
         list.extend_from_slice(&[one])?;
-        index += 1;
+        index += declared.count();
     }
     Ok(())
 }

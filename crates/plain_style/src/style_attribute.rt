@@ -1,12 +1,12 @@
 //! The declarations of `style` attributes.
 
-ghost use Rattle.std.specs.Prelude.{◌≡◌, [], IfOk, map};
+ghost use Rattle.std.specs.Prelude.{◌≡◌, [], IfOk, flat_map};
 ghost use Rattle.std.specs.Option.{option_map_or};
 ghost use Rattle.scene_model.specs.Lookups.{IsElement, attribute_of};
 ghost use Rattle.sheet_model.specs.Declared.{style_declared};
 ghost use Rattle.cascade_model.specs.Matching.{all_attached};
 ghost use Rattle.cascade_core.specs.View.{matched_of};
-ghost use Rattle.value_parser.specs.View.{declared_of};
+ghost use Rattle.shorthands.specs.View.{declared_of};
 
 use cascade_core::Matched;
 use dom_tree::Doc;
@@ -23,7 +23,7 @@ pub(crate) fn declared_at(
     x: u32,
 ) -> Result<Vec<Declared>, NoMemory>
     requires { IsElement doc.now.elements x }
-    ensures { IfOk result (λ list. map declared_of list.items
+    ensures { IfOk result (λ list. flat_map declared_of list.items
         ≡ option_map_or style_declared (attribute_of doc.now.elements x name.now) []) }
 {
     match doc.attribute_atom(x, name) {
@@ -33,21 +33,21 @@ pub(crate) fn declared_at(
 }
 
 /// How declarations of a `style` attribute apply to its element (css-cascade-5, section 6.3): they are
-/// the author's, and in no layer.
+/// the author's, and in no layer. No memory holds 2^64 of them, which a few shorthands might stand for.
 pub(crate) fn attach<'a>(
     alloc: Global,
     layers: &Layers,
     list: &'a [Declared],
 ) -> Result<Vec<Matched<'a>>, NoMemory>
-    ensures { IfOk result (λ attached. map matched_of attached.items
-        ≡ all_attached layers.now 0 (map declared_of list.now)) }
+    ensures { IfOk result (λ attached. flat_map matched_of attached.items
+        ≡ all_attached layers.now 0 (flat_map declared_of list.now)) }
 {
     let mut attached = Vec::new(alloc);
     if list.is_empty() {
         return Ok(attached);
     }
     let rank = layers.rank(Origin::Author, &LayerName::none());
-    let mut index = 0;
+    let mut index: u64 = 0;
     for declared in list {
         let one = Matched {
             declared,
@@ -60,7 +60,10 @@ pub(crate) fn attach<'a>(
             index,
         };
         attached.extend_from_slice(&[one])?;
-        index += 1;
+        let Some(next) = index.checked_add(declared.count()) else {
+            return Err(NoMemory);
+        };
+        index = next;
     }
     Ok(attached)
 }

@@ -1,12 +1,13 @@
 -- A value is known by what it stands for.
 use Rattle.std.proofs.Common.{◌≡◌, ap}
 use Rattle.std.specs.Bool.{Decides}
+use Rattle.std.proofs.lemmas.Bool.Decides.{Decides-int_eq}
 use Rattle.std.proofs.lemmas.Slice.Eq.{bytes_eq-Decides}
 use denote.Enum.Bare.{same_true, true_same}
 use Rattle.value_model.specs.Value as model
 use Rattle.property_table.specs.View.{value_of}
 use Rattle.property_table.specs.declared.value.Value.{Value}
-use Rattle.property_table.specs.declared.value.Value.TheVariants.{Keyword, Color}
+use Rattle.property_table.specs.declared.value.Value.TheVariants.{Keyword, Color, Pixels, Percent, Number, Em, Rem}
 use Rattle.property_table.specs.contracts.keyword.Keyword.{the_type}
 use Rattle.property_table.specs.contracts.value.ValuePartialEq.TheImpl.{ghosts}
 use Rattle.property_table.proofs.ColorLemmas.{same_color-Decides, color_of-same, color_eq-Decides}
@@ -18,15 +19,28 @@ same_value-Decides (model.keyword a) (model.keyword b) =
     let same = bytes_eq-Decides a b in (λ e. ap model.keyword (same.0 e), λ e. same.1 cc)
 same_value-Decides (model.color a) (model.color b) =
     let same = same_color-Decides a b in (λ e. ap model.color (same.0 e), λ e. same.1 cc)
-same_value-Decides (model.keyword a) (model.color b) = (λ e. cc, λ e. cc)
-same_value-Decides (model.color a) (model.keyword b) = (λ e. cc, λ e. cc)
+same_value-Decides (model.pixels a) (model.pixels b) =
+    let same = Decides-int_eq a b in (λ e. ap model.pixels (same.0 e), λ e. same.1 cc)
+same_value-Decides (model.percent a) (model.percent b) =
+    let same = Decides-int_eq a b in (λ e. ap model.percent (same.0 e), λ e. same.1 cc)
+same_value-Decides (model.number a) (model.number b) =
+    let same = Decides-int_eq a b in (λ e. ap model.number (same.0 e), λ e. same.1 cc)
+same_value-Decides (model.em a) (model.em b) =
+    let same = Decides-int_eq a b in (λ e. ap model.em (same.0 e), λ e. same.1 cc)
+same_value-Decides (model.rem a) (model.rem b) =
+    let same = Decides-int_eq a b in (λ e. ap model.rem (same.0 e), λ e. same.1 cc)
+same_value-Decides a b = (λ e. cc, λ e. cc)
 
 -- values that stand for one value of the model are the same
 pub value_of-same : (a b : Value) → value_of a ≡ value_of b → a ≡ b
 value_of-same (Keyword a) (Keyword b) h = ap Keyword (word_of-same a b cc)
 value_of-same (Color a) (Color b) h = ap Color (color_of-same a b cc)
-value_of-same (Keyword a) (Color b) h = cc
-value_of-same (Color a) (Keyword b) h = cc
+value_of-same (Pixels a) (Pixels b) h = cc
+value_of-same (Percent a) (Percent b) h = cc
+value_of-same (Number a) (Number b) h = cc
+value_of-same (Em a) (Em b) h = cc
+value_of-same (Rem a) (Rem b) h = cc
+value_of-same a b h = cc
 
 -- the derived `==` decides whether two values stand for one value of the model
 pub eq-Decides : (a b : Value) → Decides (ghosts.eq a b) (value_of a ≡ value_of b)
@@ -34,8 +48,17 @@ eq-Decides (Keyword a) (Keyword b) =
     (λ e. ap (λ k. value_of (Keyword k)) (same_true the_type tt a b e), λ e. true_same the_type a b (word_of-same a b cc))
 eq-Decides (Color a) (Color b) =
     let same = color_eq-Decides a b in (λ e. ap model.color (same.0 e), λ e. same.1 cc)
-eq-Decides (Keyword a) (Color b) = (λ e. cc, λ e. cc)
-eq-Decides (Color a) (Keyword b) = (λ e. cc, λ e. cc)
+eq-Decides (Pixels a) (Pixels b) =
+    let same = Decides-int_eq a b in (λ e. ap model.pixels (same.0 e), λ e. same.1 cc)
+eq-Decides (Percent a) (Percent b) =
+    let same = Decides-int_eq a b in (λ e. ap model.percent (same.0 e), λ e. same.1 cc)
+eq-Decides (Number a) (Number b) =
+    let same = Decides-int_eq a b in (λ e. ap model.number (same.0 e), λ e. same.1 cc)
+eq-Decides (Em a) (Em b) =
+    let same = Decides-int_eq a b in (λ e. ap model.em (same.0 e), λ e. same.1 cc)
+eq-Decides (Rem a) (Rem b) =
+    let same = Decides-int_eq a b in (λ e. ap model.rem (same.0 e), λ e. same.1 cc)
+eq-Decides a b = (λ e. cc, λ e. cc)
 
 -- the derived `==` decides whether two values are the same
 pub eq-Decides_same : (a b : Value) → Decides (ghosts.eq a b) (a ≡ b)

@@ -1,5 +1,8 @@
 -- What keywords, colours, values, forms, properties and rows of the code stand for.
-use Rattle.std.specs.Prelude.{ℕ, [], map, slice_index_or, slice_get, unwrap_or}
+use Rattle.std.specs.Prelude.{ℕ, List, [], filter, map, length, Bool, false, slice_index_or, slice_get, unwrap_or}
+use Rattle.std.specs.List.{range_with_len}
+use Rattle.std.specs.Option.{option_map_or}
+use Rattle.base_model.specs.Thousandths.{clamped}
 use Rattle.std.specs.Str.{chars}
 use Rattle.base_model.specs.Text.{Characters}
 use Rattle.value_model.specs.Color as color_model
@@ -13,7 +16,11 @@ use Rattle.property_table.specs.declared.color.Color.{Color}
 use Rattle.property_table.specs.declared.value.Value.{Value}
 use Rattle.property_table.specs.declared.value.Value.TheVariants as value
 use Rattle.property_table.specs.declared.value_form.ValueForm.{ValueForm}
-use Rattle.property_table.specs.declared.value_form.ValueForm.TheVariants.{Word, AnyColor}
+use Rattle.property_table.specs.declared.value_form.ValueForm.TheVariants.{Word, Named, AnyColor, Length, Percentage, Number}
+use Rattle.property_table.specs.declared.value_form.Rule.{Rule}
+use Rattle.property_table.specs.declared.value_form.Rule.TheVariants as rule
+use Rattle.property_table.specs.declared.constant.Constant.{Constant}
+use Rattle.property_table.specs.declared.constant.Constant.TheVariants as constant
 use Rattle.property_table.specs.declared.property.PropId.{PropId}
 use Rattle.property_table.specs.contracts.property.PropId.{the_type as property_type}
 use Rattle.property_table.specs.declared.property.Row.{Row}
@@ -28,10 +35,32 @@ color_of c = record { red = c.red; green = c.green; blue = c.blue; alpha = c.alp
 abbrev pub value_of : Value → value_model.Value
 value_of (value.Keyword word) = value_model.keyword (word_of word)
 value_of (value.Color color) = value_model.color (color_of color)
+value_of (value.Pixels z) = value_model.pixels z
+value_of (value.Percent z) = value_model.percent z
+value_of (value.Number z) = value_model.number z
+value_of (value.Em z) = value_model.em z
+value_of (value.Rem z) = value_model.rem z
+
+abbrev pub constant_of : Constant → value_model.Value
+constant_of (constant.Keyword word) = value_model.keyword (word_of word)
+constant_of (constant.Color color) = value_model.color (color_of color)
+constant_of (constant.Pixels z) = value_model.pixels (clamped z)
+constant_of (constant.Number z) = value_model.number (clamped z)
 
 abbrev pub form_of : ValueForm → model.ValueForm
-form_of (Word word) = model.word (word_of word)
+form_of (Word word) = model.named (word_of word) (value_model.keyword (word_of word))
+form_of (Named text constant) = model.named (chars text.now) (constant_of constant)
 form_of AnyColor = model.any_color
+form_of (Length negative zero) = model.length negative zero
+form_of (Percentage negative) = model.percentage negative
+form_of (Number least most) = model.number_within least most
+
+abbrev pub rule_of : Rule → model.Rule
+rule_of rule.Plain = model.plain
+rule_of rule.Color = model.of_color
+rule_of rule.FontSize = model.of_font_size
+rule_of rule.FontWeight = model.of_font_weight
+rule_of rule.LineHeight = model.of_line_height
 
 -- its row in the table
 abbrev pub property_of : PropId → ℕ
@@ -39,14 +68,23 @@ property_of id = tag_of property_type id
 
 -- what its row says; that the table has it is a clause of `Row::of`
 abbrev pub row_of : PropId → model.Row
-row_of id = slice_index_or model.table (property_of id) model.display_row
+row_of id = slice_index_or model.table (property_of id) model.color_row
 
 -- what a row of the code says
 abbrev pub row_seen : Row → model.Row
 row_seen row = record {
   name = chars row.name.now;
   inherited = row.inherited;
-  initial = value_of row.initial;
-  standing = value_of row.standing;
+  initial = constant_of row.initial;
+  standing = constant_of row.standing;
   forms = map form_of row.forms.now;
+  rule = rule_of row.rule;
 }
+
+-- whether the property of a row of the table is inherited
+abbrev pub is_inherited : ℕ → Bool
+is_inherited property = option_map_or (λ (row : model.Row). row.inherited) (slice_get model.table property) false
+
+-- the properties that are inherited, in the order of the table
+abbrev pub inherited_properties : List ℕ
+inherited_properties = filter is_inherited (range_with_len 0 (length model.table))

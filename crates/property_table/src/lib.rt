@@ -4,13 +4,18 @@
 #![tactic(auto)]
 
 mod color;
+mod columns;
+mod constant;
 mod keyword;
+mod number;
 mod property;
+mod rows;
 mod value;
 mod value_form;
 
 pub use color::Color;
-pub use keyword::Keyword;
+pub use constant::Constant;
+pub use keyword::{KEYWORDS, Keyword};
 pub use property::{COUNT, PropId, Row, by_name, inherited, initial, name, standing};
 pub use value::Value;
-pub use value_form::ValueForm;
+pub use value_form::{Rule, ValueForm};

@@ -4,18 +4,55 @@ ghost use Rattle.std.specs.Prelude.{◌≡◌, ◌<◌, Some, length, map, optio
 ghost use Rattle.std.specs.List.{range_with_len};
 ghost use Rattle.std.specs.Str.{chars};
 ghost use Rattle.value_model.specs.Table.{property_named, table};
-ghost use Rattle.property_table.specs.View.{value_of, property_of, row_of, row_seen};
+ghost use Rattle.property_table.specs.View.{inherited_properties, value_of, property_of, row_of, row_seen};
 
-use crate::{Color, Keyword, Value, ValueForm};
+use crate::rows::ROWS;
+use crate::{Constant, Rule, Value, ValueForm};
 use stylo_base::eq_ascii_case;
 
 /// A property.
 #[derive(Clone, Copy, Debug, PartialEq, Eq)]
 pub enum PropId {
     Color,
+    Direction,
     Display,
+    Position,
+    Float,
     Clear,
     Visibility,
+    OverflowX,
+    OverflowY,
+    Width,
+    Height,
+    MinWidth,
+    MinHeight,
+    MaxWidth,
+    MaxHeight,
+    MarginTop,
+    MarginRight,
+    MarginBottom,
+    MarginLeft,
+    PaddingTop,
+    PaddingRight,
+    PaddingBottom,
+    PaddingLeft,
+    BorderTopWidth,
+    BorderRightWidth,
+    BorderBottomWidth,
+    BorderLeftWidth,
+    BorderTopStyle,
+    BorderRightStyle,
+    BorderBottomStyle,
+    BorderLeftStyle,
+    BorderTopColor,
+    BorderRightColor,
+    BorderBottomColor,
+    BorderLeftColor,
+    BackgroundColor,
+    FontSize,
+    FontWeight,
+    FontStyle,
+    LineHeight,
 }
 
 /// What is known of one property.
@@ -28,54 +65,27 @@ pub struct Row {
     /// Whether an element takes it from its parent where nothing sets it.
     pub inherited: bool,
     /// What it is where nothing sets it.
-    pub initial: Value,
+    pub initial: Constant,
     /// What is not printed.
-    pub standing: Value,
+    pub standing: Constant,
     /// What it takes.
     pub forms: &'static [ValueForm],
+    /// How a value of it is computed.
+    pub rule: Rule,
 }
 
 /// The number of properties.
 pub const COUNT: usize = ROWS.len();
 
-const BLACK: Value = Value::Color(Color {
-    red: 0,
-    green: 0,
-    blue: 0,
-    alpha: 255,
-});
-
-/// The row of a property that takes keywords alone: the property, its name, whether it is inherited,
-/// and its keywords, of which the first is the initial value, and is not printed.
-macro_rules! of_words {
-    ($id:ident, $name:literal, $inherited:literal; $initial:ident $(, $other:ident)*) => {
-        Row {
-            id: PropId::$id,
-            name: $name,
-            inherited: $inherited,
-            initial: Value::Keyword(Keyword::$initial),
-            standing: Value::Keyword(Keyword::$initial),
-            forms: &[
-                ValueForm::Word(Keyword::$initial)
-                $(, ValueForm::Word(Keyword::$other))*
-            ],
-        }
-    };
-}
-
-/// A row for each property.
-const ROWS: &[Row] = &[
-    Row {
-        id: PropId::Color,
-        name: "color",
-        inherited: true,
-        initial: BLACK,
-        standing: BLACK,
-        forms: &[ValueForm::AnyColor],
-    },
-    of_words!(Display, "display", false; Inline, Block, InlineBlock, Flex, InlineFlex, None),
-    of_words!(Clear, "clear", false; None, Left, Right, Both),
-    of_words!(Visibility, "visibility", true; Visible, Hidden, Collapse),
+/// The properties that are inherited, in the order of the table.
+const INHERITED: &[PropId] = &[
+    PropId::Color,
+    PropId::Direction,
+    PropId::Visibility,
+    PropId::FontSize,
+    PropId::FontWeight,
+    PropId::FontStyle,
+    PropId::LineHeight,
 ];
 
 impl PropId {
@@ -96,6 +106,13 @@ impl Row {
             ≡ range_with_len 0 (length table) }
     {
         ROWS
+    }
+
+    /// The properties that are inherited, in the order of the table.
+    pub fn inherited() -> &'static [PropId]
+        ensures { map property_of result.now ≡ inherited_properties }
+    {
+        INHERITED
     }
 
     /// The row of a property.
@@ -124,14 +141,14 @@ pub fn by_name(name: &str) -> Option<PropId>
 pub fn initial(id: PropId) -> Value
     ensures { value_of result ≡ (row_of id).initial }
 {
-    Row::of(id).initial
+    Row::of(id).initial.value()
 }
 
 /// The value of the property that is not printed.
 pub fn standing(id: PropId) -> Value
     ensures { value_of result ≡ (row_of id).standing }
 {
-    Row::of(id).standing
+    Row::of(id).standing.value()
 }
 
 /// Whether an element takes the property from its parent where nothing sets it.

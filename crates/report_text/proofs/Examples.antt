@@ -1,12 +1,13 @@
 -- The lines computed, but for the digits of the number.
-use Rattle.std.proofs.Common.{◌≡◌, ℕ, List, [], ◌∷◌, ◌++◌, map, true, ap}
-use Rattle.std.specs.Prelude.{codes}
+use Rattle.std.proofs.Common.{◌≡◌, ℕ, Bool, List, [], ◌∷◌, ◌++◌, map, false, true, refl, ap, ◌∙◌, lit<}
+use Rattle.std.specs.Prelude.{codes, neg_ℤ, pos}
 use Rattle.std.specs.Ordering.{nat_cmp}
 use Rattle.std.specs.Cmp.Lexicographic.{slice_cmp}
 use Rattle.std.specs.FinMap as finmap
 use Rattle.std.specs.Fmt.{decimal}
+use Rattle.std.proofs.lemmas.Fmt.{decimal_digit}
 use Rattle.value_model.specs.Color.{opaque}
-use Rattle.value_model.specs.Value.{color}
+use Rattle.value_model.specs.Value.{Value, color, pixels}
 use Rattle.value_model.specs.Table.{table, color_property}
 use Rattle.base_model.specs.Text.{Characters}
 use Rattle.syntax_model.specs.Token.{ident}
@@ -18,11 +19,46 @@ use Rattle.value_model.specs.Printed.{declaration_texts}
 use Rattle.value_model.specs.Style.{Style, adjusted, initial_style, with_changed}
 use Rattle.report_text.specs.Lines.{element_line}
 
--- a line by the texts of the custom properties
-abbrev line_with : ℕ → Characters → Style → List Characters → Characters
-line_with n tag style texts =
-    decimal n
-    ++ (codes " " ++ (tag ++ (codes "{" ++ (joined (codes "; ") (declaration_texts table style.values ++ texts) ++ codes "}\n"))))
+-- a line by the texts of the properties and those of the custom ones
+abbrev line_with : ℕ → Characters → List Characters → List Characters → Characters
+line_with n tag own custom =
+    decimal n ++ (codes " " ++ (tag ++ (codes "{" ++ (joined (codes "; ") (own ++ custom) ++ codes "}\n"))))
+
+-- initial values, adjusted at the root or elsewhere
+abbrev values_at : Bool → List Value
+values_at is_root = adjusted is_root initial_style.values
+
+-- the style of these values alone
+abbrev style_of : List Value → Style
+style_of values = record initial_style { values = values }
+
+line_of : (n : ℕ) (tag : Characters) (values : List Value) (texts : List Characters) → declaration_texts table values ≡ texts → element_line n tag (style_of values) ≡ line_with n tag texts []
+unfolding element_line
+line_of n tag values texts printed =
+    ap (line_with n tag (declaration_texts table values)) texts-empty ∙ ap (λ own. line_with n tag own []) printed
+
+the_root : (n : ℕ) → element_line n (codes "a") (style_of (values_at true)) ≡ decimal n ++ codes " a{display: block}\n"
+unfolding table
+the_root n = line_of n (codes "a") (values_at true) (codes "display: block" ∷ []) refl
+
+the_other : (n : ℕ) → element_line n (codes "html") (style_of (values_at false)) ≡ decimal n ++ codes " html{}\n"
+unfolding table
+the_other n = line_of n (codes "html") (values_at false) [] refl
+
+a_red_root : (n : ℕ) → element_line n (codes "a") (style_of (with_changed (λ _. color (opaque 255 0 0)) color_property (values_at true))) ≡ decimal n ++ codes " a{color: #ff0000; display: block}\n"
+unfolding table
+a_red_root n =
+    line_of n (codes "a") (with_changed (λ _. color (opaque 255 0 0)) color_property (values_at true)) (codes "color: #ff0000" ∷ codes "display: block" ∷ []) refl
+
+digit_1 : decimal 1 ≡ codes "1"
+digit_1 = decimal_digit 1 (lit< tt)
+
+a_length : (n : ℕ) → element_line n (codes "a") (style_of (with_changed (λ _. pixels (neg_ℤ (pos 1_500))) 15 (values_at false))) ≡ decimal n ++ codes " a{margin-top: -1.5px}\n"
+unfolding table
+a_length n =
+    line_of n (codes "a") (with_changed (λ _. pixels (neg_ℤ (pos 1_500))) 15 (values_at false)) (codes "margin-top: -1.5px" ∷ []) (simp digit_1)
+
+-- behind the properties of the table are the custom ones
 
 abbrev some_entries : List (Characters × CustomValue)
 some_entries =
@@ -31,21 +67,7 @@ some_entries =
 abbrev some_custom : CustomValues
 some_custom = finmap.from_sorted some_entries
 
-the_root : (n : ℕ) → element_line n (codes "a") (adjusted true initial_style) ≡ decimal n ++ codes " a{display: block}\n"
-unfolding element_line table
-the_root n = ap (line_with n (codes "a") (adjusted true initial_style)) texts-empty
-
-the_other : (n : ℕ) → element_line n (codes "html") initial_style ≡ decimal n ++ codes " html{}\n"
-unfolding element_line table
-the_other n = ap (line_with n (codes "html") initial_style) texts-empty
-
-a_red_root : (n : ℕ) → element_line n (codes "a") (with_changed (λ _. color (opaque 255 0 0)) color_property (adjusted true initial_style)) ≡ decimal n ++ codes " a{color: #ff0000; display: block}\n"
-unfolding element_line table
-a_red_root n =
-    ap (line_with n (codes "a") (with_changed (λ _. color (opaque 255 0 0)) color_property (adjusted true initial_style))) texts-empty
-
--- behind the properties of the table are the custom ones
-custom_behind : (n : ℕ) → element_line n (codes "a") (record (adjusted true initial_style) { custom = some_custom }) ≡ decimal n ++ codes " a{display: block; --a\\ b: x; --c: }\n"
+custom_behind : (n : ℕ) → element_line n (codes "a") (record { values = values_at true; custom = some_custom }) ≡ decimal n ++ codes " a{display: block; --a\\ b: x; --c: }\n"
 unfolding element_line table custom_texts written
 custom_behind n =
-    ap (λ entries. line_with n (codes "a") (adjusted true initial_style) (map custom_text entries)) (finmap.entries-from_sorted (slice_cmp nat_cmp) some_entries tt)
+    ap (λ entries. line_with n (codes "a") (codes "display: block" ∷ []) (map custom_text entries)) (finmap.entries-from_sorted (slice_cmp nat_cmp) some_entries tt)

@@ -1,5 +1,5 @@
 -- The printed lines, each with its line feed.
-use Rattle.std.specs.Prelude.{ℕ, ◌++◌, codes}
+use Rattle.std.specs.Prelude.{ℕ, [], ◌∷◌, ◌++◌, codes}
 use Rattle.std.specs.Fmt.{decimal}
 use Rattle.base_model.specs.Text.{Characters}
 use Rattle.value_model.specs.Style.{Style}
@@ -18,3 +18,9 @@ batch_line batch accepted refused matched cascaded =
 unfoldable pub element_line : ℕ → Characters → Style → Characters
 element_line number tag style =
     decimal number ++ (codes " " ++ (tag ++ (codes "{" ++ (printed_declarations style ++ codes "}\n"))))
+
+-- what stands between two texts of declarations: nothing, where one of them is empty
+abbrev pub separator : Characters → Characters → Characters
+separator [] after = []
+separator (first ∷ before) [] = []
+separator (first ∷ before) (next ∷ after) = codes "; "

@@ -3,11 +3,9 @@
 ghost use Rattle.std.specs.Prelude.{◌≡◌, ◌++◌, IfOk, OnOk, decimal, true};
 ghost use Rattle.std.specs.Str.{chars};
 ghost use Rattle.stylo_base.specs.Ascii.{is_all_ascii};
-ghost use Rattle.value_model.specs.Printed.{declaration_text, printed_declarations};
-ghost use Rattle.property_table.specs.View.{row_seen, value_of};
-ghost use Rattle.report_text.specs.Lines.{batch_line, element_line};
+ghost use Rattle.value_model.specs.Printed.{printed_declarations};
+ghost use Rattle.report_text.specs.Lines.{batch_line, element_line, separator};
 
-use property_table::{Row, Value};
 use std::alloc::Global;
 use style_value::Style;
 use stylo_base::{NoMemory, Text};
@@ -62,35 +60,28 @@ pub fn push_element_line(
     line.push_str("}\n")
 }
 
-/// Appends the properties whose value is not the standing one, and the custom ones, to the line.
+/// Appends the properties whose value is not the standing one, and the custom ones, to the line. Their
+/// texts are kept with the style.
 fn push_declarations(line: &mut Text, style: &Style) -> Result<(), NoMemory>
     ensures { OnOk result (line.new ≡ line.old ++ printed_declarations style.now) }
 {
-    let mut separator = "";
-    for row in Row::all() {
-        let value = style.value(row.id);
-        if !value.is_same(row.standing) {
-            line.push_str(separator)?;
-            push_declaration(line, row, value)?;
-            separator = "; ";
-        }
-    }
+    let own = style.text();
     let custom = style.custom().text();
-    if !custom.is_empty() {
-        line.push_str(separator)?;
-        line.push_str(custom)?;
-    }
-    Ok(())
+    line.push_str(own)?;
+    line.push_str(separator(own, custom))?;
+    line.push_str(custom)
 }
 
-/// Appends a property and its value to the line.
-fn push_declaration(line: &mut Text, row: &Row, value: Value) -> Result<(), NoMemory>
-    ensures { let text = declaration_text (row_seen row.now) (value_of value) in
-        OnOk result (line.new ≡ line.old ++ text) }
+/// What stands between two texts of declarations: nothing, where one of them is empty.
+fn separator(before: &str, after: &str) -> &'static str
+    ensures text { result.now ≡ separator before.now after.now }
+    ensures ascii { is_all_ascii result.now ≡ true }
 {
-    line.push_str(row.name)?;
-    line.push_str(": ")?;
-    value.write(line)
+    if before.is_empty() || after.is_empty() {
+        ""
+    } else {
+        "; "
+    }
 }
 
 /// Appends a word in ASCII and a number to the line.

@@ -1,21 +1,24 @@
 -- One rule, one declaration and one sheet more.
 use Rattle.std.proofs.Common.{◌≡◌, ℕ, ◌+◌, List, [], ◌∷◌, ◌++◌, length, map, true, false, Option, Some, None, refl, sym, ap, ◌∙◌, arith, append_assoc, append-nil}
-use Rattle.std.specs.Prelude.{Vec, flat_map, filter_map, option_map, option_to_list}
+use Rattle.std.specs.Prelude.{Vec, flat_map, filter_map, option_and_then, option_map, option_to_list}
 use Rattle.std.specs.List.{cons_option}
 use Rattle.std.specs.declared.alloc.Global.{Global}
 use Rattle.base_model.specs.Origin.{Origin}
 use Rattle.base_model.specs.Sheet.{Sheet}
 use Rattle.layer_model.specs.Name.{LayerName}
-use Rattle.syntax_model.specs.Rules.{Context, Rule}
+use Rattle.syntax_model.specs.Rules.{Context, Rule, StyleBlock}
+use Rattle.selector_model.specs.Selector as model_selector
 use Rattle.sheet_model.specs.Declared as model
-use Rattle.sheet_model.specs.StyleRules.{StyleRule, style_rule_in, style_rules_in, layer_in}
+use Rattle.sheet_model.specs.SelectorsIn.{selectors_in}
+use Rattle.sheet_model.specs.Declared.{block_declared}
+use Rattle.sheet_model.specs.StyleRules.{StyleRule, style_rule_of, style_rule_in, style_rules_in, layer_in}
 use Rattle.sheet_model.specs.Sources.{PlacedRule, placed, all_placed, edition_of, enabled_among, rules_from, sheet_layers}
 use Rattle.layer_order.specs.View.{origin_of}
 use Rattle.selector_types.specs.declared.selector.Selector.{Selector}
 use Rattle.selector_types.specs.View.{selector_of}
 use Rattle.sheet_set.specs.declared.sheet_rule.SheetRule.{SheetRule}
-use Rattle.sheet_set.specs.View.{declared_count, own_rules, rule_of, rules_with}
-use Rattle.value_parser.specs.View.{declared_of}
+use Rattle.sheet_set.specs.View.{own_rules, rule_count, rule_of, rules_with}
+use Rattle.shorthands.specs.View.{declared_of}
 
 -- what is kept so far, and what each item that is left gives, is the whole: one item more
 pub one_more : {A B : Type 0} (f : A → List B) (old new whole : List B) (left after : List A) (item : A) (given : List B) → left ≡ item ∷ after → f item ≡ given → new ≡ old ++ given → old ++ flat_map f left ≡ whole → new ++ flat_map f after ≡ whole
@@ -33,12 +36,17 @@ rules_with-last (r ∷ rules) [] rule list same = absurd (omega (arith, same))
 rules_with-last (r ∷ rules) (l ∷ lists) rule list same =
     ap (λ rest. rule_of r l.items ∷ rest) (rules_with-last rules lists rule list (omega (arith, same)))
 
-pub rule_is : (rule : SheetRule) (list : List Selector) (kept : List model.Declared) (context : Context) (sheet : Sheet) (position index : ℕ) → map declared_of rule.declarations.items ≡ kept → origin_of rule.origin ≡ sheet.origin
+-- a rule whose prelude is a list of selectors
+pub style_is : (style : StyleBlock) (selectors : List model_selector.Selector) → selectors_in style.prelude ≡ Some selectors → style_rule_of style ≡ Some (record { selectors = selectors; declarations = block_declared style.block; context = style.context })
+style_is style selectors is =
+    ap (option_and_then (λ ss. Some (record { selectors = ss; declarations = block_declared style.block; context = style.context }))) is
+
+pub rule_is : (rule : SheetRule) (list : List Selector) (kept : List model.Declared) (context : Context) (sheet : Sheet) (position index : ℕ) → flat_map declared_of rule.declarations.items ≡ kept → origin_of rule.origin ≡ sheet.origin
     → rule.layer ≡ context.layer → rule.sheet ≡ sheet.number → rule.position ≡ position → rule.first_index ≡ index → rule_of rule list ≡ placed sheet position index (record { selectors = map selector_of list; declarations = kept; context = context })
 rule_is rule list kept context sheet position index d o l n p i = cc
 
 -- rules after rules: those that come later are counted on
-pub all_placed-append : (sheet : Sheet) (position index : ℕ) (rule : Option StyleRule) (rules : List StyleRule) → all_placed sheet position index (option_to_list rule ++ rules) ≡ all_placed sheet position index (option_to_list rule) ++ all_placed sheet position (index + declared_count rule) rules
+pub all_placed-append : (sheet : Sheet) (position index : ℕ) (rule : Option StyleRule) (rules : List StyleRule) → all_placed sheet position index (option_to_list rule ++ rules) ≡ all_placed sheet position index (option_to_list rule) ++ all_placed sheet position (index + rule_count rule) rules
 all_placed-append sheet position index None rules = ap (λ n. all_placed sheet position n rules) (omega arith)
 all_placed-append sheet position index (Some rule) rules = refl
 
@@ -52,7 +60,7 @@ module _ (sheet : Sheet) (position : ℕ) (whole : List PlacedRule) where
   first_of (Some rule) rules = refl
 
   -- one rule more
-  pub style_added : (found new : List PlacedRule) (index next : ℕ) (left after : List Rule) (rule : Rule) → left ≡ rule ∷ after → new ≡ found ++ all_placed sheet position index (option_to_list (style_rule_in rule)) → next ≡ index + declared_count (style_rule_in rule) → Completes found index left → Completes new next after
+  pub style_added : (found new : List PlacedRule) (index next : ℕ) (left after : List Rule) (rule : Rule) → left ≡ rule ∷ after → new ≡ found ++ all_placed sheet position index (option_to_list (style_rule_in rule)) → next ≡ index + rule_count (style_rule_in rule) → Completes found index left → Completes new next after
   style_added found new index next left after rule is added counted before =
       let kept = style_rule_in rule in
       let rest = filter_map style_rule_in after in

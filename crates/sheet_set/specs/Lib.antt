@@ -1,3 +1,4 @@
+pub mod Parts
 pub mod Ranks
 pub mod View
 pub mod Writable

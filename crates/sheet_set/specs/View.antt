@@ -1,5 +1,5 @@
 -- What the rules and sheets of the code stand for.
-use Rattle.std.specs.Prelude.{ℕ, if◌then◌else◌, List, [], ◌∷◌, length, map, Vec, Option}
+use Rattle.std.specs.Prelude.{ℕ, if◌then◌else◌, List, [], ◌∷◌, length, flat_map, map, Vec, Option}
 use Rattle.std.specs.Option.{option_map_or}
 use Rattle.std.specs.declared.alloc.Global.{Global}
 use Rattle.base_model.specs.Sheet.{Sheet}
@@ -8,26 +8,35 @@ use Rattle.sheet_model.specs.Sources.{PlacedRule, Sources, all_placed, edition_o
 use Rattle.layer_order.specs.View.{origin_of}
 use Rattle.selector_types.specs.declared.selector.Selector.{Selector}
 use Rattle.selector_types.specs.View.{selector_of}
-use Rattle.value_parser.specs.View.{declared_of}
+use Rattle.shorthands.specs.View.{declared_of}
+use Rattle.shorthands.specs.declared.subject.Subject.{Subject}
+use Rattle.shorthands.specs.declared.subject.Subject.TheVariants as subject
+use Rattle.shorthands.specs.declared.declared.Target.{Target}
+use Rattle.shorthands.specs.declared.declared.Target.TheVariants as target
 use Rattle.sheet_set.specs.declared.sheet_rule.SheetRule.{SheetRule}
 use Rattle.sheet_set.specs.declared.kept_sheet.KeptSheet.{KeptSheet}
 use Rattle.sheet_set.specs.declared.sheets.Sheets.{Sheets}
 
 -- how many declarations of a rule are kept
-abbrev pub declared_count : Option StyleRule → ℕ
-declared_count rule = option_map_or (λ r. length r.declarations) rule 0
+abbrev pub rule_count : Option StyleRule → ℕ
+rule_count rule = option_map_or (λ r. length r.declarations) rule 0
 
 -- a rule with its selectors
 abbrev pub rule_of : SheetRule → List Selector → PlacedRule
 rule_of rule selectors = record {
   selectors = map selector_of selectors;
-  declarations = map declared_of rule.declarations.items;
+  declarations = flat_map declared_of rule.declarations.items;
   origin = origin_of rule.origin;
   layer = rule.layer;
   sheet = rule.sheet;
   position = rule.position;
   first_index = rule.first_index;
 }
+
+-- the target that a subject is
+abbrev pub target_of : Subject → Target
+target_of (subject.Longhand id) = target.Longhand id
+target_of (subject.Shorthand short) = target.Shorthand short
 
 -- rules, each with its own list of selectors
 abbrev pub rules_with : List SheetRule → List (Vec Selector Global) → List PlacedRule

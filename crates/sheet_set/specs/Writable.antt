@@ -2,7 +2,7 @@
 use Rattle.std.specs.Prelude.{map, Bool, true}
 use Rattle.std.specs.List.{list_all}
 use Rattle.syntax_model.specs.Written.{is_writable}
-use Rattle.custom_model.specs.Value.{CustomValue, unplaced}
+use Rattle.custom_model.specs.Value.{unplaced}
 use Rattle.sheet_model.specs.Declared.{Declared, Given, wide, exactly, referring, holding}
 use Rattle.sheet_model.specs.StyleRules.{StyleRule}
 
@@ -10,7 +10,7 @@ use Rattle.sheet_model.specs.StyleRules.{StyleRule}
 abbrev pub given_writable : Given → Bool
 given_writable (wide word) = true
 given_writable (exactly value) = true
-given_writable (referring property tokens) = is_writable (map unplaced tokens)
+given_writable (referring subject tokens) = is_writable (map unplaced tokens)
 given_writable (holding tokens) = is_writable (map unplaced tokens)
 
 abbrev pub declared_writable : Declared → Bool

@@ -1,65 +1,67 @@
 //! What a declaration declares.
 
-ghost use Rattle.std.specs.Prelude.{◌≡◌, IfOk, option_map};
+ghost use Rattle.std.specs.Prelude.{◌≡◌, ◌++◌, IfOk, OnOk, flat_map, option_map, option_to_list};
 ghost use Rattle.css_rules.specs.View.{declaration_of};
-ghost use Rattle.sheet_model.specs.Declared.{custom_declared, declared_by, declared_with, longhand_declared};
-ghost use Rattle.value_parser.specs.View.{declared_of, given_of, target_of};
+ghost use Rattle.sheet_model.specs.Declared.{custom_declared, custom_given_in, declared_in};
+ghost use Rattle.sheet_model.specs.Shorthands.{single};
+ghost use Rattle.shorthands.specs.View.{declared_of, given_of};
 
+use crate::keep::keep;
+use crate::longhands::add_subject;
 use css_rules::RawDecl;
-use css_tokens::{CustomName, is_custom_name};
-use property_table::by_name;
+use css_tokens::{CustomName, CustomValue, Token, is_custom_name};
+use shorthands::{Declared, Given, Subject, Target};
 use std::alloc::Global;
 use stylo_base::NoMemory;
-use value_parser::{Declared, Given, Target, custom_declared_value, declared_value};
+use value_parser::wide_keyword;
 
-/// What a declaration declares: a custom property, where its name is one of these
-/// (css-variables-1, section 2), else a property of the table. None: its name is of no property, or
-/// the property does not take its value.
-pub fn declared_by(alloc: Global, declaration: &RawDecl) -> Result<Option<Declared>, NoMemory>
-    ensures { IfOk result (λ declared.
-        option_map declared_of declared ≡ declared_by (declaration_of declaration.now)) }
+/// Adds what a declaration declares: a custom property, where its name is one of these
+/// (css-variables-1, section 2), else a property of the table, or those that a shorthand stands for
+/// (css-cascade-5, section 3). Nothing where its name is of none, or its value is not taken.
+pub fn add_declared(
+    alloc: Global,
+    kept: &mut Vec<Declared>,
+    declaration: &RawDecl,
+) -> Result<(), NoMemory>
+    ensures { OnOk result (flat_map declared_of kept.new.items
+        ≡ flat_map declared_of kept.old.items ++ declared_in (declaration_of declaration.now)) }
 {
     if is_custom_name(declaration.name.as_str()) {
-        custom_declared(alloc, declaration)
-    } else {
-        longhand_declared(alloc, declaration)
+        return add_custom(alloc, kept, declaration);
+    }
+    match Subject::named(declaration.name.as_str()) {
+        Some(subject) => add_subject(alloc, kept, declaration, subject),
+        None => Ok(()),
     }
 }
 
-// What a declaration of a custom property declares. Case counts in the name, which is kept as it is.
-fn custom_declared(alloc: Global, declaration: &RawDecl) -> Result<Option<Declared>, NoMemory>
-    ensures { IfOk result (λ declared.
-        option_map declared_of declared ≡ custom_declared (declaration_of declaration.now)) }
+// Adds what a declaration of a custom property declares. Case counts in the name, which is kept as it
+// is.
+fn add_custom(
+    alloc: Global,
+    kept: &mut Vec<Declared>,
+    declaration: &RawDecl,
+) -> Result<(), NoMemory>
+    ensures { OnOk result (flat_map declared_of kept.new.items ≡ flat_map declared_of kept.old.items
+        ++ option_to_list (custom_declared (declaration_of declaration.now))) }
 {
-    let Some(given) = custom_declared_value(alloc, declaration.value.as_slice())? else {
-        return Ok(None);
+    let Some(given) = custom_given(alloc, declaration.value.as_slice())? else {
+        return Ok(());
     };
     let name = CustomName::of_text(alloc, declaration.name.copy(alloc)?)?;
-    Ok(Some(declared_with(declaration, Target::Custom(name), given)))
+    keep(kept, declaration, Target::Custom(name), given)
 }
 
-// What a declaration of a property of the table declares.
-fn longhand_declared(alloc: Global, declaration: &RawDecl) -> Result<Option<Declared>, NoMemory>
-    ensures { IfOk result (λ declared.
-        option_map declared_of declared ≡ longhand_declared (declaration_of declaration.now)) }
+// What the tokens give a custom property: a CSS-wide keyword, or themselves where they are valid
+// (css-variables-1, section 2).
+fn custom_given(alloc: Global, tokens: &[Token]) -> Result<Option<Given>, NoMemory>
+    ensures { IfOk result (λ given. option_map (given_of (single 0)) given ≡ custom_given_in tokens.now) }
 {
-    let Some(property) = by_name(declaration.name.as_str()) else {
-        return Ok(None);
-    };
-    let Some(given) = declared_value(alloc, property, declaration.value.as_slice())? else {
-        return Ok(None);
-    };
-    Ok(Some(declared_with(declaration, Target::Longhand(property), given)))
-}
-
-// The declaration of the target, which gives it this.
-fn declared_with(declaration: &RawDecl, target: Target, given: Given) -> Declared
-    ensures { declared_of result
-        ≡ declared_with (declaration_of declaration.now) (target_of target) (given_of given) }
-{
-    Declared {
-        target,
-        given,
-        important: declaration.important,
+    if let Some(wide) = wide_keyword(tokens) {
+        return Ok(Some(Given::Wide(wide)));
+    }
+    match CustomValue::read(alloc, tokens)? {
+        Some(value) => Ok(Some(Given::Holding(value))),
+        None => Ok(None),
     }
 }

@@ -5,7 +5,7 @@ ghost use Rattle.css_rules.specs.View.{style_of};
 ghost use Rattle.layer_order.specs.View.{declarations, origin_of, sheet_of};
 ghost use Rattle.sheet_model.specs.Sources.{all_placed, edition_of, sheet_layers};
 ghost use Rattle.sheet_model.specs.StyleRules.{style_rule_of, style_rules_in};
-ghost use Rattle.sheet_set.specs.View.{declared_count, rules_with};
+ghost use Rattle.sheet_set.specs.View.{rule_count, rules_with};
 
 use crate::parse_block::parse_block;
 use crate::{SheetInput, SheetRule};
@@ -90,7 +90,7 @@ impl RuleCollector {
             ≡ rules_with self.old.rules.items self.old.selectors.items
             ++ all_placed (sheet_of at.number sheet.now) at.position index
             (option_to_list (style_rule_of (style_of style.now)))) }
-        ensures next { IfOk result (λ next. next ≡ index + declared_count (style_rule_of (style_of style.now))) }
+        ensures next { IfOk result (λ next. next ≡ index + rule_count (style_rule_of (style_of style.now))) }
         ensures paired { OnOk result (length self.new.rules.items ≡ length self.new.selectors.items) }
         ensures layers { self.new.layers ≡ self.old.layers }
     {

@@ -1,14 +1,17 @@
 //! A rule that is kept, but for its selectors.
 
-ghost use Rattle.std.specs.Prelude.{◌≡◌, ◌+◌, ◌<◌, ◌^◌, IfOk, length, vec_len};
+ghost use Rattle.std.specs.Prelude.{◌≡◌, ◌+◌, ◌<◌, ◌^◌, IfOk, sum_by};
+ghost use Rattle.shorthands.specs.View.{declared_count};
 
 use crate::Declared;
+use crate::count::count_all;
 use crate::rule_collector::SheetPosition;
 use layer_order::{LayerName, Origin};
 use stylo_base::NoMemory;
 
 /// A rule of a sheet: its declarations, its cascade layer, where its sheet comes from, and how many
-/// declarations are kept before it in the sheet's text.
+/// declarations are kept before it in the sheet's text. A declaration of a shorthand counts as one of
+/// each of its properties.
 #[derive(Drop)]
 pub struct SheetRule {
     declarations: Vec<Declared>,
@@ -17,12 +20,14 @@ pub struct SheetRule {
     sheet: u32,
     position: u32,
     first_index: u64,
-    ghost counted: { first_index + vec_len declarations < 2 ^ 64 },
+    count: u64,
+    ghost counted: { count ≡ sum_by declared_count declarations.items },
+    ghost within: { first_index + count < 2 ^ 64 },
 }
 
 impl SheetRule {
-    /// A rule of the sheet at a position. There are fewer than 2^64 declarations in a sheet's
-    /// text: no memory holds more.
+    /// A rule of the sheet at a position. Where 2^64 declarations or more come before its end, it is
+    /// as if memory ran out.
     pub(crate) fn new(
         declarations: Vec<Declared>,
         origin: Origin,
@@ -34,7 +39,8 @@ impl SheetRule {
             × ((rule.layer ≡ layer) × ((rule.sheet ≡ at.number) × ((rule.position ≡ at.position)
             × (rule.first_index ≡ first_index)))))) }
     {
-        if first_index.checked_add(declarations.len() as u64).is_none() {
+        let count = count_all(declarations.as_slice())?;
+        if first_index.checked_add(count).is_none() {
             return Err(NoMemory);
         }
         Ok(SheetRule {
@@ -44,20 +50,22 @@ impl SheetRule {
             sheet: at.number,
             position: at.position,
             first_index,
+            count,
         })
     }
 
     /// The index after its last declaration.
     pub(crate) fn end(&self) -> u64
-        ensures { result ≡ self.now.first_index + length self.now.declarations.items }
+        ensures { result ≡ self.now.first_index
+            + sum_by declared_count self.now.declarations.items }
     {
-        self.first_index + self.declarations.len() as u64
+        self.first_index + self.count
     }
 
-    /// Its declarations, in order.
+    /// Its declarations, in order: of a shorthand one entry, or one for each property.
     pub fn declarations(&self) -> &[Declared]
         ensures list { result.now ≡ self.now.declarations.items }
-        ensures counted { self.now.first_index + length result.now < 2 ^ 64 }
+        ensures counted { self.now.first_index + sum_by declared_count result.now < 2 ^ 64 }
     {
         &self.declarations
     }

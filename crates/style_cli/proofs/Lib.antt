@@ -2,3 +2,4 @@ pub mod Told
 pub mod Fronts
 pub mod Printed
 mod Examples
+mod ExampleCases

@@ -3,121 +3,111 @@
 use dom_tree::{Attr, Doc, NodeInput, NodeList, States};
 use layer_order::Origin;
 use plain_style::{match_rules, style_all};
-use property_table::{Color, PropId, Value};
 use sheet_set::{SheetInput, Sheets};
 use std::alloc::Global;
+use std::sync::Arc;
 use std::test::Fail;
-use stylo_base::Text;
-use value_parser::Target;
+use style_value::Style;
+use stylo_base::{NoMemory, Text};
 
-/// A node with a tag alone.
-fn node(tag: &str) -> NodeInput<'_> {
-    NodeInput {
-        tag,
+/// `html` over `p` with a `style` attribute.
+fn pair(alloc: Global) -> Result<Doc, NoMemory> {
+    let html = NodeInput {
+        tag: "html",
         attrs: &[],
         states: States::default(),
-    }
+    };
+    let style = Attr {
+        name: "style",
+        value: "padding:1px",
+    };
+    let mut list = NodeList::of_root(alloc, html)?;
+    list.push(
+        0,
+        NodeInput {
+            tag: "p",
+            attrs: &[style],
+            states: States::default(),
+        },
+    )?;
+    Doc::of_list(alloc, list)
 }
 
-/// `html` over `p`.
-fn pair(alloc: Global) -> Result<Doc, Fail> {
-    let mut list = NodeList::of_root(alloc, node("html"))?;
-    list.push(0, node("p"))?;
-    Ok(Doc::of_list(alloc, list)?)
-}
-
-/// The rules of one sheet.
-fn rules(alloc: Global, origin: Origin, text: &str) -> Result<Sheets, Fail> {
+/// The rules of one author sheet.
+fn rules(alloc: Global, text: &str) -> Result<Sheets, NoMemory> {
     let sheet = SheetInput {
-        origin,
+        origin: Origin::Author,
         enabled: true,
         text: Text::of_str(alloc, text)?,
     };
-    Ok(Sheets::start(alloc, &[sheet])?)
+    Sheets::start(alloc, &[sheet])
 }
 
-fn values(alloc: Global, doc: &Doc, sheets: &Sheets) -> Result<Vec<Value>, Fail> {
-    let mut colors = Vec::new(alloc);
-    for style in &style_all(alloc, doc, sheets)? {
-        colors.push(style.value(PropId::Color))?;
+/// The printed values of styles, each with a line feed.
+fn printed(alloc: Global, styles: &[Arc<Style>]) -> Result<Text, NoMemory> {
+    let mut text = Text::new(alloc);
+    for style in styles {
+        text.push_str(style.text())?;
+        text.push_str("\n")?;
     }
-    Ok(colors)
+    Ok(text)
 }
 
-/// The colours of `html` and of `p` in it, by one author sheet.
-fn colors(alloc: Global, text: &str) -> Result<Vec<Value>, Fail> {
-    let sheets = rules(alloc, Origin::Author, text)?;
+/// The printed values of each element.
+fn styled(alloc: Global, doc: &Doc, sheets: &Sheets) -> Result<Text, NoMemory> {
+    let styles = style_all(alloc, doc, sheets)?;
+    printed(alloc, &styles)
+}
+
+/// The same by one author sheet.
+fn styled_by(alloc: Global, doc: &Doc, sheet: &str) -> Result<Text, NoMemory> {
+    let sheets = rules(alloc, sheet)?;
+    styled(alloc, doc, &sheets)
+}
+
+/// The printed values of `html` and of `p` in it.
+fn texts(alloc: Global, sheet: &str) -> Result<Text, NoMemory> {
     let doc = pair(alloc)?;
-    values(alloc, &doc, &sheets)
+    styled_by(alloc, &doc, sheet)
 }
 
-fn opaque(red: u8, green: u8, blue: u8) -> Value {
-    Value::Color(Color {
-        red,
-        green,
-        blue,
-        alpha: 255,
-    })
-}
-
+/// What `rem` stands for is the font size of the root, and at its own font size the initial one.
 #[test]
-fn inherited(rt: HostRuntime) -> Result<(), Fail> {
-    let colors = colors(rt.alloc(), "html{color:red}")?;
-    let red = opaque(255, 0, 0);
-    assert_eq!(rt; colors.as_slice(), [red, red].as_slice());
+fn root_size(rt: HostRuntime) -> Result<(), Fail> {
+    let text = texts(rt.alloc(), "html{font-size:2rem}p{padding:2rem;width:2rem}")?;
+    assert_eq!(rt;
+        text.as_str(),
+        "display: block; font-size: 32px\nwidth: 64px; padding-top: 1px; padding-right: 1px; padding-bottom: 1px; padding-left: 1px; font-size: 32px\n"
+    );
     Ok(())
 }
 
-#[test]
-fn of_a_rule(rt: HostRuntime) -> Result<(), Fail> {
-    let colors = colors(rt.alloc(), "p{color:lime}*{color:red}")?;
-    let wanted = [opaque(255, 0, 0), opaque(0, 255, 0)];
-    assert_eq!(rt; colors.as_slice(), wanted.as_slice());
-    Ok(())
-}
-
-#[test]
-fn of_a_style_attribute(rt: HostRuntime) -> Result<(), Fail> {
-    let alloc = rt.alloc();
-    let style = Attr {
-        name: "style",
-        value: "color:lime",
-    };
-    let root = NodeInput {
-        attrs: &[style],
-        ..node("html")
-    };
-    let list = NodeList::of_root(alloc, root)?;
-    let doc = Doc::of_list(alloc, list)?;
-    let sheets = rules(alloc, Origin::Author, "html{color:red}")?;
-    let colors = values(alloc, &doc, &sheets)?;
-    assert_eq!(rt; colors.as_slice(), [opaque(0, 255, 0)].as_slice());
-    Ok(())
-}
-
-fn declared(alloc: Global, doc: &Doc, sheets: &Sheets) -> Result<Vec<(PropId, u64)>, Fail> {
-    let mut seen = Vec::new(alloc);
+/// What matches `html`: the places among the declarations of the sheet.
+fn places(alloc: Global, doc: &Doc, sheets: &Sheets) -> Result<Vec<u64>, NoMemory> {
+    let mut places = Vec::new(alloc);
     if doc.contains(1) {
         for one in &match_rules(alloc, doc, sheets, 1)? {
-            if let Target::Longhand(property) = &one.declared.target {
-                seen.push((*property, one.index))?;
-            }
+            places.push(one.index)?;
         }
     }
-    Ok(seen)
+    Ok(places)
 }
 
-/// What matches `html`, by one sheet of the user: each property, and its index in the sheet.
-fn matched(alloc: Global, text: &str) -> Result<Vec<(PropId, u64)>, Fail> {
-    let sheets = rules(alloc, Origin::User, text)?;
+/// The same by one author sheet.
+fn places_by(alloc: Global, doc: &Doc, sheet: &str) -> Result<Vec<u64>, NoMemory> {
+    let sheets = rules(alloc, sheet)?;
+    places(alloc, doc, &sheets)
+}
+
+/// The same of `html` over `p`.
+fn matched(alloc: Global, sheet: &str) -> Result<Vec<u64>, NoMemory> {
     let doc = pair(alloc)?;
-    declared(alloc, &doc, &sheets)
+    places_by(alloc, &doc, sheet)
 }
 
 #[test]
 fn what_matches(rt: HostRuntime) -> Result<(), Fail> {
-    let seen = matched(rt.alloc(), "p{clear:left}html{clear:both;color:red}")?;
-    let wanted = [(PropId::Clear, 1), (PropId::Color, 2)];
-    assert_eq!(rt; seen.as_slice(), wanted.as_slice());
+    let places = matched(rt.alloc(), "p{clear:left}html{all:unset;color:red}")?;
+    assert_eq!(rt; places.as_slice(), [1, 40].as_slice());
     Ok(())
 }

@@ -1,47 +1,112 @@
--- The inherited part, made row by row.
-use Rattle.std.proofs.Common.{◌≡◌, ℕ, ◌<◌, ◌+◌, List, true, false, if◌then◌else◌, length, map, get_or, set, slice_get, Some, option_map, sym, ap, subst, ◌∙◌}
-use Rattle.std.proofs.lemmas.Iterator.Adapters.{option_map_id}
+-- The values of a style that inherits, made property by property.
+use Rattle.std.proofs.Common.{◌≡◌, ℕ, ◌<◌, ◌≤◌, ◌+◌, ◌==◌, ◌||◌, List, [], ◌∷◌, Bool, true, false, if◌then◌else◌, Option, Some, None, length, map, get_or, drop, slice_get, option_map, refl, sym, ap, ◌∙◌, arith, get_or-set_same, get_or-set_other}
+use Rattle.std.specs.List.{range_with_len}
+use Rattle.std.proofs.lemmas.Bool.{eqb-true, eqb-false}
+use Rattle.std.proofs.lemmas.List.{drop_all, drop_more, get_or-map, length-map, length-set, same_lists}
+use Rattle.std.proofs.lemmas.List.FromFn.{get_or-map-range_with_len}
+use Rattle.std.proofs.lemmas.Option.{get_or_from_slice_get, none-some, slice_get-get_or}
 use Rattle.value_model.specs.Value.{Value}
-use Rattle.value_model.specs.Table as model
-use Rattle.value_model.specs.Table.{table}
-use Rattle.value_model.specs.Style.{Style, inherited_part, inherited_values}
-use Rattle.value_model.proofs.ByRow.{IsFilled, filled_set, filled_kept, inherited-at, map_is}
-use Rattle.property_table.specs.View.{row_seen, value_of}
-use Rattle.property_table.specs.declared.property.Row.{Row}
-use Rattle.property_table.proofs.RowLemmas.{row_at}
+use Rattle.value_model.specs.Table.{Row, color_row, table}
+use Rattle.value_model.specs.Style.{inherited_values, initial_style}
+use Rattle.value_model.proofs.ByRow.{inherited-at, length-inherited}
+use Rattle.property_table.specs.View.{inherited_properties, property_of}
+use Rattle.property_table.specs.declared.property.PropId.{PropId}
+use Rattle.property_table.proofs.RowLemmas.{length-table}
+use Rattle.style_value.specs.ColumnView.{replaced, with_value_in}
 
--- a style on the way from its parent's to the inherited part
-pub record IsPartly (parent draft : Style) (i : ℕ) : Type 0 where
-  pub values : IsFilled (inherited_values table parent.values) parent.values draft.values i
-  pub custom : draft.custom ≡ parent.custom
+-- the properties of a list get their values in another one
+abbrev pub with_values_in : List Value → List ℕ → List Value → List Value
+with_values_in parents [] values = values
+with_values_in parents (property ∷ properties) values = with_values_in parents properties (with_value_in parents property values)
 
--- an inherited property keeps its value
-pub inherits_one : (rows : List Row) (parent old new : Style) (i : ℕ) (d : Row) → map row_seen rows ≡ table → i < length rows → (get_or rows i d).inherited ≡ true → new ≡ old → IsPartly parent old i → IsPartly parent new (i + 1)
-inherits_one rows parent old new i d h lt inherited is partly =
-    let row : model.Row = row_seen (get_or rows i d) in
-    let same : slice_get (inherited_values table parent.values) i ≡ slice_get parent.values i =
-    inherited-at table parent.values i row (row_at rows i d h lt)
-    ∙ (ap (λ b. option_map (λ v. if b then v else row.initial) (slice_get parent.values i)) inherited
-    ∙ option_map_id (slice_get parent.values i)) in
-    subst (λ (s : Style). IsPartly parent s (i + 1)) (sym is) (record {
-      values = filled_kept _ _ old.values i same partly.values;
-      custom = partly.custom;
-    })
+abbrev is_among : ℕ → List ℕ → Bool
+is_among k [] = false
+is_among k (property ∷ properties) = (k == property) || is_among k properties
 
--- each other one gets its initial value
-pub resets_one : (rows : List Row) (parent old new : Style) (i j : ℕ) (d : Row) → map row_seen rows ≡ table → i < length rows → (get_or rows i d).inherited ≡ false → j ≡ i → new ≡ record old { values = set old.values j (value_of (get_or rows i d).initial) } → IsPartly parent old i → IsPartly parent new (i + 1)
-resets_one rows parent old new i j d h lt not_inherited at is partly =
-    let row : model.Row = row_seen (get_or rows i d) in
-    let one : (y : Value) → slice_get (inherited_values table parent.values) i ≡ Some y → row.initial ≡ y = λ y here.
-    map_is (λ v. if row.inherited then v else row.initial) (slice_get parent.values i) row.initial y (λ v _. sym (ap (λ b. if b then v else row.initial) not_inherited)) (sym (inherited-at table parent.values i row (row_at rows i d h lt)) ∙ here) in
-    let put : new ≡ record old { values = set old.values i row.initial } = is ∙ ap (λ k. record old { values = set old.values k row.initial }) at in
-    subst (λ (s : Style). IsPartly parent s (i + 1)) (sym put) (record {
-      values = filled_set _ _ old.values i row.initial one partly.values;
-      custom = partly.custom;
-    })
+length-replaced : (found : Option Value) (property : ℕ) (values : List Value) → length (replaced found property values) ≡ length values
+length-replaced None property values = refl
+length-replaced (Some value) property values = length-set values property value
 
--- all values
-pub all_inherited : (parent draft : Style) → draft.values ≡ inherited_values table parent.values → draft.custom ≡ parent.custom → draft ≡ inherited_part parent
-all_inherited parent draft values custom =
-    ap (λ list. record { values = list; custom = draft.custom }) values
-    ∙ ap (λ c. record { values = inherited_values table parent.values; custom = c }) custom
+length-with_values : (parents : List Value) (properties : List ℕ) (values : List Value) → length (with_values_in parents properties values) ≡ length values
+length-with_values parents [] values = refl
+length-with_values parents (property ∷ properties) values =
+    length-with_values parents properties (with_value_in parents property values)
+    ∙ length-replaced (slice_get parents property) property values
+
+-- one property has its value in the other list
+replaced_here : (parents values : List Value) (k : ℕ) (d : Value) (found : Option Value) → slice_get parents k ≡ found → k < length parents → k < length values → get_or (replaced found k values) k d ≡ get_or parents k d
+replaced_here parents values k d None h lt within = absurd (none-some _ (sym h ∙ slice_get-get_or parents k d lt))
+replaced_here parents values k d (Some value) h lt within =
+    get_or-set_same values k value d within ∙ sym (get_or_from_slice_get parents k value d h)
+
+-- each other one keeps its own
+replaced_other : (values : List Value) (k property : ℕ) (d : Value) (found : Option Value) → (k ≡ property → ⊥) → get_or (replaced found property values) k d ≡ get_or values k d
+replaced_other values k property d None ne = refl
+replaced_other values k property d (Some value) ne = get_or-set_other values property k value d ne
+
+replaced_at : (parents values : List Value) (k property : ℕ) (d : Value) (test : Bool) → (k == property) ≡ test → k < length parents → k < length values → get_or (with_value_in parents property values) k d ≡ (if test then get_or parents k d else get_or values k d)
+replaced_at parents values k property d true h lt within =
+    ap (λ p. get_or (with_value_in parents p values) k d) (sym (eqb-true k property h))
+    ∙ replaced_here parents values k d (slice_get parents k) refl lt within
+replaced_at parents values k property d false h lt within =
+    replaced_other values k property d (slice_get parents property) (eqb-false k property h)
+
+either : (one other : Bool) (x y : Value) → (if other then x else (if one then x else y)) ≡ (if one || other then x else y)
+either true true x y = refl
+either true false x y = refl
+either false true x y = refl
+either false false x y = refl
+
+-- the value of each property
+with_values_at : (parents : List Value) (properties : List ℕ) (values : List Value) (k : ℕ) (d : Value) → k < length parents → k < length values → get_or (with_values_in parents properties values) k d ≡ (if is_among k properties then get_or parents k d else get_or values k d)
+with_values_at parents [] values k d lt within = refl
+with_values_at parents (property ∷ properties) values k d lt within =
+    let next : List Value = with_value_in parents property values in
+    let more : k < length next = omega (arith, within, length-replaced (slice_get parents property) property values) in
+    with_values_at parents properties next k d lt more
+    ∙ (ap (λ v. if is_among k properties then get_or parents k d else v) (replaced_at parents values k property d (k == property) refl lt within)
+    ∙ either (k == property) (is_among k properties) (get_or parents k d) (get_or values k d))
+
+-- which properties are inherited
+all_among : map (λ k. is_among k inherited_properties) (range_with_len 0 40) ≡ map (λ (row : Row). row.inherited) table
+unfolding table
+all_among = refl
+
+among_is : (k : ℕ) → k < length table → is_among k inherited_properties ≡ (get_or table k color_row).inherited
+among_is k lt =
+    sym (get_or-map-range_with_len (λ k. is_among k inherited_properties) 0 40 k k false (omega (arith, length-table)) (omega arith))
+    ∙ (ap (λ l. get_or l k false) all_among ∙ get_or-map (λ (row : Row). row.inherited) table k color_row false lt)
+
+-- the initial values with the inherited ones of the parent
+pub all_inherited : (parents : List Value) → length parents ≡ length table → with_values_in parents inherited_properties initial_style.values ≡ inherited_values table parents
+all_inherited parents h =
+    let long : length initial_style.values ≡ length table = length-map table (λ (row : Row). row.initial) in
+    let same : length (with_values_in parents inherited_properties initial_style.values) ≡ length (inherited_values table parents) =
+    length-with_values parents inherited_properties initial_style.values ∙ (long ∙ sym (length-inherited table parents h ∙ h)) in
+    same_lists _ _ same (λ k d lt.
+    let row : Row = get_or table k color_row in
+    let in_table : k < length table = omega (arith, lt, long, length-with_values parents inherited_properties initial_style.values) in
+    let in_parents : k < length parents = omega (arith, in_table, h) in
+    let initial : get_or initial_style.values k d ≡ row.initial = get_or-map (λ (row : Row). row.initial) table k color_row d in_table in
+    let here : slice_get (inherited_values table parents) k ≡ Some (if row.inherited then get_or parents k d else row.initial) =
+    inherited-at table parents k row (slice_get-get_or table k color_row in_table)
+    ∙ ap (option_map (λ v. if row.inherited then v else row.initial)) (slice_get-get_or parents k d in_parents) in
+    with_values_at parents inherited_properties initial_style.values k d in_parents (omega (arith, in_table, long))
+    ∙ (ap (λ b. if b then get_or parents k d else get_or initial_style.values k d) (among_is k in_table)
+    ∙ (ap (λ v. if row.inherited then get_or parents k d else v) initial
+    ∙ sym (get_or_from_slice_get (inherited_values table parents) k _ d here))))
+
+-- the properties of the code from an index on
+pub inherits_next : (ids : List PropId) (parents values next all : List Value) (i : ℕ) (d : PropId) → map property_of ids ≡ inherited_properties → i < length ids → next ≡ with_value_in parents (property_of (get_or ids i d)) values → with_values_in parents (drop i inherited_properties) values ≡ all → with_values_in parents (drop (i + 1) inherited_properties) next ≡ all
+inherits_next ids parents values next all i d same lt is old =
+    let property : ℕ = property_of (get_or ids i d) in
+    let within : i < length inherited_properties = omega (arith, length-map ids property_of, ap length same) in
+    let here : get_or inherited_properties i property ≡ property =
+    ap (λ l. get_or l i property) (sym same) ∙ get_or-map property_of ids i d property lt in
+    ap (with_values_in parents (drop (i + 1) inherited_properties)) is
+    ∙ (ap (λ p. with_values_in parents (drop (i + 1) inherited_properties) (with_value_in parents p values)) (sym here)
+    ∙ (ap (λ l. with_values_in parents l values) (sym (drop_more inherited_properties i property within)) ∙ old))
+
+pub inherits_last : (ids : List PropId) (parents values all : List Value) (i : ℕ) → map property_of ids ≡ inherited_properties → length ids ≤ i → with_values_in parents (drop i inherited_properties) values ≡ all → values ≡ all
+inherits_last ids parents values all i same past old =
+    ap (λ l. with_values_in parents l values) (sym (drop_all i inherited_properties (omega (arith, length-map ids property_of, ap length same)))) ∙ old

@@ -1,3 +1,5 @@
-pub mod StyleLemmas
-pub mod InitialLemmas
+pub mod ColumnLemmas
+pub mod ColumnTests
+pub mod AdjustLemmas
 pub mod InheritedLemmas
+pub mod TextLemmas

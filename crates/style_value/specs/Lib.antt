@@ -1,1 +1,3 @@
 pub mod KeptText
+pub mod ColumnView
+pub mod StyleText

@@ -1,37 +1,35 @@
 //! A style that is being made.
 
-ghost use Rattle.std.specs.Prelude.{◌≡◌, ◌<◌, Some, IfOk, length, slice_get, slice_set};
-ghost use Rattle.value_model.specs.Table.{display_property, table};
-ghost use Rattle.value_model.specs.Style.{blockified, inherited_part, initial_style, with_changed};
+ghost use Rattle.std.specs.Prelude.{◌≡◌, Some, IfOk, length, slice_get, slice_set};
+ghost use Rattle.value_model.specs.Table.{table};
+ghost use Rattle.value_model.specs.Style.{adjusted, inherited_part, initial_style};
 ghost use Rattle.property_table.specs.View.{property_of, value_of};
 
-use crate::{Custom, Style, blockified};
-use property_table::{COUNT, PropId, Row, Value};
+use crate::columns::Columns;
+use crate::text::values_text;
+use crate::{Custom, Style};
+use property_table::{PropId, Value};
 use std::alloc::Global;
 use std::marker::Model;
 use stylo_base::NoMemory;
 
 /// A value for each property, and custom properties, on the way to a style: the cascade begins with
-/// what an element takes from its parent, sets the values, and finishes the draft as a style.
+/// what an element takes from its parent, sets the values, adjusts them, and finishes the draft as a
+/// style.
 #[derive(Debug, Drop)]
 pub struct StyleDraft {
-    values: [Value; COUNT],
+    columns: Columns,
     custom: Custom,
 }
 
 impl Model for StyleDraft {
-    ghost use Rattle.std.specs.Prelude.{◌≡◌, length, map};
     ghost use Rattle.value_model.specs.Style as model;
-    ghost use Rattle.value_model.specs.Table.{table};
-    ghost use Rattle.property_table.specs.View.{value_of};
 
     ghost Value = { model.Style };
 
     ghost coded = { model.style_code };
 
-    ghost view = { λ s. record { values = map value_of s.values; custom = s.custom } };
-
-    ghost invariant = { λ s. length s.values ≡ length table };
+    ghost view = { λ s. record { values = s.columns; custom = s.custom } };
 }
 
 impl StyleDraft {
@@ -40,7 +38,7 @@ impl StyleDraft {
         ensures { result ≡ initial_style }
     {
         StyleDraft {
-            values: std::array::from_fn(initial_at),
+            columns: Columns::initial(),
             custom: Custom::none(),
         }
     }
@@ -50,16 +48,10 @@ impl StyleDraft {
     pub fn inheriting(_alloc: Global, parent: &Style) -> Result<StyleDraft, NoMemory>
         ensures { IfOk result (λ draft. draft ≡ inherited_part parent.now) }
     {
-        let mut draft = StyleDraft {
-            values: parent.values,
-            custom: parent.custom.share()?,
-        };
-        for row in Row::all() {
-            if !row.inherited {
-                draft.set(row.id, row.initial);
-            }
-        }
-        Ok(draft)
+        Ok(StyleDraft {
+            columns: Columns::inheriting(parent.columns()),
+            custom: parent.custom().share()?,
+        })
     }
 
     /// The value of a property.
@@ -67,7 +59,7 @@ impl StyleDraft {
         ensures value { slice_get self.now.values (property_of id) ≡ Some (value_of result) }
         ensures all { length self.now.values ≡ length table }
     {
-        self.values[id.row()]
+        self.columns.value(id)
     }
 
     /// Gives a property a value.
@@ -75,7 +67,7 @@ impl StyleDraft {
         ensures { let values = slice_set self.old.values (property_of id) (value_of value) in
             self.new ≡ record self.old { values = values } }
     {
-        self.values[id.row()] = value;
+        self.columns.set(id, value);
     }
 
     /// Replaces the custom properties.
@@ -85,27 +77,19 @@ impl StyleDraft {
         self.custom = custom;
     }
 
-    /// Makes the element a block.
-    pub fn blockify(&mut self)
-        ensures { self.new ≡ with_changed blockified display_property self.old }
+    /// Adjusts the values: an absolutely positioned box does not float, it, a floating one and the
+    /// root are blocks on the outside, and a border of the style `none` or `hidden` has no width.
+    pub fn adjust(&mut self, is_root: bool)
+        ensures { self.new ≡ record self.old { values = adjusted is_root self.old.values } }
     {
-        let display = self.value(PropId::Display);
-        self.set(PropId::Display, blockified(display));
+        self.columns.adjust(is_root);
     }
 
-    /// The style with these values.
-    pub fn finish(self, _alloc: Global) -> Result<Style, NoMemory>
+    /// The style with these values. It takes memory only for the text of those that are printed.
+    pub fn finish(self, alloc: Global) -> Result<Style, NoMemory>
         ensures { IfOk result (λ s. s ≡ self) }
     {
-        let StyleDraft { values, custom } = self;
-        Ok(Style { values, custom })
+        let text = values_text(alloc, &self.columns)?;
+        Ok(Style::of_parts(self.columns, self.custom, text))
     }
-}
-
-/// The initial value of the property of a row of the table.
-fn initial_at(row: usize) -> Value
-    requires { row < COUNT }
-    ensures { slice_get initial_style.values row ≡ Some (value_of result) }
-{
-    Row::all()[row].initial
 }

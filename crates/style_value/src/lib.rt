@@ -1,12 +1,14 @@
-//! The style of an element: a value for each property of the table, and custom properties.
+//! The style of an element: a value for each property of the table, custom properties, and how the
+//! values are printed.
 #![tactic(auto)]
 
-mod blockify;
+mod adjust;
+mod columns;
 mod custom;
 mod draft;
 mod style;
+mod text;
 
-pub use blockify::blockified;
 pub use custom::Custom;
 pub use draft::StyleDraft;
 pub use style::Style;

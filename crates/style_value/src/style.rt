@@ -2,37 +2,40 @@
 //! its custom properties.
 
 ghost use Rattle.std.specs.Prelude.{◌≡◌, ◌↔◌, Some, IfOk, IsTrue, length, slice_get};
+ghost use Rattle.std.specs.Str.{chars};
 ghost use Rattle.value_model.specs.Table.{table};
-ghost use Rattle.value_model.specs.Style.{inherited_part, initial_style};
+ghost use Rattle.value_model.specs.Style.{font_size_of, font_weight_of, inherited_part, initial_style};
 ghost use Rattle.property_table.specs.View.{property_of, value_of};
+ghost use Rattle.style_value.specs.StyleText.{longhands_text, values_text};
 
+use crate::columns::Columns;
 use crate::{Custom, StyleDraft};
-use property_table::{COUNT, PropId, Value};
+use property_table::{PropId, Value};
 use std::alloc::Global;
 use std::marker::Model;
-use stylo_base::NoMemory;
+use stylo_base::{Fixed, NoMemory, Text};
 
-/// A value for each property of the table, and custom properties. It does not change: a `StyleDraft`
-/// does, and is finished as a style.
+/// A value for each property of the table, custom properties, and the text of the values that are
+/// printed. It does not change: a `StyleDraft` does, and is finished as a style.
 #[derive(Debug, Drop)]
 pub struct Style {
-    pub(crate) values: [Value; COUNT],
-    pub(crate) custom: Custom,
+    columns: Columns,
+    custom: Custom,
+    body: Text,
 }
 
 impl Model for Style {
-    ghost use Rattle.std.specs.Prelude.{◌≡◌, length, map};
+    ghost use Rattle.std.specs.Prelude.{◌≡◌};
     ghost use Rattle.value_model.specs.Style as model;
-    ghost use Rattle.value_model.specs.Table.{table};
-    ghost use Rattle.property_table.specs.View.{value_of};
+    ghost use Rattle.style_value.specs.StyleText.{values_text};
 
     ghost Value = { model.Style };
 
     ghost coded = { model.style_code };
 
-    ghost view = { λ s. record { values = map value_of s.values; custom = s.custom } };
+    ghost view = { λ s. record { values = s.columns; custom = s.custom } };
 
-    ghost invariant = { λ s. length s.values ≡ length table };
+    ghost invariant = { λ s. s.body ≡ values_text s.columns };
 }
 
 impl Style {
@@ -41,6 +44,18 @@ impl Style {
         ensures { IfOk result (λ s. s ≡ initial_style) }
     {
         StyleDraft::initial().finish(alloc)
+    }
+
+    /// The style with these values, which are printed as `body`.
+    pub(crate) fn of_parts(columns: Columns, custom: Custom, body: Text) -> Style
+        requires { body ≡ values_text columns }
+        ensures { result ≡ record { values = columns; custom = custom } }
+    {
+        Style {
+            columns,
+            custom,
+            body,
+        }
     }
 
     /// The style in which each inherited property keeps its value, and each other one has its
@@ -56,7 +71,14 @@ impl Style {
         ensures value { slice_get self.now.values (property_of id) ≡ Some (value_of result) }
         ensures all { length self.now.values ≡ length table }
     {
-        self.values[id.row()]
+        self.columns.value(id)
+    }
+
+    /// The values.
+    pub(crate) fn columns(&self) -> &Columns
+        ensures { result.now ≡ self.now.values }
+    {
+        &self.columns
     }
 
     /// The custom properties.
@@ -66,10 +88,38 @@ impl Style {
         &self.custom
     }
 
+    /// The declarations of the properties whose value is not the standing one, as they are printed:
+    /// `name: value`, in the order of the table, with `; ` between.
+    pub fn text(&self) -> &str
+        ensures { chars result.now ≡ longhands_text self.now }
+    {
+        self.body.as_str()
+    }
+
+    /// The font size, in pixels.
+    pub fn font_size(&self) -> Fixed
+        ensures { result ≡ font_size_of self.now.values }
+    {
+        match self.value(PropId::FontSize) {
+            Value::Pixels(size) => size,
+            _ => Fixed::clamp(16_000),
+        }
+    }
+
+    /// The font weight.
+    pub fn font_weight(&self) -> Fixed
+        ensures { result ≡ font_weight_of self.now.values }
+    {
+        match self.value(PropId::FontWeight) {
+            Value::Number(weight) => weight,
+            _ => Fixed::clamp(400_000),
+        }
+    }
+
     /// Whether the two have the same values, those of custom properties too.
     pub fn is_same(&self, other: &Style) -> bool
         ensures { IsTrue result ↔ (self.now ≡ other.now) }
     {
-        self.values == other.values && self.custom.is_same(&other.custom)
+        self.columns.is_same(&other.columns) && self.custom.is_same(&other.custom)
     }
 }

@@ -1,3 +1,5 @@
 pub mod HexLemmas
-pub mod PlainLemmas
+pub mod RgbLemmas
 pub mod TableLemmas
+pub mod WordLemmas
+pub mod TakenLemmas

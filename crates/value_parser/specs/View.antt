@@ -1,41 +1,39 @@
--- What a row of the code's table of names and a declaration stand for, and what is asked of a list of tokens.
-use Rattle.std.specs.Prelude.{List, [], ◌∷◌, Bool, Option, Some, None}
-use Rattle.std.specs.List.{list_any}
+-- What rows of the code's tables of names and units stand for, and what is asked of a list of tokens.
+use Rattle.std.specs.Prelude.{List, [], ◌∷◌, pos, int_lt, unsigned_abs, Bool, true, Option, Some, None}
 use Rattle.std.specs.Str.{chars}
+use Rattle.base_model.specs.Text.{ascii_lower, same_text}
 use Rattle.syntax_model.specs.Token.{Token}
-use Rattle.custom_model.specs.Parts.{is_function}
 use Rattle.value_model.specs.Color.{NamedColor}
-use Rattle.sheet_model.specs.Declared as model
-use Rattle.css_tokens.specs.View.{wide_of}
-use Rattle.property_table.specs.View.{color_of, property_of, value_of}
+use Rattle.value_model.specs.Table.{ValueForm, named}
+use Rattle.sheet_model.specs.ValueIn as model
+use Rattle.property_table.specs.View.{color_of}
 use Rattle.value_parser.specs.declared.named.Named.{Named}
-use Rattle.value_parser.specs.declared.declared.Target.{Target}
-use Rattle.value_parser.specs.declared.declared.Target.TheVariants.{Longhand, Custom}
-use Rattle.value_parser.specs.declared.declared.Given.{Given}
-use Rattle.value_parser.specs.declared.declared.Given.TheVariants.{Wide, Exactly, Referring, Holding}
-use Rattle.value_parser.specs.declared.declared.Declared.{Declared}
+use Rattle.value_parser.specs.declared.unit.Unit.{Unit}
+use Rattle.value_parser.specs.declared.unit.Measure.{Measure}
+use Rattle.value_parser.specs.declared.unit.Measure.TheVariants.{Pixel, Element, Root}
 
 abbrev pub named_seen : Named → NamedColor
 named_seen row = record { name = chars row.name.now; color = color_of row.color }
+
+abbrev pub measure_seen : Measure → model.Measure
+measure_seen (Pixel parts of) = model.of_pixel parts (unsigned_abs of)
+measure_seen Element = model.of_element
+measure_seen Root = model.of_root
+
+abbrev pub unit_seen : Unit → model.Unit
+unit_seen row = record { name = chars row.name.now; measure = measure_seen row.measure }
+
+-- whether the parts of a pixel, where there are any, are of more than none
+abbrev pub has_divisor : Measure → Bool
+has_divisor (Pixel parts of) = int_lt (pos 0) of
+has_divisor measure = true
+
+-- whether the word of a form, where it has one, is in lower case
+abbrev pub is_lower : ValueForm → Bool
+is_lower (named text read) = same_text (ascii_lower text) text
+is_lower form = true
 
 -- the token, where it is alone
 abbrev pub only : List Token → Option Token
 only (token ∷ []) = Some token
 only tokens = None
-
--- whether some token is a function
-abbrev pub has_function : List Token → Bool
-has_function tokens = list_any (λ token. is_function token.kind) tokens
-
-abbrev pub target_of : Target → model.Target
-target_of (Longhand property) = model.longhand (property_of property)
-target_of (Custom name) = model.custom name
-
-abbrev pub given_of : Given → model.Given
-given_of (Wide wide) = model.wide (wide_of wide)
-given_of (Exactly value) = model.exactly (value_of value)
-given_of (Referring property value) = model.referring (property_of property) value
-given_of (Holding value) = model.holding value
-
-abbrev pub declared_of : Declared → model.Declared
-declared_of d = record { target = target_of d.target; given = given_of d.given; important = d.important }

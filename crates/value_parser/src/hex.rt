@@ -4,10 +4,10 @@ ghost use Rattle.std.specs.Prelude.{◌≡◌, ◌<◌, IsTrue, true, option_map
 ghost use Rattle.std.specs.Char.{digit_value, is_ascii_hexdigit};
 ghost use Rattle.std.specs.List.{AllPass, list_all};
 ghost use Rattle.std.specs.Str.{chars};
-ghost use Rattle.value_model.specs.Color.{opaque};
 ghost use Rattle.property_table.specs.View.{color_of};
 ghost use Rattle.value_model.specs.HexColor.{doubled, hex_color, pair};
 
+use crate::color::opaque;
 use property_table::Color;
 
 /// The colour of the digits after a `#`.
@@ -40,18 +40,6 @@ fn color_of_digits(digits: &[u8]) -> Option<Color>
             alpha: pair(*a, *d),
         }),
         _ => None,
-    }
-}
-
-// The colour where no digits say its alpha.
-fn opaque(red: u8, green: u8, blue: u8) -> Color
-    ensures { color_of result ≡ opaque red green blue }
-{
-    Color {
-        red,
-        green,
-        blue,
-        alpha: u8::MAX,
     }
 }
 

@@ -1,17 +1,23 @@
-//! Reads tokens as a value of a property (css-color-4, sections 4 to 6, and the property's own
-//! section), or as one of a custom property (css-variables-1, section 2).
+//! Reads tokens as a value of a property (css-values-4, sections 2 and 5 to 6; css-color-4, sections
+//! 4 to 6, and the property's own section), or as a CSS-wide keyword (css-cascade-5, section 7.3).
 //!
-//! In this profile a value is one token: a keyword that the property takes, or a colour. What takes
-//! memory is what keeps tokens: values of custom properties, and values that refer to them.
+//! A value is a word or a colour, or a length, a percentage or a number, which are read in
+//! thousandths. Nothing here takes memory.
 #![tactic(auto)]
 
 mod color;
-mod declared;
 mod hex;
-mod keyword;
+mod length;
 mod named;
+mod number;
 mod one_token;
 mod property_value;
+mod rgb;
+mod taken;
+mod unit;
+mod wide;
+mod word;
 
-pub use declared::{Declared, Given, Target, custom_declared_value, declared_value, wide_keyword};
 pub use property_value::value;
+pub use taken::are_taken;
+pub use wide::wide_keyword;

@@ -31,8 +31,8 @@ pub fn hash_of(tokens: &[Token]) -> Option<&Text>
     }
 }
 
-// The token, where it is alone.
-fn only_token(tokens: &[Token]) -> Option<&Token>
+/// The token, where it is alone.
+pub fn only_token(tokens: &[Token]) -> Option<&Token>
     ensures { option_copied result ≡ only tokens.now }
 {
     let mut cursor = Cursor::new(tokens);

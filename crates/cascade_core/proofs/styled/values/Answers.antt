@@ -1,54 +1,94 @@
-use Rattle.std.proofs.Common.{◌≡◌, List, ◌++◌, map, get_or, arith, ap, sym, ◌∙◌}
+use Rattle.std.proofs.Common.{◌≢◌, ◌≡◌, ◌<◌, ◌*◌, ◌^◌, ◌%◌, ℕ, ℤ, Bool, List, Some, map, get_or, length, set, if◌then◌else◌, arith, ap, sym, subst, ◌∙◌}
 use Rattle.std.specs.FinMap as finmap
-use Rattle.std.proofs.lemmas.Option.{MatchOption-at_some}
+use Rattle.std.specs.Int.{bit_at, bit_not, trailing_zeros, w64}
+use Rattle.std.specs.Int.RustNames.{bit_and}
+use Rattle.std.specs.Prelude.{slice_get}
+use Rattle.std.proofs.lemmas.Nat.Bits.{bit_at-trailing_zeros}
 use Rattle.custom_model.specs.Expand.{Lookup}
-use Rattle.value_model.specs.Style.{Style}
-use Rattle.value_model.proofs.ByRow.{filled_all}
-use Rattle.property_table.specs.View.{property_of, value_of}
-use Rattle.property_table.proofs.RowLemmas.{length-rows}
-use Rattle.cascade_model.specs.Key as model
-use Rattle.cascade_model.specs.Ending.{ending}
+use Rattle.value_model.specs.Value.{Value, pixels}
+use Rattle.value_model.specs.Table.{table, font_size_property}
+use Rattle.value_model.specs.Style.{Style, inherited_part, inherited_values, font_size_of, font_weight_of}
+use Rattle.property_table.specs.View.{row_seen, value_of}
+use Rattle.property_table.specs.declared.property.Row.{Row}
+use Rattle.property_table.proofs.RowLemmas.{length-rows, row_at, property_at}
+use Rattle.cascade_model.specs.Key.{Matched}
+use Rattle.cascade_model.specs.Ending.{Ending, ending}
+use Rattle.cascade_model.specs.Cascade.{Sizes, own_size, sizes, value_at}
+use Rattle.cascade_core.specs.CameView.{Reading}
 use Rattle.cascade_core.specs.EndingView.{ending_seen}
-use Rattle.cascade_core.specs.View.{matched_of}
-use Rattle.cascade_core.proofs.FilledLemmas.{sets_one, unsets_one, still_parents, length-values, values-within}
+use Rattle.cascade_core.proofs.FilledLemmas.{IsPartly, the_sizes, partly_first, partly_next, partly_all, cleared_less}
+use mir.Val.{Fits}
+use Rattle.cascade_core.proofs.WonLemmas.{short_table}
 use Rattle.cascade_core.proofs.styled.values.Goals as goal
-use Rattle.cascade_core.proofs.styled.values.Goals.{in-Some, in-None+in_ok-ending-in-None, in-Some-value_at, in_default}
+use Rattle.cascade_core.proofs.styled.values.Goals.{then-is_root, else-is_root}
 
-pub loop-row-init : goal.loop-row-init
-loop-row-init c = (
-  record {
-    long = length-values (finmap.get c.args.custom.now) (map matched_of (c.args.matched.now ++ c.args.attached.now)) c.args.parent.now.values;
-    filled = ap (λ (s : Style). s.values) c.in_ok-draft.ensures;
-  },
-  ap (λ (s : Style). s.custom) c.in_ok-draft.ensures,
-)
+-- the values that are left, where they and the row whose bit is cleared are known
+moved : (custom : Lookup) (is_root : Bool) (parents : List Value) (root_size : ℤ) (ds : List Matched) (vs ws : List Value) (rest r q : ℕ) → vs ≡ ws → r ≡ q → IsPartly custom is_root parents root_size ds ws (bit_and rest (bit_not w64 (1 * 2 ^ q % 2 ^ 64))) → IsPartly custom is_root parents root_size ds vs (bit_and rest (bit_not w64 (1 * 2 ^ r % 2 ^ 64)))
+moved custom is_root parents root_size ds vs ws rest r q same at partly =
+    subst (λ l. IsPartly custom is_root parents root_size ds l (bit_and rest (bit_not w64 (1 * 2 ^ r % 2 ^ 64)))) (sym same) (subst (λ k. IsPartly custom is_root parents root_size ds ws (bit_and rest (bit_not w64 (1 * 2 ^ k % 2 ^ 64)))) (sym at) partly)
 
-pub loop-row-preserved : goal.loop-row-preserved
-loop-row-preserved c =
-    let values : Lookup = finmap.get c.args.custom.now in
-    let ds : List model.Matched = map matched_of (c.args.matched.now ++ c.args.attached.now) in
-    let rows = c.all-row-items.ensures in
-    let within = c.loop-row-test.true in
-    let ends : ending values (property_of (get_or c.all-row-items.result.now c.loop-row.row-index _).id) ds ≡ ending_seen value_of c.match-branch-3.ending = elim c.match-branch-3.branch [
-      | in-Some w ↦ sym (ap (ending_seen value_of) w.ending-is ∙ MatchOption-at_some _ (λ e. ending_seen value_of e ≡ ending values _ ds) _ w.in-Some.is (c.in_ok-ending.ensures ds c.requires))
-      | in-None+in_ok-ending-in-None w ↦ sym (ap (ending_seen value_of) w.ending-is ∙ w.in_ok-ending-in-None.ensures)
+pub loop-rest-init : goal.loop-rest-init
+loop-rest-init c =
+    let custom : Lookup = finmap.get c.args.custom.now in
+    let parents : List Value = c.args.parent.now.values in
+    let first = partly_first custom c.args.is_root parents c.args.root_size c.args.applied.now c.size_of.ensures.all c.declared.result c.declared.ensures.rows (c.declared.ensures.others custom) in
+    let own : c.in_ok-own.own ≡ own_size custom parents c.args.root_size c.args.applied.now = c.in_ok-own.ensures.size
+    ∙ ap (λ (r : Reading). own_size (finmap.get r.custom) parents c.args.root_size c.args.applied.now) c.over-longhands.ensures in
+    let was : c.set.new.self ≡ record (inherited_part c.args.parent.now) { values = set (inherited_values table parents) font_size_property (pixels c.in_ok-own.own) } = c.set.ensures ∙ ap (λ (s : Style). record s { values = set s.values font_size_property (pixels c.in_ok-own.own) }) c.in_ok-draft.ensures in (
+      moved custom c.args.is_root parents c.args.root_size c.args.applied.now c.set.new.self.values _ c.declared.result c.row.result font_size_property (ap (λ (s : Style). s.values) was ∙ ap (λ z. set (inherited_values table parents) font_size_property (pixels z)) own) c.row.ensures.row first,
+      ap (λ (s : Style). s.custom) was,
+      ap (λ (r : Reading). r.custom) (c.size_of.ensures.same ∙ c.over-longhands.ensures),
+    )
+
+-- the lowest bit of a number that is not 0 is set
+lowest_set : (n : ℕ) → (n ≢ 0) → Fits w64 n → bit_at n (trailing_zeros w64 n) ≡ 1
+lowest_set n some fits =
+    let (below, is_set, lowest) = bit_at-trailing_zeros w64 n (omega (arith, some)) (omega (arith, fits)) in is_set
+
+pub bounds-all-rest : goal.bounds-all-rest
+bounds-all-rest c =
+    omega (arith, c.loop-rest.invariant.0.rows _ (lowest_set c.loop-rest.rest c.loop-rest-test.true c.loop-rest.auto.rest-fits), length-rows _ c.all.ensures.rows)
+
+pub loop-rest-smaller : goal.loop-rest-smaller
+loop-rest-smaller c =
+    let is_set = lowest_set c.loop-rest.rest c.loop-rest-test.true c.loop-rest.auto.rest-fits in
+    let in_table = c.loop-rest.invariant.0.rows _ is_set in
+    let within : trailing_zeros w64 c.loop-rest.rest < length c.all.result.now = omega (arith, in_table, length-rows _ c.all.ensures.rows) in
+    let at = c.row-in-loop-rest.ensures.row ∙ property_at _ _ _ c.all.ensures.order within in
+    cleared_less c.loop-rest.rest c.row-in-loop-rest.result (omega (arith, at, in_table, short_table)) (ap (bit_at c.loop-rest.rest) at ∙ is_set)
+
+-- the row at the index gives the value there
+next_row : (custom : Lookup) (is_root : Bool) (parents : List Value) (root_size : ℤ) (ds : List Matched) (full : length parents ≡ length table) (values : List Value) (rest : ℕ) (rows : List Row) (q : ℕ) (d : Row) (x v : Value) (size weight : ℤ) (z : Sizes) (e : Ending Value) → x ≡ value_at (row_seen (get_or rows q d)) v size weight z e → map row_seen rows ≡ table → q < length rows → bit_at rest q ≡ 1 → slice_get parents q ≡ Some v → size ≡ font_size_of parents → weight ≡ font_weight_of parents → z ≡ the_sizes custom is_root parents root_size ds → e ≡ ending custom q ds → IsPartly custom is_root parents root_size ds values rest → IsPartly custom is_root parents root_size ds (set values q x) (bit_and rest (bit_not w64 (1 * 2 ^ q % 2 ^ 64)))
+next_row custom is_root parents root_size ds full values rest rows q d x v size weight z e is all within is_set here is_size is_weight are_sizes ends partly =
+    partly_next custom is_root parents root_size ds full values rest q (row_seen (get_or rows q d)) x v is_set (row_at rows q d all within) here (is ∙ (λ i. value_at (row_seen (get_or rows q d)) v (is_size i) (is_weight i) (are_sizes i) (ends i))) partly
+
+pub loop-rest-preserved : goal.loop-rest-preserved
+loop-rest-preserved c =
+    let custom : Lookup = finmap.get c.args.custom.now in
+    let parents : List Value = c.args.parent.now.values in
+    let ds : List Matched = c.args.applied.now in
+    let q : ℕ = trailing_zeros w64 c.loop-rest.rest in
+    let is_set = lowest_set c.loop-rest.rest c.loop-rest-test.true c.loop-rest.auto.rest-fits in
+    let within : q < length c.all.result.now = omega (arith, c.loop-rest.invariant.0.rows _ is_set, length-rows _ c.all.ensures.rows) in
+    let at = property_at c.all.result.now q _ c.all.ensures.order within in
+    let ends : ending_seen value_of c.in_ok-ending.ending ≡ ending custom q ds = c.in_ok-ending.ensures.ending
+    ∙ ap (λ (r : Reading). ending (finmap.get r.custom) r.property ds) (c.read_as.ensures
+    ∙ (λ i. record { custom = c.loop-rest.invariant.2 i; property = at i })) in
+    let own : c.in_ok-own.own ≡ own_size custom parents c.args.root_size ds = c.in_ok-own.ensures.size
+    ∙ ap (λ (r : Reading). own_size (finmap.get r.custom) parents c.args.root_size ds) c.over-longhands.ensures in
+    let root : c.if-is_root.sizes ≡ (if c.args.is_root then own_size custom parents c.args.root_size ds else c.args.root_size) = elim c.if-is_root.branch [
+      | then-is_root w ↦ w.sizes-is ∙ (λ i. if sym w.if-is_root.true i then own i else c.args.root_size)
+      | else-is_root w ↦ w.sizes-is ∙ (λ i. if sym w.if-is_root.false i then own i else c.args.root_size)
     ] in
-    elim c.match-value_at.branch [
-      | in-Some-value_at w ↦ (
-        sets_one values ds c.args.parent.now.values _ _ _ rows.rows rows.order within _ _ _ _ ends (MatchOption-at_some _ _ _ w.in-Some-value_at.is c.value_at.ensures.sets) (w.draft-is ∙ w.set.ensures) c.loop-row.invariant.0,
-        still_parents _ _ _ _ _ (w.draft-is ∙ w.set.ensures) c.loop-row.invariant.1,
-      )
-      | in_default w ↦ (
-        unsets_one values ds c.args.parent.now.values _ _ _ rows.rows rows.order within _ _ (ends ∙ c.value_at.ensures.unset w.in_default.is) w.draft-is c.loop-row.invariant.0,
-        ap (λ (s : Style). s.custom) w.draft-is ∙ c.loop-row.invariant.1,
-      )
-    ]
+    let put = c.set-in-loop-rest.ensures in (
+      moved custom c.args.is_root parents c.args.root_size ds c.set-in-loop-rest.new.self.values _ c.loop-rest.rest c.row-in-loop-rest.result q (ap (λ (s : Style). s.values) put ∙ ap (λ k. set c.loop-rest.draft.values k (value_of c.value_at.result)) at) (c.row-in-loop-rest.ensures.row ∙ at) (next_row custom c.args.is_root parents c.args.root_size ds c.size_of.ensures.all c.loop-rest.draft.values c.loop-rest.rest c.all.result.now q _ _ _ _ _ _ _ c.value_at.ensures c.all.ensures.rows within is_set (ap (slice_get parents) (sym at) ∙ c.over.ensures.value) c.over.ensures.size c.over.ensures.weight (λ i. sizes (own i) (root i)) ends c.loop-rest.invariant.0),
+      ap (λ (s : Style). s.custom) put ∙ c.loop-rest.invariant.1,
+      ap (λ (r : Reading). r.custom) (c.ending.ensures.same ∙ c.read_as.ensures) ∙ c.loop-rest.invariant.2,
+    )
 
 pub returns : goal.returns
 returns c =
-    let values : Lookup = finmap.get c.args.custom.now in
-    let within = values-within values (map matched_of (c.args.matched.now ++ c.args.attached.now)) c.args.parent.now.values in
     λ i. record {
-      values = filled_all _ _ _ c.loop-row.row-index (omega (arith, within, length-rows _ c.all-row-items.ensures.rows, c.loop-row-test.false)) c.loop-row.invariant.0 i;
-      custom = c.loop-row.invariant.1 i;
+      values = partly_all (finmap.get c.args.custom.now) c.args.is_root c.args.parent.now.values c.args.root_size c.args.applied.now c.size_of.ensures.all c.loop-rest.draft.values c.loop-rest.rest c.loop-rest-test.false c.loop-rest.invariant.0 i;
+      custom = c.loop-rest.invariant.1 i;
     }

@@ -1,4 +1,4 @@
-use Rattle.std.proofs.Common.{◌≡◌, ◌<◌, ◌∷◌, ◌+◌, [], None, map, drop, get_or, length, refl, ap, sym, ◌∙◌, append-nil, rules as the_rules}
+use Rattle.std.proofs.Common.{◌≡◌, ◌<◌, ◌∷◌, ◌+◌, [], None, map, drop, get_or, length, refl, ap, sym, ◌∙◌, append-nil, rules as the_rules, flat_map}
 use Rattle.std.proofs.lemmas.List.{drop_all, get_or-map}
 use Rattle.selector_model.specs.Holds.{holds}
 use Rattle.selector_types.specs.View.{selector_of}
@@ -23,8 +23,8 @@ loop-index-preserved c =
     let layers = c.args.sheets.now.layers in
     let f = rule_matched layers (λ s. holds doc s x) in
     let own = rule_of rule list.items in
-    let old = map matched_of c.loop-index.list.items in
-    let new = map matched_of c.match-greatest.list.items in
+    let old = flat_map matched_of c.loop-index.list.items in
+    let new = flat_map matched_of c.match-greatest.list.items in
     let below : i < length rs = search the_rules in
     let within : i < length ls = search the_rules in
     let next : rules_with (drop i rs) (drop i ls) ≡ own ∷ rules_with (drop (i + 1) rs) (drop (i + 1) ls) = rules_at rs ls i rule list below within c.index-rules-index.is c.index-selectors-index.is in
@@ -33,8 +33,8 @@ loop-index-preserved c =
     elim c.match-greatest.branch [
       | in-Some+in_ok-add_declarations w ↦ (let s = w.in-Some.specificity in
           let gives : f own ≡ all_matched layers (rule_of rule []) s own.first_index own.declarations = rule_some layers (λ t. holds doc t x) own s (best ∙ w.in-Some.is) ∙ all_matched-same layers own (rule_of rule []) s own.first_index own.declarations refl refl refl refl in
-          one_more f old new _ _ _ own (all_matched layers (rule_of rule []) s own.first_index own.declarations) next gives (ap (λ v. map matched_of v.items) w.list-is ∙ w.in_ok-add_declarations.ensures layers ranked) c.loop-index.invariant)
-      | in_default w ↦ one_more f old new _ _ _ own [] next (rule_none layers (λ t. holds doc t x) own (best ∙ w.in_default.is)) (ap (λ v. map matched_of v.items) w.list-is ∙ sym (append-nil old)) c.loop-index.invariant
+          one_more f old new _ _ _ own (all_matched layers (rule_of rule []) s own.first_index own.declarations) next gives (ap (λ v. flat_map matched_of v.items) w.list-is ∙ w.in_ok-add_declarations.ensures layers ranked) c.loop-index.invariant)
+      | in_default w ↦ one_more f old new _ _ _ own [] next (rule_none layers (λ t. holds doc t x) own (best ∙ w.in_default.is)) (ap (λ v. flat_map matched_of v.items) w.list-is ∙ sym (append-nil old)) c.loop-index.invariant
     ]
 
 pub returns : goal.returns
@@ -42,5 +42,5 @@ returns c =
     let i = c.loop-index.index in
     let rs = c.rules-rules.result.now in
     let ls = c.selectors-selectors.result.now in
-    matched_all (map matched_of c.loop-index.list.items) c.args.doc.now.elements (sources_seen c.args.sheets.now) (rules_with (drop i rs) (drop i ls)) c.args.x
+    matched_all (flat_map matched_of c.loop-index.list.items) c.args.doc.now.elements (sources_seen c.args.sheets.now) (rules_with (drop i rs) (drop i ls)) c.args.x
     (ap (λ l. rules_with l (drop i ls)) (drop_all i rs c.loop-index-test.false)) c.loop-index.invariant

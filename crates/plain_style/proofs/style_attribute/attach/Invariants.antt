@@ -1,16 +1,16 @@
-use Rattle.std.proofs.Common.{◌≡◌, ◌++◌, map, drop}
+use Rattle.std.proofs.Common.{◌≡◌, ◌++◌, drop}
+use Rattle.std.specs.Prelude.{flat_map}
 use Rattle.base_model.specs.Origin.{author}
 use Rattle.layer_model.specs.Name.{no_layer}
 use Rattle.layer_model.specs.Order.{layer_rank}
 use Rattle.cascade_model.specs.Matching.{all_attached}
 use Rattle.cascade_core.specs.View.{matched_of}
-use Rattle.value_parser.specs.View.{declared_of}
+use Rattle.shorthands.specs.View.{declared_of}
 use Rattle.plain_style.proofs.style_attribute.attach.Given as goal
 
 -- what is attached so far, and what is left, is the whole
 abbrev pub invariant-loop-declared : goal.invariant-loop-declared
 invariant-loop-declared l = record {
-  attached : map matched_of l.attached.items ++ all_attached l.layers l.index (map declared_of (drop l.declared-index l.list)) ≡ all_attached l.layers 0 (map declared_of l.list);
-  index : l.index ≡ l.declared-index;
+  attached : flat_map matched_of l.attached.items ++ all_attached l.layers l.index (flat_map declared_of (drop l.declared-index l.list)) ≡ all_attached l.layers 0 (flat_map declared_of l.list);
   rank : l.rank ≡ layer_rank l.layers author no_layer;
 }

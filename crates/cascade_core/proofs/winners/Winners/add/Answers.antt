@@ -1,19 +1,20 @@
-use Rattle.std.proofs.Common.{true, Some, option_map, option_copied, ap, sym, ◌∙◌, arith}
+use Rattle.std.proofs.Common.{◌≡◌, List, [], ◌∷◌, refl, ◌++◌, map, sym, ap, ◌∙◌, subst, true}
 use Rattle.property_table.specs.View.{property_of}
-use Rattle.property_table.proofs.RowLemmas.{length-table}
-use Rattle.value_parser.specs.View.{target_of}
-use Rattle.cascade_core.specs.View.{matched_of}
-use Rattle.cascade_core.proofs.BestLemmas.{winners-set, still_custom, custom_added}
+use Rattle.cascade_core.specs.View.{entry_of, matched_of}
+use Rattle.cascade_core.specs.Won.{Won, AreWinners}
+use Rattle.std.proofs.lemmas.List.{take_all}
+use Rattle.cascade_core.proofs.EntryLemmas.{matched_longhands}
+use Rattle.cascade_core.proofs.WonLemmas.{put_custom}
 use Rattle.cascade_core.proofs.winners.Winners.add.Goals as goal
 
-pub returns-in_default : goal.returns-in_default
-returns-in_default c = λ ds h.
-    (λ i. record { best = ap (λ w. w.best) (c.self.view_is ∙ h) i; have_custom = true })
-    ∙ sym (custom_added ds (matched_of c.args.d.now) c.in_default.field-0 (ap target_of c.in_default.is))
+map-map : {A B C : Type 0} (f : A → B) (g : B → C) (xs : List A) → map g (map f xs) ≡ map (λ x. g (f x)) xs
+map-map f g [] = refl
+map-map f g (x ∷ xs) = ap (λ l. g (f x) ∷ l) (map-map f g xs)
+
+pub returns-then-is_custom : goal.returns-then-is_custom
+returns-then-is_custom c = λ ds h.
+    subst (λ (w : Won). AreWinners w (ds ++ matched_of c.args.d.now)) (λ i. record (sym c.self.view_is i) { have_custom = true }) (put_custom c.args.self.now ds c.args.d.now (sym c.is_custom.ensures ∙ c.if-is_custom.true) h)
 
 pub returns : goal.returns
 returns c = λ ds h.
-    let target = ap target_of c.in-Longhand.is in
-    let best = winners-set (λ d. option_map matched_of (option_copied d)) c.self.inside.best c.row-row.result c.index-best-row.result (Some c.better_of.result) (matched_of c.args.d.now) (property_of c.in-Longhand.id) ds (ap (λ w. w.best) (c.self.view_is ∙ h)) c.row-row.ensures.row target (omega (arith, length-table, c.row-row.ensures.within)) c.index-best-row.is (c.better_of.ensures ds) in
-    let have_custom = ap (λ w. w.have_custom) (c.self.view_is ∙ h) ∙ sym (still_custom ds (matched_of c.args.d.now) (property_of c.in-Longhand.id) target) in
-    λ i. record { best = best i; have_custom = have_custom i }
+    subst (λ es. AreWinners c.loop-id.self (ds ++ es)) (ap (map (λ id. entry_of (property_of id) c.args.d.now)) (take_all c.loop-id.id-index c.longhands-ids.result.now c.loop-id-test.false) ∙ (sym (map-map property_of (λ p. entry_of p c.args.d.now) c.longhands-ids.result.now) ∙ (ap (map (λ p. entry_of p c.args.d.now)) c.longhands-ids.ensures ∙ sym (matched_longhands c.args.d.now (sym c.is_custom.ensures ∙ c.if-is_custom.false))))) (c.loop-id.invariant ds h)

@@ -1,8 +1,8 @@
 use Rattle.std.proofs.Common.{refl}
-use Rattle.cascade_model.specs.Winner.{winner}
 use Rattle.value_model.specs.Table.{table}
+use Rattle.cascade_core.proofs.WonLemmas.{none_wins}
 use Rattle.cascade_core.proofs.winners.Winners.none.Goals as goal
 
 pub returns : goal.returns
-unfolding winner table
-returns c = refl
+unfolding table
+returns c = none_wins _ refl refl refl refl

@@ -1,0 +1,125 @@
+-- The winner of each property, as declarations come one by one.
+use Rattle.std.proofs.Common.{is_none, lit<, true, is_some, length-set, ◌≡◌, ◌≢◌, ◌==◌, ℕ, zero, suc, ◌<◌, ◌^◌, ◌*◌, ◌%◌, false, List, [], ◌∷◌, ◌++◌, Option, Some, None, slice_get, length, set, option_map, refl, sym, ap, ◌∙◌, ⊎_elim, arith, subst}
+use Rattle.std.specs.Int.{bit_at, w64}
+use Rattle.std.specs.List.{list_all}
+use Rattle.std.specs.Int.RustNames.{bit_or}
+use Rattle.std.proofs.lemmas.Bool.{true≢false, and_parts, cases_eq, eqb-true, false_from_ne_true}
+use Rattle.std.proofs.lemmas.Nat.Bits.{bit_at_set_same, bit_at_set_other, bit_at-zero}
+use Rattle.std.proofs.lemmas.Option.{none-some, same_Some, slice_get_within}
+use Rattle.cascade_model.specs.Key.{Matched}
+use Rattle.cascade_model.specs.Winner.{winner, declares_longhand}
+use Rattle.cascade_model.proofs.WinnerLemmas.{winner_other}
+use Rattle.sheet_model.specs.Declared.{longhand, is_longhand}
+use Rattle.value_model.specs.Table.{table}
+use Rattle.cascade_model.specs.Custom.{custom_name}
+use Rattle.shorthands.specs.declared.declared.Target.{Target}
+use Rattle.shorthands.specs.declared.declared.Target.TheVariants.{Longhand, Shorthand, Custom}
+use Rattle.cascade_core.specs.View.{entry_of, head_of, is_custom_target, is_of_custom, matched_of, name_seen}
+use Rattle.cascade_core.specs.Won.{Won, won, AreWinners}
+use Rattle.cascade_core.specs.declared.matched.Matched as code
+use Rattle.cascade_core.proofs.BestLemmas.{still_custom, custom_added}
+use Rattle.cascade_core.proofs.EntryLemmas.{matched_custom}
+
+pub short_table : length table < 64
+unfolding table
+short_table = lit< tt
+
+module _ {X : Type 0} where
+  pub get-set_other : (xs : List X) (k n : ℕ) (x : X) → n ≢ k → slice_get (set xs k x) n ≡ slice_get xs n
+  get-set_other [] k n x other = refl
+  get-set_other (y ∷ ys) zero zero x other = absurd (other refl)
+  get-set_other (y ∷ ys) zero (suc n) x other = refl
+  get-set_other (y ∷ ys) (suc k) zero x other = refl
+  get-set_other (y ∷ ys) (suc k) (suc n) x other = get-set_other ys k n x (λ same. other (ap suc same))
+
+  pub get-set_same : (xs : List X) (k : ℕ) (x : X) → k < length xs → slice_get (set xs k x) k ≡ Some x
+  get-set_same [] k x within = absurd (omega arith)
+  get-set_same (y ∷ ys) zero x within = refl
+  get-set_same (y ∷ ys) (suc k) x within = get-set_same ys k x (omega arith)
+
+-- a declaration of another property
+declares_other : (p k : ℕ) → k ≢ p → (p == k) ≡ false
+declares_other p k other = false_from_ne_true _ (λ e. other (sym (eqb-true p k e)))
+
+pub won_other : (ds : List Matched) (d : Matched) (q p : ℕ) → d.target ≡ longhand q → p ≢ q → won (ds ++ d ∷ []) p ≡ won ds p
+won_other ds d q p target other = winner_other (declares_longhand p) ds d (ap (is_longhand p) target ∙ declares_other q p other)
+
+module _ {A : Type 0} (seen : ℕ → A → Matched) (ds : List Matched) (d : Matched) (q : ℕ) (target : d.target ≡ longhand q) where
+  abbrev AreBest : List Matched → List (Option A) → Type 0
+  AreBest es best = (p : ℕ) (o : Option A) → slice_get best p ≡ Some o → won es p ≡ option_map (seen p) o
+
+  -- what wins once a declaration is added is kept at the row of its property
+  pub best_put : (best : List (Option A)) (old new : Option A) → AreBest ds best → slice_get best q ≡ Some old → (won ds q ≡ option_map (seen q) old → won (ds ++ d ∷ []) q ≡ option_map (seen q) new) → AreBest (ds ++ d ∷ []) (set best q new)
+  best_put best old new are at wins = λ p o found.
+      ⊎_elim (λ (e : p ≡ q). ap (won (ds ++ d ∷ [])) e ∙ (wins (are q old at)
+      ∙ (ap (option_map (seen q)) (same_Some new o (sym (get-set_same best q new (slice_get_within best q old at)) ∙ (ap (slice_get (set best q new)) (sym e) ∙ found)))
+      ∙ ap (λ k. option_map (seen k) o) (sym e)))) (λ (ne : p ≢ q). won_other ds d q p target ne ∙ are p o (sym (get-set_other best q p new ne) ∙ found)) (cases_eq p q)
+
+  module _ (declared : ℕ) (within : q < 64) where
+    abbrev marked : ℕ
+    marked = bit_or declared (1 * 2 ^ q % 2 ^ 64)
+
+    pub rows_put : q < length table → ((p : ℕ) → bit_at declared p ≡ 1 → p < length table) → (p : ℕ) → bit_at marked p ≡ 1 → p < length table
+    rows_put in_table rows p is =
+        ⊎_elim (λ (e : p ≡ q). subst (λ k. k < length table) (sym e) in_table) (λ (ne : p ≢ q). rows p (sym (bit_at_set_other w64 declared q within p ne) ∙ is)) (cases_eq p q)
+
+    pub others_put : ((p : ℕ) → bit_at declared p ≡ 0 → p < length table → won ds p ≡ None) → (p : ℕ) → bit_at marked p ≡ 0 → p < length table → won (ds ++ d ∷ []) p ≡ None
+    others_put others p is in_table =
+        ⊎_elim (λ (e : p ≡ q). absurd (omega (arith, sym (bit_at_set_same w64 declared q within) ∙ (ap (bit_at marked) (sym e) ∙ is)))) (λ (ne : p ≢ q). won_other ds d q p target ne ∙ others p (sym (bit_at_set_other w64 declared q within p ne) ∙ is) in_table) (cases_eq p q)
+
+-- a declaration of a property is put among the winners
+pub put_one : (w : Won) (ds : List Matched) (q : ℕ) (d new : code.Matched) (old : Option code.Matched) → q < length table → slice_get w.best q ≡ Some old → (won ds q ≡ option_map (entry_of q) old → won (ds ++ entry_of q d ∷ []) q ≡ Some (entry_of q new)) → AreWinners w ds → AreWinners (record { best = set w.best q (Some new); declared = bit_or w.declared (1 * 2 ^ q % 2 ^ 64); have_custom = w.have_custom }) (ds ++ entry_of q d ∷ [])
+put_one w ds q d new old within at wins are = record {
+  long = length-set w.best q (Some new) ∙ are.long;
+  best = best_put entry_of ds (entry_of q d) q refl w.best old (Some new) are.best at wins;
+  rows = rows_put entry_of ds (entry_of q d) q refl w.declared (omega (arith, within, short_table)) within are.rows;
+  others = others_put entry_of ds (entry_of q d) q refl w.declared (omega (arith, within, short_table)) are.others;
+  have_custom = are.have_custom ∙ sym (still_custom ds (entry_of q d) q refl);
+}
+
+not_longhand : (p : ℕ) (target : Target) → is_custom_target target ≡ true → is_longhand p (name_seen target) ≡ false
+not_longhand p (Longhand id) h = absurd (true≢false (sym h))
+not_longhand p (Shorthand short) h = absurd (true≢false (sym h))
+not_longhand p (Custom name) h = refl
+
+is_named : (target : Target) → is_custom_target target ≡ true → is_some (custom_name (name_seen target)) ≡ true
+is_named (Longhand id) h = absurd (true≢false (sym h))
+is_named (Shorthand short) h = absurd (true≢false (sym h))
+is_named (Custom name) h = refl
+
+-- one of a custom property changes nothing for the others
+pub put_custom : (w : Won) (ds : List Matched) (d : code.Matched) → is_of_custom d ≡ true → AreWinners w ds → AreWinners (record w { have_custom = true }) (ds ++ matched_of d)
+put_custom w ds d h are =
+    let same : (p : ℕ) → won (ds ++ head_of d ∷ []) p ≡ won ds p = λ p. winner_other (declares_longhand p) ds (head_of d) (not_longhand p d.declared.now.target h) in
+    subst (λ es. AreWinners (record w { have_custom = true }) (ds ++ es)) (sym (matched_custom d h)) (record {
+      long = are.long;
+      best = λ p o at. same p ∙ are.best p o at;
+      rows = are.rows;
+      others = λ p is within. same p ∙ are.others p is within;
+      have_custom = sym (custom_added ds (head_of d) (is_named d.declared.now.target h));
+    })
+
+is_nothing : {X : Type 0} (o : Option X) → is_none o ≡ true → o ≡ None
+is_nothing None h = refl
+is_nothing (Some x) h = absurd (true≢false (sym h))
+
+-- where nothing wins, nothing is at an index
+none_at : {X : Type 0} (list : List (Option X)) (p : ℕ) (o : Option X) → list_all (λ o. is_none o) list ≡ true → slice_get list p ≡ Some o → o ≡ None
+none_at [] p o all at = absurd (none-some o at)
+none_at (x ∷ xs) zero o all at =
+    sym (same_Some x o at) ∙ is_nothing x (and_parts (is_none x) (list_all (λ o. is_none o) xs) all).0
+none_at (x ∷ xs) (suc p) o all at = none_at xs p o (and_parts (is_none x) (list_all (λ o. is_none o) xs) all).1 at
+
+nothing_won : (p : ℕ) → won [] p ≡ None
+unfolding winner
+nothing_won p = refl
+
+-- of no declarations none wins
+pub none_wins : (w : Won) → length w.best ≡ length table → list_all (λ o. is_none o) w.best ≡ true → w.declared ≡ 0 → w.have_custom ≡ false → AreWinners w []
+none_wins w long none unset absent = record {
+  long = long;
+  best = λ p o at. nothing_won p ∙ ap (option_map (entry_of p)) (sym (none_at w.best p o none at));
+  rows = λ p is. absurd (omega (arith, bit_at-zero p, ap (λ n. bit_at n p) unset, is));
+  others = λ p is within. nothing_won p;
+  have_custom = absent;
+}

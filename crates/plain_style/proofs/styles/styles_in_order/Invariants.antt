@@ -1,0 +1,14 @@
+use Rattle.std.proofs.Common.{◌≡◌, ◌<◌, ℕ, map, take, length, get_or, Some, true}
+use Rattle.std.specs.Arc.{arc_value}
+use Rattle.scene_model.proofs.Numbers.{is_in}
+use Rattle.cascade_model.specs.StyleOf.{style_of}
+use Rattle.sheet_set.specs.View.{sources_seen}
+use Rattle.plain_style.specs.Known.{style_at}
+use Rattle.plain_style.proofs.styles.styles_in_order.Given as goal
+
+abbrev pub invariant-loop-number : goal.invariant-loop-number
+invariant-loop-number l = record {
+  room : (k : ℕ) → k < length l.order → get_or l.order k 0 < length l.places.items;
+  styled : map arc_value l.styles.items ≡ map (style_of l.inputs.doc.now.elements (sources_seen l.inputs.sheets.now)) (take l.number-index l.order);
+  known : (q : ℕ) → is_in q (take l.number-index l.order) ≡ true → style_at (map arc_value l.styles.items) l.places.items q ≡ Some (style_of l.inputs.doc.now.elements (sources_seen l.inputs.sheets.now) q);
+}

@@ -1,0 +1,4 @@
+pub mod View
+pub mod PartsView
+pub mod Digits
+pub mod Blocks

@@ -1,0 +1,216 @@
+//! The values of a style in columns: a byte and a number for each property, without padding.
+
+ghost use Rattle.std.specs.Prelude.{◌≡◌, ◌<◌, ◌≤◌, ◌↔◌, Some, IsTrue, length, map, slice_get, slice_set, take};
+ghost use Rattle.value_model.specs.Table as model;
+ghost use Rattle.value_model.specs.Table.{table};
+ghost use Rattle.value_model.specs.Value as value_model;
+ghost use Rattle.value_model.specs.Value.{same_value};
+ghost use Rattle.value_model.specs.Style.{inherited_values, initial_style};
+ghost use Rattle.property_table.specs.Columns.{value_amount, value_word};
+ghost use Rattle.property_table.specs.View.{property_of, value_of};
+ghost use Rattle.style_value.specs.ColumnView.{initial_values, with_value_in};
+ghost use Rattle.style_value.specs.StyleText.{printed_properties};
+
+use property_table::{COUNT, Keyword, PropId, Row, Value};
+use std::marker::Model;
+use stylo_base::Fixed;
+
+/// The words of values that are no keywords.
+const COLOR: u8 = 37;
+
+const PIXELS: u8 = 38;
+
+const NUMBER: u8 = 40;
+
+/// The word of the initial value of each property, which is that of its standing value too.
+const WORDS: [u8; COUNT] = [
+    // color, direction, display, position, float, clear, visibility
+    COLOR,
+    Keyword::Ltr as u8,
+    Keyword::Inline as u8,
+    Keyword::Static as u8,
+    Keyword::None as u8,
+    Keyword::None as u8,
+    Keyword::Visible as u8,
+    // overflow
+    Keyword::Visible as u8,
+    Keyword::Visible as u8,
+    // width, height, and the least and the most of them
+    Keyword::Auto as u8,
+    Keyword::Auto as u8,
+    Keyword::Auto as u8,
+    Keyword::Auto as u8,
+    Keyword::None as u8,
+    Keyword::None as u8,
+    // margin
+    PIXELS,
+    PIXELS,
+    PIXELS,
+    PIXELS,
+    // padding
+    PIXELS,
+    PIXELS,
+    PIXELS,
+    PIXELS,
+    // the border: its width, style and color
+    PIXELS,
+    PIXELS,
+    PIXELS,
+    PIXELS,
+    Keyword::None as u8,
+    Keyword::None as u8,
+    Keyword::None as u8,
+    Keyword::None as u8,
+    Keyword::CurrentColor as u8,
+    Keyword::CurrentColor as u8,
+    Keyword::CurrentColor as u8,
+    Keyword::CurrentColor as u8,
+    // background-color
+    COLOR,
+    // font-size, font-weight, font-style, line-height
+    PIXELS,
+    NUMBER,
+    Keyword::Normal as u8,
+    Keyword::Normal as u8,
+];
+
+/// The amount of the standing value of each property.
+const STANDING: [i64; COUNT] = [
+    255, 0, 0, 0, 0, 0, 0, 0, 0, 0, 0, 0, 0, 0, 0, 0, 0, 0, 0, 0, 0, 0, 0, 0, 0, 0, 0, 0, 0, 0, 0,
+    0, 0, 0, 0, 0, 16_000, 400_000, 0, 0,
+];
+
+/// A value for each property, in the order of the table, as its word and its amount. Contracts see
+/// the list of the values.
+#[derive(Debug, Drop)]
+pub struct Columns {
+    words: [u8; COUNT],
+    amounts: [Fixed; COUNT],
+}
+
+impl Model for Columns {
+    ghost use Rattle.std.specs.Prelude.{List};
+    ghost use Rattle.std.specs.Coded.{coded_list};
+    ghost use Rattle.value_model.specs.Value as model;
+    ghost use Rattle.property_table.specs.Columns.{column_values};
+    ghost use Rattle.style_value.specs.ColumnView.{AreColumns};
+
+    ghost Value = { List model.Value };
+
+    ghost coded = { coded_list model.value_code };
+
+    ghost view = { λ c. column_values c.words c.amounts };
+
+    ghost invariant = { λ c. AreColumns c.words c.amounts };
+}
+
+impl Columns {
+    /// The initial value of each property.
+    pub fn initial() -> Columns
+        ensures { result ≡ initial_style.values }
+    {
+        Columns {
+            words: WORDS,
+            amounts: initial_amounts(),
+        }
+    }
+
+    /// The value in `parent` of each inherited property, and the initial one of each other.
+    pub fn inheriting(parent: &Columns) -> Columns
+        ensures { result ≡ inherited_values table parent.now }
+    {
+        let _ = &parent.words;
+        let mut columns = Columns::initial();
+        for id in Row::inherited() {
+            columns.inherit(parent, *id);
+        }
+        columns
+    }
+
+    /// Gives a property the value that it has in `parent`.
+    fn inherit(&mut self, parent: &Columns, id: PropId)
+        ensures new { self.new ≡ with_value_in parent.now (property_of id) self.old }
+        ensures all { length parent.now ≡ length table }
+    {
+        let row = id.row();
+        self.words[row] = parent.words[row];
+        self.amounts[row] = parent.amounts[row];
+    }
+
+    /// The value of a property.
+    pub fn value(&self, id: PropId) -> Value
+        ensures value { slice_get self.now (property_of id) ≡ Some (value_of result) }
+        ensures all { length self.now ≡ length table }
+    {
+        let row = id.row();
+        Value::of_columns(self.words[row], self.amounts[row])
+    }
+
+    /// Gives a property a value.
+    pub fn set(&mut self, id: PropId, value: Value)
+        ensures { self.new ≡ slice_set self.old (property_of id) (value_of value) }
+    {
+        let row = id.row();
+        self.words[row] = word(&value);
+        self.amounts[row] = value.amount();
+    }
+
+    /// Writes the properties whose value is not the standing one to the front of `list`, in the order
+    /// of the table, and says how many they are.
+    pub fn printed(&self, list: &mut [PropId; COUNT]) -> usize
+        ensures within { result ≤ COUNT }
+        ensures list { map property_of (take result list.new) ≡ printed_properties self.now }
+        ensures all { length self.now ≡ length table }
+    {
+        let _ = &self.words;
+        let rows = Row::all();
+        let mut count = 0;
+        for row in 0..COUNT {
+            if !self.is_standing(row) {
+                list[count] = rows[row].id;
+                count += 1;
+            }
+        }
+        count
+    }
+
+    /// Whether the value of the property of a row is the one that is not printed.
+    fn is_standing(&self, row: usize) -> bool
+        requires { row < COUNT }
+        ensures { (r : model.Row) (value : value_model.Value) → slice_get table row ≡ Some r
+            → slice_get self.now row ≡ Some value → result ≡ same_value value r.standing }
+    {
+        self.words[row] == WORDS[row] && self.amounts[row].thousandths() == STANDING[row]
+    }
+
+    /// Whether both have the same values.
+    pub fn is_same(&self, other: &Columns) -> bool
+        ensures { IsTrue result ↔ (self.now ≡ other.now) }
+    {
+        self.words == other.words && self.amounts == other.amounts
+    }
+}
+
+/// The word of a value.
+fn word(value: &Value) -> u8
+    ensures { result ≡ value_word value.now }
+{
+    value.word()
+}
+
+/// The amount of the initial value of each property: black, a border that is 3 pixels wide, a font
+/// size of 16 pixels and a font weight of 400, and 0 at the others.
+fn initial_amounts() -> [Fixed; COUNT]
+    ensures { result ≡ map value_amount initial_values }
+{
+    let width = Fixed::clamp(3_000);
+    let mut amounts = [Fixed::zero(); COUNT];
+    amounts[PropId::Color.row()] = Fixed::clamp(255);
+    amounts[PropId::BorderTopWidth.row()] = width;
+    amounts[PropId::BorderRightWidth.row()] = width;
+    amounts[PropId::BorderBottomWidth.row()] = width;
+    amounts[PropId::BorderLeftWidth.row()] = width;
+    amounts[PropId::FontSize.row()] = Fixed::clamp(16_000);
+    amounts[PropId::FontWeight.row()] = Fixed::clamp(400_000);
+    amounts
+}
