@@ -7,28 +7,37 @@ PARENTS = {
     "rules": lambda k: (k - 1) // 4,
     "deep": lambda k: 0 if k % 255 == 1 else k - 1,
     "wide": lambda k: 0,
+    "forty": lambda k: (k - 1) // 4,
 }
 MARKS = ["display:block", "display:none", "clear:both", "clear:left", "visibility:hidden", "visibility:collapse"]
+ALL = [
+    "direction:rtl", "position:relative", "position:absolute", "float:left", "overflow:hidden auto", "width:50%", "height:2em",
+    "min-width:1px", "max-height:10rem", "margin:1px 2em", "margin-left:auto", "padding:3px", "border-width:thin 2px",
+    "border-style:solid", "border-color:red lime", "background-color:rgb(1, 2, 3)", "font-size:larger", "font-size:90%",
+    "font-weight:bolder", "font-style:italic", "line-height:1.5",
+]
 COLORS = ["red", "lime", "#0f0", "#00ff0080", "navy", "#123456"]
 
 
-def sheet():
-    """40 rules of types, classes and both."""
+def sheet(marks):
+    """40 rules of types, classes and both, each with a colour and two of these declarations."""
     r = random.Random(2)
     rules = ["p{color:blue}", "i,b{clear:right}"]
     while len(rules) < 40:
         subject = r.choice(["p", "i", "b", "u", "", "", "*"]) + ".%s%d" % (r.choice("cd"), r.randrange(16))
-        rules.append("%s{color:%s;%s;%s}" % (subject, r.choice(COLORS), *r.sample(MARKS, 2)))
+        rules.append("%s{color:%s;%s;%s}" % (subject, r.choice(COLORS), *r.sample(marks, 2)))
     return " ".join(rules)
 
 
 def job(kind, size):
     """A job of so many elements with two classes each: four children an element (`plain`, without a sheet, and
-    `rules`), chains 255 deep under the root (`deep`), or all children of the root (`wide`)."""
+    `rules`), chains 255 deep under the root (`deep`), or all children of the root (`wide`); `forty` is `rules` with a
+    sheet over all properties."""
     r = random.Random(1)
     nodes = [{"tag": "html"}]
     for k in range(1, size):
         classes = "c%d d%d" % (r.randrange(16), r.randrange(40))
         nodes.append({"tag": r.choice("pibu"), "parent": PARENTS[kind](k), "attrs": {"class": classes}})
-    sheets = [] if kind == "plain" else [{"origin": "author", "text": sheet()}]
+    text = sheet(MARKS + ALL if kind == "forty" else MARKS)
+    sheets = [] if kind == "plain" else [{"origin": "author", "text": text}]
     return json.dumps({"version": 1, "nodes": nodes, "sheets": sheets}).encode()
