@@ -29,7 +29,7 @@ same_by_place zero (x ∷ xs) (y ∷ ys) h k same = absurd (omega (arith, h))
 same_by_place (suc n) (x ∷ xs) (y ∷ ys) h k same =
     λ i. same_Some x y (same 0 (omega arith)) i ∷ same_by_place n xs ys (omega (arith, h)) (omega (arith, k)) (λ p within. same (suc p) (omega arith)) i
 
-size_within : font_size_property < length table
+pub size_within : font_size_property < length table
 unfolding table
 size_within = lit< tt
 

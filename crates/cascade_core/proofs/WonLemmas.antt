@@ -1,11 +1,14 @@
 -- The winner of each property, as declarations come one by one.
-use Rattle.std.proofs.Common.{is_none, lit<, true, is_some, length-set, ◌≡◌, ◌≢◌, ◌==◌, ℕ, zero, suc, ◌<◌, ◌^◌, ◌*◌, ◌%◌, false, List, [], ◌∷◌, ◌++◌, Option, Some, None, slice_get, length, set, option_map, refl, sym, ap, ◌∙◌, ⊎_elim, arith, subst}
+use Rattle.std.proofs.Common.{is_none, lit<, true, is_some, append-nil, append_assoc, get_or, take, length-set, ◌≡◌, ◌≢◌, ◌==◌, ℕ, zero, suc, ◌+◌, ◌<◌, ◌^◌, ◌*◌, ◌%◌, false, List, [], ◌∷◌, ◌++◌, Option, Some, None, slice_get, length, set, option_map, refl, sym, ap, ◌∙◌, ⊎_elim, arith, subst}
 use Rattle.std.specs.Int.{bit_at, w64}
-use Rattle.std.specs.List.{list_all}
+use Rattle.std.specs.List.{flat_map, list_all}
+use Rattle.std.proofs.Math.Seq.{take-suc}
+use Rattle.std.proofs.lemmas.Grind.{flat_map-append}
 use Rattle.std.specs.Int.RustNames.{bit_or}
 use Rattle.std.proofs.lemmas.Bool.{true≢false, and_parts, cases_eq, eqb-true, false_from_ne_true}
 use Rattle.std.proofs.lemmas.Nat.Bits.{bit_at_set_same, bit_at_set_other, bit_at-zero}
 use Rattle.std.proofs.lemmas.Option.{none-some, same_Some, slice_get_within}
+use Rattle.base_model.proofs.Lists.{slice_get_some}
 use Rattle.cascade_model.specs.Key.{Matched}
 use Rattle.cascade_model.specs.Winner.{winner, declares_longhand}
 use Rattle.cascade_model.proofs.WinnerLemmas.{winner_other}
@@ -15,7 +18,7 @@ use Rattle.cascade_model.specs.Custom.{custom_name}
 use Rattle.shorthands.specs.declared.declared.Target.{Target}
 use Rattle.shorthands.specs.declared.declared.Target.TheVariants.{Longhand, Shorthand, Custom}
 use Rattle.cascade_core.specs.View.{entry_of, head_of, is_custom_target, is_of_custom, matched_of, name_seen}
-use Rattle.cascade_core.specs.Won.{Won, won, AreWinners}
+use Rattle.cascade_core.specs.Won.{Won, won, at_place, AreWinners}
 use Rattle.cascade_core.specs.declared.matched.Matched as code
 use Rattle.cascade_core.proofs.BestLemmas.{still_custom, custom_added}
 use Rattle.cascade_core.proofs.EntryLemmas.{matched_custom}
@@ -68,14 +71,35 @@ module _ {A : Type 0} (seen : ℕ → A → Matched) (ds : List Matched) (d : Ma
         ⊎_elim (λ (e : p ≡ q). absurd (omega (arith, sym (bit_at_set_same w64 declared q within) ∙ (ap (bit_at marked) (sym e) ∙ is)))) (λ (ne : p ≢ q). won_other ds d q p target ne ∙ others p (sym (bit_at_set_other w64 declared q within p ne) ∙ is) in_table) (cases_eq p q)
 
 -- a declaration of a property is put among the winners
-pub put_one : (w : Won) (ds : List Matched) (q : ℕ) (d new : code.Matched) (old : Option code.Matched) → q < length table → slice_get w.best q ≡ Some old → (won ds q ≡ option_map (entry_of q) old → won (ds ++ entry_of q d ∷ []) q ≡ Some (entry_of q new)) → AreWinners w ds → AreWinners (record { best = set w.best q (Some new); declared = bit_or w.declared (1 * 2 ^ q % 2 ^ 64); have_custom = w.have_custom }) (ds ++ entry_of q d ∷ [])
-put_one w ds q d new old within at wins are = record {
-  long = length-set w.best q (Some new) ∙ are.long;
-  best = best_put entry_of ds (entry_of q d) q refl w.best old (Some new) are.best at wins;
-  rows = rows_put entry_of ds (entry_of q d) q refl w.declared (omega (arith, within, short_table)) within are.rows;
-  others = others_put entry_of ds (entry_of q d) q refl w.declared (omega (arith, within, short_table)) are.others;
-  have_custom = are.have_custom ∙ sym (still_custom ds (entry_of q d) q refl);
-}
+pub put_one : (w : Won) (ds : List Matched) (q : ℕ) (d : code.Matched) (new : Option code.Matched) → q < length table → won (ds ++ entry_of q d ∷ []) q ≡ option_map (entry_of q) new → AreWinners w ds → AreWinners (record w { best = set w.best q new; declared = bit_or w.declared (1 * 2 ^ q % 2 ^ 64) }) (ds ++ entry_of q d ∷ [])
+put_one w ds q d new within wins are =
+    let (old, at) = slice_get_some w.best q (omega (arith, within, are.long)) in record {
+      long = length-set w.best q new ∙ are.long;
+      best = best_put entry_of ds (entry_of q d) q refl w.best old new are.best at (λ _. wins);
+      rows = rows_put entry_of ds (entry_of q d) q refl w.declared (omega (arith, within, short_table)) within are.rows;
+      others = others_put entry_of ds (entry_of q d) q refl w.declared (omega (arith, within, short_table)) are.others;
+      have_custom = are.have_custom ∙ sym (still_custom ds (entry_of q d) q refl);
+    }
+
+-- what the first of a list come to, after others, with one more of them
+pub one_more : {X A : Type 0} (f : X → List A) (others list : List X) (i : ℕ) (x : X) → i < length list → x ≡ get_or list i x → flat_map f (others ++ take i list) ++ f x ≡ flat_map f (others ++ take (i + 1) list)
+one_more f others list i x within at =
+    let next : suc i ≡ i + 1 = omega arith in
+    ap (λ l. flat_map f (others ++ take i list) ++ l) (sym (append-nil (f x)))
+    ∙ (sym (flat_map-append f (others ++ take i list) (x ∷ []))
+    ∙ ap (flat_map f) (append_assoc others (take i list) (x ∷ [])
+    ∙ ap (λ l. others ++ l) (ap (λ y. take i list ++ y ∷ []) at
+    ∙ (sym (take-suc list i x within) ∙ ap (λ k. take k list) next))))
+
+-- the declaration at a place, of which those before it are in the first list
+module _ (first second : List code.Matched) where
+  get_in_second : (first : List code.Matched) (n k : ℕ) → n ≡ length first + k → slice_get (first ++ second) n ≡ slice_get second k
+  get_in_second [] n k is = ap (slice_get second) (omega (arith, is))
+  get_in_second (x ∷ xs) zero k is = absurd (omega (arith, is))
+  get_in_second (x ∷ xs) (suc n) k is = get_in_second xs n k (omega (arith, is))
+
+  pub at_second : (place k : ℕ) → place ≡ suc (length first + k) → at_place (first ++ second) place ≡ slice_get second k
+  at_second place k is = ap (at_place (first ++ second)) is ∙ get_in_second first (length first + k) k refl
 
 not_longhand : (p : ℕ) (target : Target) → is_custom_target target ≡ true → is_longhand p (name_seen target) ≡ false
 not_longhand p (Longhand id) h = absurd (true≢false (sym h))

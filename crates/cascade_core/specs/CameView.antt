@@ -23,7 +23,12 @@ pub record Reading : Type 0 where
 
 abbrev pub reading_code : Coded Reading
 reading_code =
-    code_by (CustomValues × ℕ) (coded× values_code coded_ℕ) (λ r. (r.custom, r.property)) (λ p. record { custom = p.0; property = p.1 }) (λ _. refl)
+    code_by
+    (CustomValues × ℕ)
+    (coded× values_code coded_ℕ)
+    (λ r. (r.custom, r.property))
+    (λ p. record { custom = p.0; property = p.1 })
+    (λ _. refl)
 
 -- what it means for one of these properties
 abbrev pub came_meaning : Came → List ℕ → ℕ → Meaning Value
@@ -33,4 +38,5 @@ came_meaning (Values values) ids p = value_or_unset (among p ids (map (option_ma
 -- it is what the value of a shorthand means for each property
 abbrev pub HasCome : Came → Short → CustomValue → CustomValues → Type 0
 HasCome came short value custom =
-    (p : ℕ) → came_meaning came (longhands_of (short_of short)) p ≡ referring_meaning p (shorthand (short_of short)) (expansion (finmap.get custom) value)
+    (p : ℕ) → came_meaning came (longhands_of (short_of short)) p
+    ≡ referring_meaning p (shorthand (short_of short)) (expansion (finmap.get custom) value)

@@ -1,5 +1,6 @@
 -- Which declarations win.
-use Rattle.std.specs.Prelude.{◌≡◌, ℕ, ◌<◌, List, Option, Some, None, length, slice_get, option_map, Bool, is_some}
+use Rattle.std.specs.Prelude.{◌≡◌, ℕ, zero, suc, ◌<◌, List, length, slice_get}
+use Rattle.std.specs.Prelude.{Option, Some, None, option_map, Bool, is_some}
 use Rattle.std.specs.Int.{bit_at}
 use Rattle.std.specs.List.{list_any}
 use Rattle.cascade_model.specs.Key as model
@@ -10,12 +11,19 @@ use Rattle.cascade_core.specs.View.{entry_of}
 use Rattle.cascade_core.specs.declared.matched.Matched.{Matched}
 
 pub record Won : Type 0 where
+  -- all declarations, those that are not yet added too
+  pub list : List Matched
   -- for each property of the table the declaration that wins, if there is one
   pub best : List (Option Matched)
   -- the rows that have one, each as a bit
   pub declared : ℕ
   -- whether some declaration is of a custom property
   pub have_custom : Bool
+
+-- the declaration at a place, which is its number from 1
+abbrev pub at_place : List Matched → ℕ → Option Matched
+at_place list zero = None
+at_place list (suc index) = slice_get list index
 
 abbrev pub have_custom : List model.Matched → Bool
 have_custom ds = list_any (λ d. is_some (name_of d)) ds

@@ -9,7 +9,7 @@ ghost use Rattle.property_table.specs.View.{property_of, value_of};
 ghost use Rattle.value_model.specs.Table.{table};
 ghost use Rattle.cascade_core.specs.EndingView.{ending_seen};
 ghost use Rattle.cascade_core.specs.View.{matched_of};
-ghost use Rattle.cascade_core.specs.Won.{have_custom};
+ghost use Rattle.cascade_core.specs.Won.{AreWinners, have_custom};
 
 use crate::Matched;
 use crate::ending::Ending;
@@ -26,7 +26,7 @@ use stylo_base::NoMemory;
 pub(crate) struct Applied<'a> {
     pub(crate) matched: &'a [Matched<'a>],
     pub(crate) attached: &'a [Matched<'a>],
-    winners: Winners<'a>,
+    winners: &'a Winners<'a>,
 }
 
 impl<'a> Model for Applied<'a> {
@@ -39,18 +39,23 @@ impl<'a> Model for Applied<'a> {
 
     ghost view = { λ a. flat_map matched_of (a.matched.now ++ a.attached.now) };
 
-    ghost invariant = { λ a. AreWinners a.winners (flat_map matched_of (a.matched.now ++ a.attached.now)) };
+    ghost invariant = { λ a. AreWinners a.winners.now (flat_map matched_of (a.matched.now ++ a.attached.now)) };
 }
 
 impl<'a> Applied<'a> {
-    /// These declarations.
-    pub(crate) fn of(matched: &'a [Matched<'a>], attached: &'a [Matched<'a>]) -> Applied<'a>
+    /// These declarations, with the winners among them.
+    pub(crate) fn of(
+        matched: &'a [Matched<'a>],
+        attached: &'a [Matched<'a>],
+        winners: &'a Winners<'a>,
+    ) -> Applied<'a>
+        requires { AreWinners winners.now (flat_map matched_of (matched.now ++ attached.now)) }
         ensures { result ≡ flat_map matched_of (matched.now ++ attached.now) }
     {
         Applied {
             matched,
             attached,
-            winners: Winners::among(matched, attached),
+            winners,
         }
     }
 
@@ -74,7 +79,8 @@ impl<'a> Applied<'a> {
     /// declaration.
     pub(crate) fn declared(&self) -> u64
         ensures rows { (p : ℕ) → bit_at result p ≡ 1 → p < length table }
-        ensures others { (values : Lookup) (p : ℕ) → bit_at result p ≡ 0 → p < length table → ending values p self.now ≡ unsets }
+        ensures others { (values : Lookup) (p : ℕ) → bit_at result p ≡ 0 → p < length table
+            → ending values p self.now ≡ unsets }
     {
         self.winners.declared()
     }

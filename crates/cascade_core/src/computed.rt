@@ -33,7 +33,13 @@ pub(crate) struct Over {
 /// The font size of an element whose declarations of it come to this, over the parent's font size
 /// and font weight: in it `em` and percentages are of the parent's.
 pub(crate) fn own_size(size: Fixed, weight: Fixed, root_size: Fixed, ending: Ending<Value>) -> Fixed
-    ensures { result ≡ size_in (value_at font_size_row (pixels size) size weight (sizes size root_size) (ending_seen value_of ending)) }
+    ensures { result ≡ size_in (value_at
+        font_size_row
+        (pixels size)
+        size
+        weight
+        (sizes size root_size)
+        (ending_seen value_of ending)) }
 {
     let over = Over {
         value: Value::Pixels(size),
@@ -48,7 +54,7 @@ pub(crate) fn own_size(size: Fixed, weight: Fixed, root_size: Fixed, ending: End
 }
 
 /// The size that a value of `font-size` is.
-fn size_in(value: Value) -> Fixed
+pub(crate) fn size_in(value: Value) -> Fixed
     ensures { result ≡ size_in (value_of value) }
 {
     match value {
@@ -59,7 +65,13 @@ fn size_in(value: Value) -> Fixed
 
 /// The value of a property whose declarations come to this (css-cascade-5, section 7.3).
 pub(crate) fn value_at(row: &Row, over: Over, sizes: &Sizes, ending: Ending<Value>) -> Value
-    ensures { value_of result ≡ value_at (row_seen row.now) (value_of over.value) over.size over.weight (sizes_seen sizes.now) (ending_seen value_of ending) }
+    ensures { value_of result ≡ value_at
+        (row_seen row.now)
+        (value_of over.value)
+        over.size
+        over.weight
+        (sizes_seen sizes.now)
+        (ending_seen value_of ending) }
 {
     match ending {
         Ending::Inherits => over.value,
@@ -82,7 +94,13 @@ fn unset(row: &Row, parents: Value) -> Value
 
 /// What a value is computed to.
 fn computed(rule: Rule, over: Over, sizes: &Sizes, value: Value) -> Value
-    ensures { value_of result ≡ computed_by (rule_of rule) (value_of over.value) over.size over.weight (sizes_seen sizes.now) (value_of value) }
+    ensures { value_of result ≡ computed_by
+        (rule_of rule)
+        (value_of over.value)
+        over.size
+        over.weight
+        (sizes_seen sizes.now)
+        (value_of value) }
 {
     match rule {
         Rule::Plain => absolute(sizes, value),

@@ -93,7 +93,10 @@ impl<'a, 'm> Longhands<'a, 'm> {
     ) -> Result<Meaning<Value>, NoMemory>
         ensures same { self.new ≡ self.old }
         ensures meaning { IfOk result (λ meaning. meaning_seen value_of meaning
-            ≡ referring_meaning self.old.property (taker_of target.now) (expansion (finmap.get self.old.custom) value.now)) }
+            ≡ referring_meaning
+            self.old.property
+            (taker_of target.now)
+            (expansion (finmap.get self.old.custom) value.now)) }
     {
         match target {
             Target::Longhand(other) => referring_meaning(
@@ -119,7 +122,10 @@ impl<'a, 'm> Longhands<'a, 'm> {
     ) -> Result<Meaning<Value>, NoMemory>
         ensures same { self.new ≡ self.old }
         ensures meaning { IfOk result (λ meaning. meaning_seen value_of meaning
-            ≡ referring_meaning self.old.property (shorthand (short_of short)) (expansion (finmap.get self.old.custom) value.now)) }
+            ≡ referring_meaning
+            self.old.property
+            (shorthand (short_of short))
+            (expansion (finmap.get self.old.custom) value.now)) }
     {
         if let Some(last) = &self.last {
             if last.short == short && last.value.is_same(value) {
@@ -187,7 +193,10 @@ fn referring_meaning(
     custom: &CustomMap,
 ) -> Result<Meaning<Value>, NoMemory>
     ensures { IfOk result (λ meaning. meaning_seen value_of meaning
-        ≡ referring_meaning (property_of id) (single (property_of declared)) (expansion (finmap.get custom.now) value.now)) }
+        ≡ referring_meaning
+        (property_of id)
+        (single (property_of declared))
+        (expansion (finmap.get custom.now) value.now)) }
 {
     match substitute(alloc, value.tokens(), custom)? {
         None => Ok(Meaning::Keyword(Wide::Unset)),

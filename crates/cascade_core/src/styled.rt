@@ -1,20 +1,22 @@
 //! The style of an element over its parent's.
 
-ghost use Rattle.std.specs.Prelude.{◌≡◌, ◌++◌, IfOk, Some, flat_map, length, slice_get};
+ghost use Rattle.std.specs.Prelude.{◌≡◌, ◌++◌, IfOk, OnOk, flat_map, length};
 ghost use Rattle.std.specs.FinMap as finmap;
 ghost use Rattle.std.specs.Option.{unwrap_or};
-ghost use Rattle.cascade_model.specs.Cascade.{cascaded, own_size, values_over};
+ghost use Rattle.cascade_model.specs.Cascade.{cascaded, sizes, value_at, values_over};
 ghost use Rattle.cascade_model.specs.Custom.{custom_values};
-ghost use Rattle.property_table.specs.View.{property_of, value_of};
-ghost use Rattle.value_model.specs.Style.{font_size_of, font_weight_of};
-ghost use Rattle.value_model.specs.Table.{font_size_property, table};
+ghost use Rattle.cascade_model.specs.Ending.{ending};
+ghost use Rattle.value_model.specs.Style.{font_size_of, font_weight_of, inherited_part, size_in};
+ghost use Rattle.value_model.specs.Table.{font_size_property, font_size_row, table};
+ghost use Rattle.value_model.specs.Value.{pixels};
 ghost use Rattle.cascade_core.specs.View.{matched_of};
 
 use crate::Matched;
 use crate::applied::Applied;
-use crate::computed::{Over, Sizes, own_size, value_at};
+use crate::computed::{Over, Sizes, own_size, size_in, value_at};
 use crate::custom::changed_custom;
 use crate::longhands::Longhands;
+use crate::winners::Winners;
 use css_tokens::CustomMap;
 use property_table::{PropId, Row, Value};
 use std::alloc::Global;
@@ -38,33 +40,46 @@ pub fn cascade(
     ensures { IfOk result (λ style. style ≡ cascaded is_root parent.now root_size
         (flat_map matched_of (matched.now ++ attached.now))) }
 {
-    let applied = Applied::of(matched, attached);
-    let mut draft = drafted(alloc, &applied, parent, root_size, is_root)?;
+    let mut winners = Winners::none(matched, attached);
+    winners.add_all(matched, attached)?;
+    let applied = Applied::of(matched, attached, &winners);
+    let mut draft = StyleDraft::inheriting(alloc, parent)?;
+    fill(alloc, &mut draft, &applied, parent, root_size, is_root)?;
     draft.adjust(is_root);
     draft.finish(alloc)
 }
 
-/// The style before the adjustments.
-fn drafted(
+/// Makes the style before the adjustments of what an element takes from its parent.
+fn fill(
     alloc: Global,
+    draft: &mut StyleDraft,
     applied: &Applied<'_>,
     parent: &Style,
     root_size: Fixed,
     is_root: bool,
-) -> Result<StyleDraft, NoMemory>
+) -> Result<(), NoMemory>
+    requires { draft.old ≡ inherited_part parent.now }
     ensures { let custom = custom_values parent.now.custom applied.now in
-        IfOk result (λ draft. draft ≡ record {
+        OnOk result (draft.new ≡ record {
           values = values_over (finmap.get custom) is_root parent.now.values root_size applied.now;
           custom = custom;
         }) }
 {
     let Some(custom) = custom_of(alloc, applied, parent)? else {
         let inherited = parent.custom().map();
-        return values(alloc, applied, parent, inherited, root_size, is_root);
+        return set_values(alloc, draft, applied, parent, inherited, root_size, is_root);
     };
-    let mut draft = values(alloc, applied, parent, custom.map(), root_size, is_root)?;
+    set_values(
+        alloc,
+        draft,
+        applied,
+        parent,
+        custom.map(),
+        root_size,
+        is_root,
+    )?;
     draft.set_custom(custom);
-    Ok(draft)
+    Ok(())
 }
 
 /// The custom properties. None: they are the parent's.
@@ -83,29 +98,31 @@ fn custom_of(
     }
 }
 
-/// The values of the properties over those of the custom ones, and the custom properties of the
-/// parent.
-fn values(
+/// Sets the values of the properties, over those of the custom ones, in what an element takes from
+/// its parent.
+fn set_values(
     alloc: Global,
+    draft: &mut StyleDraft,
     applied: &Applied<'_>,
     parent: &Style,
     custom: &CustomMap,
     root_size: Fixed,
     is_root: bool,
-) -> Result<StyleDraft, NoMemory>
-    ensures { IfOk result (λ draft. draft ≡ record {
+) -> Result<(), NoMemory>
+    requires { draft.old ≡ inherited_part parent.now }
+    ensures { OnOk result (draft.new ≡ record {
       values = values_over (finmap.get custom.now) is_root parent.now.values root_size applied.now;
       custom = parent.now.custom;
     }) }
 {
-    let mut longhands = Longhands::over(custom, PropId::FontSize);
-    let own = size_of(alloc, applied, parent, &mut longhands, root_size)?;
+    let font = font_of(parent);
+    let own = size_of(alloc, applied, custom, font, root_size)?;
     let sizes = Sizes {
         element: own,
         root: if is_root { own } else { root_size },
     };
-    let mut draft = StyleDraft::inheriting(alloc, parent)?;
     draft.set(PropId::FontSize, Value::Pixels(own));
+    let mut longhands = Longhands::over(custom, PropId::FontSize);
     let mut rest = applied.declared() & !(1 << PropId::FontSize.row());
     while rest != 0 {
         let row = &Row::all()[rest.trailing_zeros() as usize];
@@ -113,40 +130,47 @@ fn values(
         rest &= !(1 << id.row());
         longhands.read_as(id);
         let ending = applied.ending(alloc, &mut longhands)?;
-        draft.set(id, value_at(row, over(parent, id), &sizes, ending));
+        let over = Over {
+            value: parent.value(id),
+            size: font.size,
+            weight: font.weight,
+        };
+        draft.set(id, value_at(row, over, &sizes, ending));
     }
-    Ok(draft)
+    Ok(())
 }
 
-/// The font size.
-fn size_of<'a>(
+/// The font size, which is the parent's where none is declared.
+fn size_of(
     alloc: Global,
-    applied: &Applied<'a>,
-    parent: &Style,
-    longhands: &mut Longhands<'a, '_>,
+    applied: &Applied<'_>,
+    custom: &CustomMap,
+    font: Over,
     root_size: Fixed,
 ) -> Result<Fixed, NoMemory>
-    requires { longhands.old.property ≡ font_size_property }
-    ensures same { longhands.new ≡ longhands.old }
-    ensures size { IfOk result (λ size. size
-        ≡ own_size (finmap.get longhands.old.custom) parent.now.values root_size applied.now) }
-    ensures all { length parent.now.values ≡ length table }
+    ensures { let ends = ending (finmap.get custom.now) font_size_property applied.now in
+        let sizes = sizes font.size root_size in
+        IfOk result (λ size. size
+        ≡ size_in (value_at font_size_row (pixels font.size) font.size font.weight sizes ends)) }
 {
-    let over = over(parent, PropId::FontSize);
-    let ending = applied.ending(alloc, longhands)?;
-    Ok(own_size(over.size, over.weight, root_size, ending))
+    if (applied.declared() >> PropId::FontSize.row()) & 1 == 0 {
+        return Ok(font.size);
+    }
+    let mut longhands = Longhands::over(custom, PropId::FontSize);
+    let ending = applied.ending(alloc, &mut longhands)?;
+    Ok(own_size(font.size, font.weight, root_size, ending))
 }
 
-/// What the value of a property is computed over.
-fn over(parent: &Style, id: PropId) -> Over
-    ensures value { slice_get parent.now.values (property_of id) ≡ Some (value_of result.value) }
+/// What the font size is computed over.
+fn font_of(parent: &Style) -> Over
     ensures size { result.size ≡ font_size_of parent.now.values }
-    ensures all { length parent.now.values ≡ length table }
     ensures weight { result.weight ≡ font_weight_of parent.now.values }
+    ensures all { length parent.now.values ≡ length table }
 {
+    let size = size_in(parent.value(PropId::FontSize));
     Over {
-        value: parent.value(id),
-        size: parent.font_size(),
+        value: Value::Pixels(size),
+        size,
         weight: parent.font_weight(),
     }
 }

@@ -96,7 +96,13 @@ value_at row parents size weight sizes (ends_at value) = computed row parents si
 abbrev pub own_size : Lookup → List Value → ℤ → List Matched → ℤ
 own_size custom parents root_size ds =
     let size = font_size_of parents in
-    size_in (value_at font_size_row (pixels size) size (font_weight_of parents) (sizes size root_size) (ending custom font_size_property ds))
+    size_in (value_at
+    font_size_row
+    (pixels size)
+    size
+    (font_weight_of parents)
+    (sizes size root_size)
+    (ending custom font_size_property ds))
 
 -- the value of a property, where the font size is known
 abbrev pub property_value : Lookup → List Value → Sizes → List Matched → ℕ → Row → Value → Value

@@ -21,7 +21,8 @@ fn values(rt: HostRuntime) -> Result<(), Fail> {
     let style = inherited(rt.alloc())?;
     assert_eq!(rt;
         style.text(),
-        "visibility: hidden; border-top-width: 3px; border-right-width: 3px; border-bottom-width: 3px; border-left-width: 3px"
+        "visibility: hidden; border-top-width: 3px; border-right-width: 3px; \
+         border-bottom-width: 3px; border-left-width: 3px"
     );
     Ok(())
 }

@@ -6,6 +6,8 @@ mod documents;
 #[cfg(test)]
 mod ends;
 #[cfg(test)]
+mod errors;
+#[cfg(test)]
 mod jobs;
 #[cfg(test)]
 mod texts;

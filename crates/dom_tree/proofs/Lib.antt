@@ -14,4 +14,5 @@ pub mod WordsOnce
 pub mod WordLemmas
 pub mod ClassLemmas
 pub mod LabelLemmas
+pub mod NameBitLemmas
 pub mod DepthSteps

@@ -2,6 +2,7 @@ pub mod View
 pub mod Kept
 pub mod Classes
 pub mod Labels
+pub mod NameBits
 pub mod Depths
 pub mod Links
 pub mod TypePlaces

@@ -10,12 +10,14 @@ ghost use Rattle.scene_model.specs.Document.{document_of};
 ghost use Rattle.scene_model.specs.Valid.{IsValid};
 ghost use Rattle.stylo_base.specs.StateView.{state_seen};
 ghost use Rattle.dom_tree.specs.Labels.{class_words};
+ghost use Rattle.dom_tree.specs.NameBits.{HasNameBits};
 
 use crate::class_lists::ClassLists;
 use crate::class_names::ClassNames;
 use crate::columns::Columns;
 use crate::labels::{Label, label_nodes};
 use crate::links::Links;
+use crate::name_bits::{bit_if_some, bit_of};
 use crate::nodes::NodeList;
 use crate::start::walk;
 use crate::type_places::{TypePlaces, place_types};
@@ -213,6 +215,18 @@ impl Doc {
         ensures { result ≡ class_words (attribute_of self.now.elements x (chars (codes "class"))) }
     {
         self.lists.of(self.labels[x as usize - 1].classes)
+    }
+
+    /// The bits of the names of `x`: of its tag, of its id, if it has one, and of each of its classes. Where that
+    /// of a name is not set, it has no such tag, id or class.
+    pub fn name_bits(&self, x: u32) -> u64
+        requires { IsElement self.now.elements x }
+        ensures { HasNameBits self.now.elements x result }
+    {
+        let names = self.columns.names();
+        let tag = bit_of(names, self.columns.tag(x as usize - 1));
+        let id = bit_if_some(names, self.labels[x as usize - 1].id);
+        tag | id | self.class_names(x).bits()
     }
 
     /// Whether `x` has this id. An empty one is none.

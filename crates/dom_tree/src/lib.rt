@@ -8,6 +8,7 @@ mod depths;
 mod doc;
 mod labels;
 mod links;
+mod name_bits;
 mod naming;
 mod nodes;
 mod numbers;
@@ -18,5 +19,6 @@ mod words;
 
 pub use class_names::ClassNames;
 pub use doc::Doc;
+pub use name_bits::bit_of_key;
 pub use nodes::{Attr, NodeInput, NodeList, States};
 pub use words::has_word;

@@ -6,13 +6,16 @@ ghost use Rattle.std.specs.Io.KnownBytes.{WriteAppends};
 ghost use Rattle.io_edges.specs.Cause.{HasCause};
 
 use stylo_base::NoMemory;
+use thiserror::Error;
 
 /// Why a sink took nothing.
-#[derive(Clone, Copy, Debug, PartialEq, Eq)]
+#[derive(Clone, Copy, Debug, PartialEq, Eq, Error)]
 pub enum SinkRefused {
     /// The outside failed, and counted a fault.
+    #[error("the outside failed")]
     Failed,
     /// There was no memory.
+    #[error("no memory")]
     NoMemory,
 }
 

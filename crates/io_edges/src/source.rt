@@ -5,8 +5,11 @@ ghost use Rattle.std.specs.Io.{ReadsAtMost};
 ghost use Rattle.std.specs.Io.KnownBytes.{ReadConsumes};
 ghost use Rattle.io_edges.specs.Cause.{EndsAtEnd, HasCause};
 
+use thiserror::Error;
+
 /// The outside failed, and counted a fault.
-#[derive(Clone, Copy, Debug, PartialEq, Eq)]
+#[derive(Clone, Copy, Debug, PartialEq, Eq, Error)]
+#[error("the outside failed")]
 pub struct Failed;
 
 /// An input, read from its front.

@@ -34,6 +34,7 @@ use json_reader::Stop;
 pub use sheet_list::SheetList;
 use std::alloc::Global;
 use stylo_base::{Kind, NoMemory, PathText};
+use thiserror::Error;
 
 /// How deep arrays and objects may nest in a job, as in every value that `serde_json` reads.
 const MAX_DEPTH: usize = 127;
@@ -48,15 +49,19 @@ pub struct Job {
 }
 
 /// Why there is no job.
-#[derive(Debug, Drop)]
+#[derive(Debug, Drop, Error)]
 pub enum JobFault {
     /// The bytes are not UTF-8, or no JSON value.
+    #[error("not JSON")]
     NotJson,
     /// The value has another shape, first at this JSON pointer.
+    #[error("not a job at {0}")]
     Shape(PathText),
     /// It has the shape of a job, and the limit of this kind, with its number, is passed first.
+    #[error("limit {0} {1}")]
     Limit(Kind, u64),
     /// There was no memory.
+    #[error("no memory")]
     NoMemory,
 }
 

@@ -3,13 +3,16 @@
 use json::Invalid;
 use std::alloc::{AllocError, AllocFailed};
 use stylo_base::NoMemory;
+use thiserror::Error;
 
 /// Why a reading stops.
-#[derive(Clone, Copy, Debug, PartialEq, Eq)]
+#[derive(Clone, Copy, Debug, PartialEq, Eq, Error)]
 pub enum Stop {
     /// The text is no JSON from here on.
+    #[error("not JSON")]
     NotJson,
     /// There was no memory.
+    #[error("no memory")]
     NoMemory,
 }
 

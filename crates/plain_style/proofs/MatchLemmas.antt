@@ -1,11 +1,17 @@
 -- The declarations of a rule, and those of the rules before and after it.
-use Rattle.std.proofs.Common.{◌≡◌, ℕ, ◌+◌, ◌<◌, List, [], ◌∷◌, ◌++◌, length, get_or, drop, None, Some, refl, sym, ap, ◌∙◌, append-nil}
+use Rattle.std.proofs.Common.{◌≡◌, ℕ, ◌+◌, ◌<◌, ◌||◌, List, [], ◌∷◌, ◌++◌, cond, false, true, length, map, get_or, slice_get, drop, None, Some, refl, sym, ap, ◌∙◌, append-nil}
 use Rattle.std.specs.Prelude.{Bool, Vec}
-use Rattle.std.specs.List.{flat_map}
+use Rattle.std.specs.List.{flat_map, list_any}
+use Rattle.std.proofs.lemmas.List.{get_or-map}
+use Rattle.std.proofs.lemmas.Option.{get_or_from_slice_get, slice_get_within}
+use Rattle.base_model.proofs.Lists.{slice_get_some}
 use Rattle.std.specs.declared.alloc.Global.{Global}
 use Rattle.scene_model.specs.Element.{Element}
 use Rattle.layer_model.specs.Order.{Layers}
 use Rattle.selector_model.specs.Holds.{holds}
+use Rattle.selector_model.specs.SpecificityOf.{specificity_of}
+use Rattle.selector_types.specs.View.{selector_of}
+use Rattle.selector_match.specs.Filter.{filter_of}
 use Rattle.selector_types.specs.declared.selector.Selector.{Selector as Chosen}
 use Rattle.sheet_set.specs.declared.sheet_rule.SheetRule.{SheetRule}
 use Rattle.sheet_set.specs.View.{rule_of, rules_with}
@@ -16,7 +22,8 @@ use Rattle.base_model.specs.Specificity.{Specificity}
 use Rattle.cascade_model.specs.Key.{Matched}
 use Rattle.sheet_model.specs.Declared.{Declared}
 use Rattle.sheet_model.specs.Sources.{PlacedRule, Sources}
-use Rattle.cascade_model.specs.Matching.{matched, all_matched, greatest_by, rule_matched, matching_rules}
+use Rattle.cascade_model.specs.Matching.{matched, all_matched, greatest_by, rule_matched, matching_rules, with_greater}
+use Rattle.plain_style.specs.Filters.{AreFilters, rule_filter}
 
 -- the selectors of a rule are not looked at any more
 pub all_matched-same : (layers : Layers) (a b : PlacedRule) (specificity : Specificity) (index : ℕ) (ds : List Declared) → a.origin ≡ b.origin → a.layer ≡ b.layer → a.sheet ≡ b.sheet → a.position ≡ b.position → all_matched layers a specificity index ds ≡ all_matched layers b specificity index ds
@@ -42,6 +49,32 @@ pub rules_at : (rules : List SheetRule) (lists : List (Vec Chosen Global)) (i : 
     → rules_with (drop i rules) (drop i lists) ≡ rule_of rule list.items ∷ rules_with (drop (i + 1) rules) (drop (i + 1) lists)
 rules_at rules lists i rule list below within is same =
     ap (λ l. rules_with l (drop i lists)) (item_at rules i rule below is) ∙ ap (rules_with (rule ∷ drop (i + 1) rules)) (item_at lists i list within same)
+
+-- where no selector passes, none is the greatest
+pub no_greatest : (passes : Selector → Bool) (selectors : List Selector) → list_any passes selectors ≡ false → greatest_by passes None selectors ≡ None
+no_greatest passes [] h = refl
+no_greatest passes (selector ∷ selectors) h = by (passes selector) h (no_greatest passes selectors)
+  where
+    by : (b : Bool) → (b || list_any passes selectors) ≡ false → (list_any passes selectors ≡ false → greatest_by passes None selectors ≡ None) → greatest_by passes (cond b (Some (with_greater None (specificity_of selector))) None) selectors ≡ None
+    by true h rest = absurd (cc)
+    by false h rest = rest h
+
+-- the filter of the rule at an index
+pub filter_at : (filters : List ℕ) (lists of : List (Vec Chosen Global)) (i : ℕ) (list : Vec Chosen Global) → AreFilters filters of → lists ≡ of → slice_get lists i ≡ Some list → get_or filters i 0 ≡ filter_of (map selector_of list.items)
+filter_at filters lists of i list are same at =
+    ap (λ l. get_or l i 0) (are ∙ ap (map rule_filter) (sym same))
+    ∙ (get_or-map rule_filter lists i list 0 (slice_get_within lists i list at) ∙ ap rule_filter (get_or_from_slice_get lists i list list at))
+
+-- a rule that adds nothing is passed over
+pub rule_passed : (f : PlacedRule → List Matched) (found whole : List Matched) (rules : List SheetRule) (lists : List (Vec Chosen Global)) (i : ℕ) → i < length rules → i < length lists → ((rule : SheetRule) (list : Vec Chosen Global) → slice_get lists i ≡ Some list → f (rule_of rule list.items) ≡ [])
+    → found ++ flat_map f (rules_with (drop i rules) (drop i lists)) ≡ whole → found ++ flat_map f (rules_with (drop (i + 1) rules) (drop (i + 1) lists)) ≡ whole
+rule_passed f found whole rules lists i below within adds so_far =
+    let (rule, at) = slice_get_some rules i below in
+    let (list, here) = slice_get_some lists i within in
+    let own : PlacedRule = rule_of rule list.items in
+    let left : List PlacedRule = rules_with (drop (i + 1) rules) (drop (i + 1) lists) in
+    let next : rules_with (drop i rules) (drop i lists) ≡ own ∷ left = rules_at rules lists i rule list below within (sym (get_or_from_slice_get rules i rule rule at)) (sym (get_or_from_slice_get lists i list list here)) in
+    sym (ap (λ l. found ++ flat_map f l) next ∙ ap (λ l. found ++ (l ++ flat_map f left)) (adds rule list here)) ∙ so_far
 
 pub matched_all : (found : List Matched) (doc : List Element) (sources : Sources) (left : List PlacedRule) (x : ℕ) → left ≡ [] → found ++ flat_map (rule_matched sources.layers (λ s. holds doc s x)) left ≡ flat_map (rule_matched sources.layers (λ s. holds doc s x)) sources.rules → found ≡ matching_rules doc sources x
 unfolding matching_rules

@@ -11,6 +11,8 @@ pub(crate) struct Inputs<'a> {
     pub(crate) alloc: Global,
     pub(crate) doc: &'a Doc,
     pub(crate) sheets: &'a Sheets,
+    /// That of each rule of the sheets.
+    pub(crate) filters: &'a [u64],
     /// The name of the `style` attribute.
     pub(crate) style_name: &'a Atom,
 }

@@ -1,6 +1,7 @@
 //! The style of every element, computed from nothing, from the root down.
 #![tactic(auto)]
 
+mod filters;
 mod inputs;
 mod matching;
 mod root_size;

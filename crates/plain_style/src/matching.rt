@@ -10,10 +10,12 @@ ghost use Rattle.layer_model.specs.Order.{Layers};
 ghost use Rattle.shorthands.specs.View.{declared_of};
 ghost use Rattle.sheet_set.specs.Ranks.{rank_seen};
 ghost use Rattle.sheet_set.specs.View.{rule_of, sources_seen};
+ghost use Rattle.plain_style.specs.Filters.{AreFilters};
 
+use crate::filters::rule_filters;
 use cascade_core::Matched;
 use dom_tree::Doc;
-use selector_match::matches;
+use selector_match::{matches, may_hold};
 use selector_types::{Selector, Specificity, weight};
 use sheet_set::{SheetRule, Sheets};
 use std::alloc::Global;
@@ -31,20 +33,23 @@ pub fn match_rules<'a>(
     ensures { IfOk result (λ list.
         flat_map matched_of list.items ≡ matching_rules doc.now.elements (sources_seen sheets.now) x) }
 {
+    let filters = rule_filters(alloc, sheets)?;
     let mut list = Vec::new(alloc);
-    match_into(&mut list, doc, sheets, x)?;
+    match_into(&mut list, doc, sheets, &filters, x)?;
     Ok(list)
 }
 
 /// Puts the declarations of all rules with a selector that holds at `x`, in the order of the rules,
-/// in place of what is in the list.
+/// in place of what is in the list. Most rules that have none are passed over by their filters.
 pub(crate) fn match_into<'a>(
     list: &mut Vec<Matched<'a>>,
     doc: &Doc,
     sheets: &'a Sheets,
+    filters: &[u64],
     x: u32,
 ) -> Result<(), NoMemory>
-    requires { IsElement doc.now.elements x }
+    requires element { IsElement doc.now.elements x }
+    requires filters { AreFilters filters.now sheets.now.selectors.items }
     ensures { OnOk result (flat_map matched_of list.new.items
         ≡ matching_rules doc.now.elements (sources_seen sheets.now) x) }
 {
@@ -52,7 +57,11 @@ pub(crate) fn match_into<'a>(
     let rules = sheets.rules();
     let selectors = sheets.selectors();
     let ranks = sheets.ranks();
+    let names = doc.name_bits(x);
     for index in 0..rules.len() {
+        if !may_hold(filters[index], names) {
+            continue;
+        }
         let rule = &rules[index];
         let rank = ranks[index];
         if let Some(specificity) = greatest(doc, &selectors[index], x) {

@@ -4,6 +4,7 @@ ghost use Rattle.std.specs.Prelude.{◌≡◌, IfOk, codes};
 ghost use Rattle.cascade_model.specs.StyleOf.{root_size_of};
 ghost use Rattle.value_model.specs.Style.{initial_size};
 ghost use Rattle.sheet_set.specs.View.{sources_seen};
+ghost use Rattle.plain_style.specs.Filters.{AreFilters};
 
 use crate::inputs::Inputs;
 use crate::styled::styled;
@@ -17,7 +18,8 @@ pub(crate) fn root_size<'a>(
     inputs: &Inputs<'a>,
     list: &mut Vec<Matched<'a>>,
 ) -> Result<Fixed, NoMemory>
-    requires { inputs.now.style_name.now ≡ codes "style" }
+    requires name { inputs.now.style_name.now ≡ codes "style" }
+    requires filters { AreFilters inputs.now.filters.now inputs.now.sheets.now.selectors.items }
     ensures { IfOk result (λ size.
         size ≡ root_size_of inputs.now.doc.now.elements (sources_seen inputs.now.sheets.now)) }
 {

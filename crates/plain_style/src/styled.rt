@@ -5,6 +5,7 @@ ghost use Rattle.scene_model.specs.Lookups.{IsElement};
 ghost use Rattle.cascade_model.specs.Cascade.{cascaded};
 ghost use Rattle.cascade_model.specs.Matching.{matching};
 ghost use Rattle.sheet_set.specs.View.{sources_seen};
+ghost use Rattle.plain_style.specs.Filters.{AreFilters};
 
 use crate::inputs::Inputs;
 use crate::matching::match_into;
@@ -25,10 +26,11 @@ pub(crate) fn styled<'a>(
 ) -> Result<Style, NoMemory>
     requires element { IsElement inputs.now.doc.now.elements number }
     requires name { inputs.now.style_name.now ≡ codes "style" }
+    requires filters { AreFilters inputs.now.filters.now inputs.now.sheets.now.selectors.items }
     ensures { IfOk result (λ style. style ≡ cascaded is_root parent.now size
         (matching inputs.now.doc.now.elements (sources_seen inputs.now.sheets.now) number)) }
 {
-    match_into(list, inputs.doc, inputs.sheets, number)?;
+    match_into(list, inputs.doc, inputs.sheets, inputs.filters, number)?;
     let declared = declared_at(inputs.alloc, inputs.doc, inputs.style_name, number)?;
     let attached = attach(inputs.alloc, inputs.sheets.layers(), declared.as_slice())?;
     cascade(inputs.alloc, list, &attached, parent, size, is_root)

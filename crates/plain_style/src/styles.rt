@@ -5,8 +5,10 @@ ghost use Rattle.std.specs.Arc.{arc_value};
 ghost use Rattle.scene_model.specs.Lookups.{IsElement, numbers};
 ghost use Rattle.cascade_model.specs.StyleOf.{root_size_of, style_of};
 ghost use Rattle.sheet_set.specs.View.{sources_seen};
+ghost use Rattle.plain_style.specs.Filters.{AreFilters};
 ghost use Rattle.plain_style.specs.Known.{KnowsParent, style_at};
 
+use crate::filters::rule_filters;
 use crate::inputs::Inputs;
 use crate::root_size::{initial_size, root_size};
 use crate::styled::styled;
@@ -24,10 +26,12 @@ pub fn style_all(alloc: Global, doc: &Doc, sheets: &Sheets) -> Result<Vec<Arc<St
         ≡ map (style_of doc.now.elements (sources_seen sheets.now)) (numbers doc.now.elements)) }
 {
     let style_name = Atom::of_text(Text::of_str(alloc, "style")?);
+    let filters = rule_filters(alloc, sheets)?;
     let inputs = Inputs {
         alloc,
         doc,
         sheets,
+        filters: &filters,
         style_name: &style_name,
     };
     let mut list = Vec::new(alloc);
@@ -42,6 +46,7 @@ fn styles_in_order<'a>(
     size: Fixed,
 ) -> Result<Vec<Arc<Style>>, NoMemory>
     requires name { inputs.now.style_name.now ≡ codes "style" }
+    requires filters { AreFilters inputs.now.filters.now inputs.now.sheets.now.selectors.items }
     requires size { size ≡ root_size_of inputs.now.doc.now.elements (sources_seen inputs.now.sheets.now) }
     ensures { IfOk result (λ styles. map arc_value styles.items
         ≡ map (style_of inputs.now.doc.now.elements (sources_seen inputs.now.sheets.now))
@@ -70,6 +75,7 @@ fn style_over<'a>(
 ) -> Result<Style, NoMemory>
     requires element { IsElement inputs.now.doc.now.elements number }
     requires name { inputs.now.style_name.now ≡ codes "style" }
+    requires filters { AreFilters inputs.now.filters.now inputs.now.sheets.now.selectors.items }
     requires size { size ≡ root_size_of inputs.now.doc.now.elements (sources_seen inputs.now.sheets.now) }
     requires parent { KnowsParent inputs.now.doc.now.elements (sources_seen inputs.now.sheets.now)
         (style_at (map arc_value styles.now) places.now) number }

@@ -1,10 +1,12 @@
 -- The rows of the code against those of the model.
-use Rattle.std.proofs.Common.{◌≡◌, ℕ, ◌+◌, ◌<◌, List, ◌∷◌, length, get_or, drop, Some, map, slice_get, option_map, sym, ap, ◌∙◌, refl, arith}
+use Rattle.std.proofs.Common.{◌≡◌, ℕ, ◌+◌, ◌<◌, List, [], ◌∷◌, ◌++◌, codes, length, get_or, drop, Some, map, slice_get, option_map, sym, ap, ◌∙◌, refl, arith}
 use Rattle.std.specs.List.{range_with_len}
+use Rattle.std.specs.Str.{chars}
 use Rattle.std.proofs.lemmas.List.{get_or-map, length-map, drop_more}
 use Rattle.std.proofs.lemmas.List.FromFn.{get_or-range_with_len, length-range_with_len}
 use Rattle.std.proofs.lemmas.Option.{slice_get-map, slice_get-get_or, slice_get_within, get_or_from_slice_get, same_Some}
 use denote.Enum.Bare.{tag_one}
+use Rattle.base_model.specs.Text.{Characters}
 use Rattle.value_model.specs.Table as model
 use Rattle.property_table.specs.View.{property_of, row_seen}
 use Rattle.property_table.specs.declared.property.PropId.{PropId}
@@ -53,3 +55,21 @@ alike_at f g xs i x same at =
     let one : slice_get (map f xs) i ≡ Some (f x) = slice_get-map f xs i ∙ ap (option_map f) at in
     let other : slice_get (map g xs) i ≡ Some (g x) = slice_get-map g xs i ∙ ap (option_map g) at in
     same_Some (f x) (g x) (sym one ∙ (ap (λ l. slice_get l i) same ∙ other))
+
+abbrev label_of : Row → Characters
+label_of row = chars row.label.now
+
+abbrev label_in : model.Row → Characters
+label_in row = row.name ++ codes ": "
+
+pub length-labelled : (rows : List Row) → map label_of rows ≡ map label_in model.table → length rows ≡ length model.table
+length-labelled rows same = sym (length-map rows label_of) ∙ (ap length same ∙ length-map model.table label_in)
+
+-- what is printed before a value, at the row of a property
+pub label_at : (rows : List Row) (i property : ℕ) (d : Row) → map label_of rows ≡ map label_in model.table → i ≡ property → i < length model.table → chars (get_or rows i d).label.now ≡ (get_or model.table property model.color_row).name ++ codes ": "
+label_at rows i property d same at lt =
+    let within : i < length rows = omega (arith, lt, length-labelled rows same) in
+    sym (get_or-map label_of rows i d [] within)
+    ∙ (ap (λ l. get_or l i []) same
+    ∙ (get_or-map label_in model.table i model.color_row [] lt
+    ∙ ap (λ n. label_in (get_or model.table n model.color_row)) at))

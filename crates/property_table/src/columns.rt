@@ -5,21 +5,9 @@ ghost use Rattle.property_table.specs.Columns.{AreBytes, HasByteParts, column_va
 ghost use Rattle.property_table.specs.View.{color_of, value_of, word_of};
 ghost use Rattle.value_model.specs.Value.{keyword};
 
+use crate::word::{COLOR, EM, NUMBER, PERCENT, PIXELS, REM};
 use crate::{Color, KEYWORDS, Keyword, Value};
 use stylo_base::Fixed;
-
-/// The words of values that are no keywords come after those of the keywords.
-const COLOR: u8 = 37;
-
-const PIXELS: u8 = 38;
-
-const PERCENT: u8 = 39;
-
-const NUMBER: u8 = 40;
-
-const EM: u8 = 41;
-
-const REM: u8 = 42;
 
 impl Value {
     /// Which keyword the value is, or of which kind.

@@ -12,10 +12,11 @@ mod property;
 mod rows;
 mod value;
 mod value_form;
+pub mod word;
 
 pub use color::Color;
 pub use constant::Constant;
 pub use keyword::{KEYWORDS, Keyword};
-pub use property::{COUNT, PropId, Row, by_name, inherited, initial, name, standing};
+pub use property::{COUNT, PropId, Row, by_name, inherited, initial, label, name, standing};
 pub use value::Value;
 pub use value_form::{Rule, ValueForm};

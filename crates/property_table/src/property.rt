@@ -1,6 +1,6 @@
 //! The table of properties, in the order in which they are printed.
 
-ghost use Rattle.std.specs.Prelude.{◌≡◌, ◌<◌, Some, length, map, option_map, slice_get};
+ghost use Rattle.std.specs.Prelude.{◌≡◌, ◌<◌, ◌++◌, Some, codes, length, map, option_map, slice_get};
 ghost use Rattle.std.specs.List.{range_with_len};
 ghost use Rattle.std.specs.Str.{chars};
 ghost use Rattle.value_model.specs.Table.{property_named, table};
@@ -62,6 +62,8 @@ pub struct Row {
     pub id: PropId,
     /// Its name, in lower-case ASCII.
     pub name: &'static str,
+    /// What is printed before a value of it: its name, a colon and a blank.
+    pub label: &'static str,
     /// Whether an element takes it from its parent where nothing sets it.
     pub inherited: bool,
     /// What it is where nothing sets it.
@@ -163,4 +165,18 @@ pub fn name(id: PropId) -> &'static str
     ensures { chars result.now ≡ (row_of id).name }
 {
     Row::of(id).name
+}
+
+/// What is printed before a value of the property: its name, a colon and a blank.
+pub fn label(id: PropId) -> &'static str
+    ensures { chars result.now ≡ (row_of id).name ++ codes ": " }
+{
+    labelled_rows()[id.row()].label
+}
+
+/// All rows, as `Row::all` gives them, with what is said of their labels.
+fn labelled_rows() -> &'static [Row]
+    ensures { map (λ row. chars row.label.now) result.now ≡ map (λ row. row.name ++ codes ": ") table }
+{
+    ROWS
 }

@@ -31,6 +31,7 @@ macro_rules! row {
         Row {
             id: PropId::$id,
             name: $name,
+            label: concat!($name, ": "),
             inherited: $inherited,
             initial: $initial,
             standing: $standing,

@@ -1,14 +1,24 @@
 //! What a property can be set or computed to be.
 
-ghost use Rattle.std.specs.Prelude.{◌≡◌, ◌++◌, ◌↔◌, IsTrue, OnOk, true};
+ghost use Rattle.std.specs.Prelude.{◌≡◌, ◌≤◌, ◌++◌, ◌↔◌, IsAscii, IsTrue, OnErr, OnOk, drop};
 ghost use Rattle.base_model.specs.Thousandths as thousandths;
-ghost use Rattle.stylo_base.specs.Ascii.{is_all_ascii};
 ghost use Rattle.value_model.specs.Value.{same_value, written};
 ghost use Rattle.property_table.specs.View.{value_of};
 
-use crate::number::push_fixed;
+use crate::number::{ROOM, write_fixed};
 use crate::{Color, Keyword};
 use stylo_base::{Fixed, NoMemory, Text};
+
+/// Room for a number, and its unit after it.
+const PIXELS: [u8; ROOM] = *b"                              px";
+
+const PERCENT: [u8; ROOM] = *b"                               %";
+
+const NUMBER: [u8; ROOM] = *b"                                ";
+
+const EM: [u8; ROOM] = *b"                              em";
+
+const REM: [u8; ROOM] = *b"                             rem";
 
 /// A value of a property. Numbers are in thousandths.
 #[derive(Clone, Copy, Debug, PartialEq, Eq)]
@@ -38,25 +48,36 @@ impl Value {
 
     /// Appends the value to `text`, as it is printed.
     pub fn write(self, text: &mut Text) -> Result<(), NoMemory>
-        ensures { OnOk result (text.new ≡ text.old ++ written (value_of self)) }
+        ensures ok { OnOk result (text.new ≡ text.old ++ written (value_of self)) }
+        ensures err { OnErr result (text.new ≡ text.old) }
     {
         match self {
             Value::Keyword(keyword) => text.push_str(keyword.text()),
             Value::Color(color) => color.write(text),
-            Value::Pixels(amount) => push_amount(text, amount, "px"),
-            Value::Percent(amount) => push_amount(text, amount, "%"),
-            Value::Number(amount) => push_amount(text, amount, ""),
-            Value::Em(amount) => push_amount(text, amount, "em"),
-            Value::Rem(amount) => push_amount(text, amount, "rem"),
+            Value::Pixels(amount) => push_amount(text, amount, PIXELS, ROOM - 2),
+            Value::Percent(amount) => push_amount(text, amount, PERCENT, ROOM - 1),
+            Value::Number(amount) => push_amount(text, amount, NUMBER, ROOM),
+            Value::Em(amount) => push_amount(text, amount, EM, ROOM - 2),
+            Value::Rem(amount) => push_amount(text, amount, REM, ROOM - 3),
         }
     }
 }
 
-/// Appends a number and what follows it, in ASCII.
-fn push_amount(text: &mut Text, amount: Fixed, unit: &str) -> Result<(), NoMemory>
-    requires { is_all_ascii unit.now ≡ true }
-    ensures { OnOk result (text.new ≡ text.old ++ (thousandths.written amount ++ unit.now)) }
+/// Appends a number and its unit, which stands in the buffer from `unit` on.
+fn push_amount(
+    text: &mut Text,
+    amount: Fixed,
+    mut buffer: [u8; ROOM],
+    unit: usize,
+) -> Result<(), NoMemory>
+    requires within { (28 ≤ unit) × (unit ≤ 32) }
+    requires ascii { IsAscii (drop unit buffer) }
+    ensures ok { OnOk result (text.new ≡ text.old ++ (thousandths.written amount ++ drop unit buffer)) }
+    ensures err { OnErr result (text.new ≡ text.old) }
 {
-    push_fixed(text, amount)?;
-    text.push_str(unit)
+    let start = write_fixed(amount, &mut buffer, unit);
+    match std::str::from_utf8(&buffer[start..]) {
+        Ok(written) => text.push_str(written),
+        Err(_) => unreachable!(),
+    }
 }

@@ -10,3 +10,4 @@ pub mod TextLemmas
 pub mod TriedLemmas
 pub mod WordLemmas
 pub mod KeyLemmas
+pub mod FilterLemmas

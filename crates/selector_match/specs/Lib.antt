@@ -1,2 +1,3 @@
 pub mod Bears
+pub mod Filter
 pub mod Results

@@ -2,10 +2,12 @@
 #![tactic(auto)]
 
 mod compared;
+mod filter;
 mod index;
 mod key;
 mod match_result;
 mod matching;
 mod simple;
 
+pub use filter::{filter_of, may_hold};
 pub use matching::matches;

@@ -15,7 +15,7 @@ abbrev pub slices : List Token → List (List Token)
 slices tokens = filter (λ slice. not (is_nil slice)) (parts_between is_white tokens)
 
 -- One to four values are for top, right, bottom and left: a missing right is the top, a missing bottom the top, a
--- missing left the right (css-values-4 speaks of it in CSS 2.2, section 8.3).
+-- missing left the right (CSS 2.2, section 8.3).
 abbrev pub four_sides : {A : Type 0} → List A → Option (List A)
 four_sides (a ∷ []) = Some (a ∷ a ∷ a ∷ a ∷ [])
 four_sides (a ∷ b ∷ []) = Some (a ∷ b ∷ a ∷ b ∷ [])

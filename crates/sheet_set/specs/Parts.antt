@@ -28,12 +28,19 @@ subject_declared declaration subject =
 -- and where its value is no such one: the value of each property, where all are taken
 abbrev pub values_declared : Declaration → Subject → List Declared
 values_declared declaration subject =
-    unwrap_or (option_map (λ values. declared_each declaration subject (map exactly values)) (values_in subject declaration.value)) []
+    unwrap_or
+    (option_map
+    (λ values. declared_each declaration subject (map exactly values))
+    (values_in subject declaration.value))
+    []
 
 -- what these tokens declare of one property
 abbrev pub part_declared : Declaration → ℕ → List Token → List Declared
 part_declared declaration property tokens =
-    option_to_list (option_map (λ value. declared_with declaration (longhand property) (exactly value)) (value_in property tokens))
+    option_to_list
+    (option_map
+    (λ value. declared_with declaration (longhand property) (exactly value))
+    (value_in property tokens))
 
 -- what each part declares of its property
 abbrev pub each_declared : Declaration → List ℕ → List (List Token) → List Declared
@@ -43,4 +50,9 @@ each_declared declaration properties parts =
 -- the same, where all are taken, and else nothing
 abbrev pub parts_declared : Declaration → List ℕ → List (List Token) → List Declared
 parts_declared declaration properties parts =
-    unwrap_or (option_map (λ (values : List Value). map (λ pair. declared_with declaration (longhand pair.0) (exactly pair.1)) (zip properties values)) (every (map (λ pair. value_in pair.0 pair.1) (zip properties parts)))) []
+    unwrap_or
+    (option_map
+    (λ (values : List Value).
+    map (λ pair. declared_with declaration (longhand pair.0) (exactly pair.1)) (zip properties values))
+    (every (map (λ pair. value_in pair.0 pair.1) (zip properties parts))))
+    []

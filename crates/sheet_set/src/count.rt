@@ -3,7 +3,7 @@
 ghost use Rattle.std.specs.Prelude.{◌≡◌, IfOk, sum_by};
 ghost use Rattle.shorthands.specs.View.{declared_count};
 
-use shorthands::{Declared, Target};
+use shorthands::Declared;
 use stylo_base::NoMemory;
 
 /// How many declarations the entries stand for. No memory holds 2^64 of them, which a few shorthands
@@ -13,20 +13,10 @@ pub fn count_all(entries: &[Declared]) -> Result<u64, NoMemory>
 {
     let mut count: u64 = 0;
     for entry in entries {
-        let Some(more) = count.checked_add(count_of(entry)) else {
+        let Some(more) = count.checked_add(entry.count()) else {
             return Err(NoMemory);
         };
         count = more;
     }
     Ok(count)
-}
-
-// How many declarations the entry stands for: one for each property.
-fn count_of(entry: &Declared) -> u64
-    ensures { result ≡ declared_count entry.now }
-{
-    match entry.target {
-        Target::Custom(_) => 1,
-        _ => entry.longhands().len() as u64,
-    }
 }

@@ -77,7 +77,9 @@ fn root_size(rt: HostRuntime) -> Result<(), Fail> {
     let text = texts(rt.alloc(), "html{font-size:2rem}p{padding:2rem;width:2rem}")?;
     assert_eq!(rt;
         text.as_str(),
-        "display: block; font-size: 32px\nwidth: 64px; padding-top: 1px; padding-right: 1px; padding-bottom: 1px; padding-left: 1px; font-size: 32px\n"
+        "display: block; font-size: 32px\n\
+         width: 64px; padding-top: 1px; padding-right: 1px; padding-bottom: 1px; padding-left: 1px; \
+         font-size: 32px\n"
     );
     Ok(())
 }

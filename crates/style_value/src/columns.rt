@@ -8,19 +8,13 @@ ghost use Rattle.value_model.specs.Value.{same_value};
 ghost use Rattle.value_model.specs.Style.{inherited_values, initial_style};
 ghost use Rattle.property_table.specs.Columns.{value_amount, value_word};
 ghost use Rattle.property_table.specs.View.{property_of, value_of};
-ghost use Rattle.style_value.specs.ColumnView.{initial_values, with_value_in};
+ghost use Rattle.style_value.specs.ColumnView.{initial_values, standing_values, with_value_in};
 ghost use Rattle.style_value.specs.StyleText.{printed_properties};
 
+use property_table::word::{COLOR, NUMBER, PIXELS};
 use property_table::{COUNT, Keyword, PropId, Row, Value};
 use std::marker::Model;
 use stylo_base::Fixed;
-
-/// The words of values that are no keywords.
-const COLOR: u8 = 37;
-
-const PIXELS: u8 = 38;
-
-const NUMBER: u8 = 40;
 
 /// The word of the initial value of each property, which is that of its standing value too.
 const WORDS: [u8; COUNT] = [
@@ -106,6 +100,7 @@ impl Model for Columns {
 
 impl Columns {
     /// The initial value of each property.
+    #[inline]
     pub fn initial() -> Columns
         ensures { result ≡ initial_style.values }
     {
@@ -116,6 +111,7 @@ impl Columns {
     }
 
     /// The value in `parent` of each inherited property, and the initial one of each other.
+    #[inline]
     pub fn inheriting(parent: &Columns) -> Columns
         ensures { result ≡ inherited_values table parent.now }
     {
@@ -128,6 +124,7 @@ impl Columns {
     }
 
     /// Gives a property the value that it has in `parent`.
+    #[inline]
     fn inherit(&mut self, parent: &Columns, id: PropId)
         ensures new { self.new ≡ with_value_in parent.now (property_of id) self.old }
         ensures all { length parent.now ≡ length table }
@@ -174,6 +171,13 @@ impl Columns {
         count
     }
 
+    /// Whether each value is the one that is not printed.
+    pub fn is_all_standing(&self) -> bool
+        ensures { IsTrue result → self.now ≡ map (λ row. row.standing) table }
+    {
+        self.words == WORDS && are_standing(&self.amounts)
+    }
+
     /// Whether the value of the property of a row is the one that is not printed.
     fn is_standing(&self, row: usize) -> bool
         requires { row < COUNT }
@@ -191,6 +195,17 @@ impl Columns {
     }
 }
 
+/// Whether these are the amounts of the standing values.
+fn are_standing(amounts: &[Fixed; COUNT]) -> bool
+    ensures { IsTrue result → amounts.now ≡ map value_amount standing_values }
+{
+    let mut same = true;
+    for row in 0..COUNT {
+        same &= amounts[row].thousandths() == STANDING[row];
+    }
+    same
+}
+
 /// The word of a value.
 fn word(value: &Value) -> u8
     ensures { result ≡ value_word value.now }
@@ -200,6 +215,7 @@ fn word(value: &Value) -> u8
 
 /// The amount of the initial value of each property: black, a border that is 3 pixels wide, a font
 /// size of 16 pixels and a font weight of 400, and 0 at the others.
+#[inline]
 fn initial_amounts() -> [Fixed; COUNT]
     ensures { result ≡ map value_amount initial_values }
 {

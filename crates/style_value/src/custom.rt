@@ -74,6 +74,7 @@ impl Custom {
     }
 
     /// The same custom properties, which are shared.
+    #[inline]
     pub fn share(&self) -> Result<Custom, NoMemory>
         ensures { IfOk result (λ custom. custom ≡ self.now) }
     {

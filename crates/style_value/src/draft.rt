@@ -45,12 +45,14 @@ impl StyleDraft {
 
     /// The draft in which each inherited property has its value in `parent`, and each other one its
     /// initial value. It shares the custom properties of `parent`.
+    #[inline]
     pub fn inheriting(_alloc: Global, parent: &Style) -> Result<StyleDraft, NoMemory>
         ensures { IfOk result (λ draft. draft ≡ inherited_part parent.now) }
     {
+        let custom = parent.custom().share()?;
         Ok(StyleDraft {
             columns: Columns::inheriting(parent.columns()),
-            custom: parent.custom().share()?,
+            custom,
         })
     }
 
@@ -86,6 +88,7 @@ impl StyleDraft {
     }
 
     /// The style with these values. It takes memory only for the text of those that are printed.
+    #[inline]
     pub fn finish(self, alloc: Global) -> Result<Style, NoMemory>
         ensures { IfOk result (λ s. s ≡ self) }
     {

@@ -47,6 +47,7 @@ impl Style {
     }
 
     /// The style with these values, which are printed as `body`.
+    #[inline]
     pub(crate) fn of_parts(columns: Columns, custom: Custom, body: Text) -> Style
         requires { body ≡ values_text columns }
         ensures { result ≡ record { values = columns; custom = custom } }

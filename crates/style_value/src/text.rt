@@ -3,23 +3,26 @@
 ghost use Rattle.std.specs.Prelude.{◌≡◌, ◌++◌, IfOk, OnOk, codes, map};
 ghost use Rattle.custom_model.specs.Printed.{joined};
 ghost use Rattle.value_model.specs.Printed.{declaration_text};
-ghost use Rattle.property_table.specs.View.{property_of, row_seen, value_of};
+ghost use Rattle.property_table.specs.View.{property_of, row_of, value_of};
 ghost use Rattle.style_value.specs.StyleText.{property_text, values_text};
 
 use crate::columns::Columns;
-use property_table::{COUNT, PropId, Row, Value};
+use property_table::{COUNT, PropId, Value, label};
 use std::alloc::Global;
 use stylo_base::{NoMemory, Text};
 
-/// The bytes that are made room for beside the name of a property: `: `, a value of ten bytes, and
-/// `; `. A text that is longer takes more memory.
-const ROOM: usize = 14;
+/// The bytes that are made room for beside the label of a property: a value of ten bytes, and `; `. A
+/// text that is longer takes more memory.
+const ROOM: usize = 12;
 
 /// The declarations of the properties whose value is not the standing one. It takes memory at most
 /// once, but where values are long, and none where nothing is printed.
 pub(crate) fn values_text(alloc: Global, columns: &Columns) -> Result<Text, NoMemory>
     ensures { IfOk result (λ text. text ≡ values_text columns.now) }
 {
+    if columns.is_all_standing() {
+        return Ok(Text::new(alloc));
+    }
     let mut list = [PropId::Color; COUNT];
     let count = columns.printed(&mut list);
     declarations(alloc, columns, &list[..count])
@@ -34,7 +37,7 @@ fn declarations(alloc: Global, columns: &Columns, ids: &[PropId]) -> Result<Text
     let mut separator = "";
     for id in ids {
         text.push_str(separator)?;
-        push_declaration(&mut text, Row::of(*id), columns.value(*id))?;
+        push_declaration(&mut text, *id, columns.value(*id))?;
         separator = "; ";
     }
     Ok(text)
@@ -44,19 +47,16 @@ fn declarations(alloc: Global, columns: &Columns, ids: &[PropId]) -> Result<Text
 fn room(ids: &[PropId]) -> usize {
     let mut room = 0usize;
     for id in ids {
-        room = room
-            .saturating_add(Row::of(*id).name.len())
-            .saturating_add(ROOM);
+        room = room.saturating_add(label(*id).len()).saturating_add(ROOM);
     }
     room
 }
 
 /// Appends a property and its value to the text. Out of memory, it may hold a part of them.
-fn push_declaration(text: &mut Text, row: &Row, value: Value) -> Result<(), NoMemory>
-    ensures { let declaration = declaration_text (row_seen row.now) (value_of value) in
+fn push_declaration(text: &mut Text, id: PropId, value: Value) -> Result<(), NoMemory>
+    ensures { let declaration = declaration_text (row_of id) (value_of value) in
         OnOk result (text.new ≡ text.old ++ declaration) }
 {
-    text.push_str(row.name)?;
-    text.push_str(": ")?;
+    text.push_str(label(id))?;
     value.write(text)
 }

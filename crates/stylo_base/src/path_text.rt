@@ -5,6 +5,7 @@ ghost use Rattle.std.specs.Str.{chars};
 
 use crate::Text;
 use std::alloc::Global;
+use std::fmt;
 use std::marker::Model;
 
 /// The JSON pointer of a fault. Contracts see the list of its characters.
@@ -19,6 +20,12 @@ impl Model for PathText {
     ghost Value = { List ℕ };
 
     ghost view = { λ p. p.text };
+}
+
+impl fmt::Display for PathText {
+    fn fmt<W: fmt::Write>(&self, f: &mut fmt::Formatter<W>) -> fmt::Result {
+        f.write_str(self.as_str())
+    }
 }
 
 impl PathText {

@@ -4,6 +4,8 @@ ghost use Rattle.std.specs.Prelude.{◌≡◌};
 ghost use Rattle.stylo_base.specs.KindName.{name_of};
 
 use crate::NoMemory;
+use std::fmt;
+use thiserror::Error;
 
 /// What a limit counts.
 #[derive(Clone, Copy, Debug, PartialEq, Eq)]
@@ -47,19 +49,30 @@ impl Kind {
     }
 }
 
+impl fmt::Display for Kind {
+    fn fmt<W: fmt::Write>(&self, f: &mut fmt::Formatter<W>) -> fmt::Result {
+        f.write_str(self.name())
+    }
+}
+
 /// Why an edit is refused. A refused edit changes nothing.
-#[derive(Clone, Copy, Debug, PartialEq, Eq)]
+#[derive(Clone, Copy, Debug, PartialEq, Eq, Error)]
 pub enum EditRefused {
     /// No element has this number.
+    #[error("no element has number {0}")]
     UnknownNode(u64),
     /// No sheet has this number.
+    #[error("no sheet has number {0}")]
     UnknownSheet(u64),
     /// There is no such place: the root would go or move, an element would be below itself, or an
     /// index is past the end.
+    #[error("there is no such place")]
     BadPlace,
     /// The limit of this kind, with its number, would be exceeded.
+    #[error("limit {0} of {1} would be passed")]
     Limit(Kind, u64),
     /// There was no memory.
+    #[error("no memory")]
     NoMemory,
 }
 

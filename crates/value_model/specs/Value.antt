@@ -78,4 +78,10 @@ value_back (rem z) = refl
 
 abbrev pub value_code : Coded Value
 value_code =
-    code_by ValueCase (coded⊎ (coded_list coded_ℕ) (coded⊎ color_code (coded⊎ coded_ℤ (coded⊎ coded_ℤ (coded⊎ coded_ℤ (coded⊎ coded_ℤ coded_ℤ)))))) value_case value_from_case value_back
+    code_by
+    ValueCase
+    (coded⊎ (coded_list coded_ℕ) (coded⊎ color_code
+    (coded⊎ coded_ℤ (coded⊎ coded_ℤ (coded⊎ coded_ℤ (coded⊎ coded_ℤ coded_ℤ))))))
+    value_case
+    value_from_case
+    value_back

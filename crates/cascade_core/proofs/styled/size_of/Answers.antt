@@ -1,16 +1,26 @@
-use Rattle.std.proofs.Common.{ap, ◌∙◌}
+use Rattle.std.proofs.Common.{◌/◌, ◌^◌, ap, sym, ◌∙◌}
 use Rattle.std.specs.FinMap as finmap
-use Rattle.value_model.specs.Table.{font_size_row}
-use Rattle.value_model.specs.Value.{pixels}
+use Rattle.std.specs.Int.RustNames.{bit_and}
+use Rattle.std.proofs.lemmas.Nat.Bits.{shr_and_one}
+use Rattle.value_model.specs.Value.{Value, pixels}
+use Rattle.value_model.specs.Table.{font_size_property, font_size_row}
 use Rattle.value_model.specs.Style.{size_in}
-use Rattle.cascade_model.specs.Ending.{ending}
+use Rattle.cascade_model.specs.Ending.{Ending, ending}
 use Rattle.cascade_model.specs.Cascade.{sizes, value_at}
+use Rattle.cascade_core.specs.CameView.{Reading}
+use Rattle.cascade_core.proofs.FilledLemmas.{size_within}
 use Rattle.cascade_core.proofs.styled.size_of.Goals as goal
 
-pub returns-clause-size : goal.returns-clause-size
-returns-clause-size c =
-    let size = c.over-over.ensures.size in
-    let ends = c.in_ok-ending.ensures.ending
-    ∙ ap (λ p. ending (finmap.get c.args.longhands.now.custom) p c.args.applied.now) c.requires in
+pub returns-then-declared-row-eq0 : goal.returns-then-declared-row-eq0
+returns-then-declared-row-eq0 c =
+    let size = c.args.font.size in
+    let unset = sym (shr_and_one c.declared.result font_size_property)
+    ∙ (ap (λ k. bit_and (c.declared.result / 2 ^ k) 1) (sym c.row.ensures.row) ∙ c.if-declared-row-eq0.true) in
+    sym (ap (λ (e : Ending Value). size_in (value_at font_size_row (pixels size) size c.args.font.weight (sizes size c.args.root_size) e)) (c.declared.ensures.others (finmap.get c.args.custom.now) font_size_property unset size_within))
+
+pub returns : goal.returns
+returns c =
+    let size = c.args.font.size in
     c.own_size.ensures
-    ∙ (λ i. size_in (value_at font_size_row (pixels (size i)) (size i) (c.over-over.ensures.weight i) (sizes (size i) c.args.root_size) (ends i)))
+    ∙ ap (λ (e : Ending Value). size_in (value_at font_size_row (pixels size) size c.args.font.weight (sizes size c.args.root_size) e)) (c.in_ok-ending.ensures.ending
+    ∙ ap (λ (r : Reading). ending (finmap.get r.custom) r.property c.args.applied.now) c.over-longhands.ensures)

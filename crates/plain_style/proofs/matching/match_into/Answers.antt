@@ -1,15 +1,39 @@
-use Rattle.std.proofs.Common.{◌≡◌, ◌<◌, ◌∷◌, ◌+◌, [], None, map, drop, get_or, length, refl, ap, sym, ◌∙◌, append-nil, rules as the_rules, flat_map}
-use Rattle.std.proofs.lemmas.List.{drop_all, get_or-map}
+use Rattle.std.proofs.Common.{◌≡◌, ◌<◌, ◌∷◌, ◌+◌, [], None, false, map, drop, get_or, length, refl, ap, sym, ◌∙◌, append-nil, arith, rules as the_rules, flat_map}
+use Rattle.std.proofs.lemmas.List.{drop_all, get_or-map, length-map}
 use Rattle.selector_model.specs.Holds.{holds}
 use Rattle.selector_types.specs.View.{selector_of}
 use Rattle.cascade_model.specs.Matching.{rule_matched, greatest_by, all_matched}
 use Rattle.cascade_core.specs.View.{matched_of}
 use Rattle.sheet_set.specs.Ranks.{rank_seen}
 use Rattle.sheet_set.specs.View.{rule_of, sources_seen, rules_with}
-use Rattle.plain_style.proofs.MatchLemmas.{all_matched-same, rule_none, rule_some, rules_at, matched_all}
+use Rattle.plain_style.specs.Filters.{rule_filter}
+use Rattle.plain_style.proofs.MatchLemmas.{all_matched-same, filter_at, no_greatest, rule_none, rule_passed, rule_some, rules_at, matched_all}
 use Rattle.sheet_set.proofs.Collected.{one_more}
 use Rattle.plain_style.proofs.matching.match_into.Goals as goal
 use Rattle.plain_style.proofs.matching.match_into.Goals.{in-Some+in_ok-add_declarations, in_default}
+
+pub bounds-filters-index : goal.bounds-filters-index
+bounds-filters-index c =
+    let within : c.loop-index.index < length c.selectors-selectors.result.now = search the_rules in
+    omega (arith, within, ap length c.requires.filters, length-map c.args.sheets.now.selectors.items rule_filter, ap length c.selectors-selectors.ensures.list)
+
+pub loop-index-preserved-then-not-may_hold : goal.loop-index-preserved-then-not-may_hold
+loop-index-preserved-then-not-may_hold c =
+    let doc = c.args.doc.now.elements in
+    let x = c.args.x in
+    let i = c.loop-index.index in
+    let rs = c.rules-rules.result.now in
+    let ls = c.selectors-selectors.result.now in
+    let layers = c.args.sheets.now.layers in
+    let below : i < length rs = search the_rules in
+    let within : i < length ls = search the_rules in
+    let none : c.may_hold.result ≡ false = search the_rules in
+    rule_passed (rule_matched layers (λ s. holds doc s x)) (flat_map matched_of c.loop-index.list.items) _ rs ls i below within
+    (λ rule list at.
+    let filter = filter_at c.args.filters.now ls c.args.sheets.now.selectors.items i list c.requires.filters c.selectors-selectors.ensures.list at in
+    rule_none layers (λ s. holds doc s x) (rule_of rule list.items)
+    (no_greatest (λ s. holds doc s x) (map selector_of list.items) (c.may_hold.ensures.none (map selector_of list.items) doc x filter c.name_bits-names.ensures none)))
+    c.loop-index.invariant
 
 pub loop-index-preserved : goal.loop-index-preserved
 loop-index-preserved c =

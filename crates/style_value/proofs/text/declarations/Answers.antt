@@ -12,7 +12,7 @@ loop-id-init c =
 pub loop-id-preserved : goal.loop-id-preserved
 loop-id-preserved c =
     let old = c.loop-id.invariant in
-    printed_next _ _ _ _ _ _ _ _ _ _ (value_of c.value.result) c.loop-id-test.true c.of.ensures.row c.value.ensures.value (c.in_ok-push_str.ensures.ascii old.ascii) c.in_ok-push_declaration.ensures refl old
+    printed_next _ _ _ _ _ _ _ _ _ _ (value_of c.value.result) c.loop-id-test.true refl c.value.ensures.value (c.in_ok-push_str.ensures.ascii old.ascii) c.in_ok-push_declaration.ensures refl old
 
 pub returns : goal.returns
 returns c = printed_all _ _ _ _ c.loop-id.id-index c.loop-id-test.false c.loop-id.invariant

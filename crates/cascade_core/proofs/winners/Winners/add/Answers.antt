@@ -11,10 +11,10 @@ map-map : {A B C : Type 0} (f : A → B) (g : B → C) (xs : List A) → map g (
 map-map f g [] = refl
 map-map f g (x ∷ xs) = ap (λ l. g (f x) ∷ l) (map-map f g xs)
 
-pub returns-then-is_custom : goal.returns-then-is_custom
-returns-then-is_custom c = λ ds h.
+pub returns-then-is_custom-clause-best : goal.returns-then-is_custom-clause-best
+returns-then-is_custom-clause-best c = λ ds h.
     subst (λ (w : Won). AreWinners w (ds ++ matched_of c.args.d.now)) (λ i. record (sym c.self.view_is i) { have_custom = true }) (put_custom c.args.self.now ds c.args.d.now (sym c.is_custom.ensures ∙ c.if-is_custom.true) h)
 
-pub returns : goal.returns
-returns c = λ ds h.
-    subst (λ es. AreWinners c.loop-id.self (ds ++ es)) (ap (map (λ id. entry_of (property_of id) c.args.d.now)) (take_all c.loop-id.id-index c.longhands-ids.result.now c.loop-id-test.false) ∙ (sym (map-map property_of (λ p. entry_of p c.args.d.now) c.longhands-ids.result.now) ∙ (ap (map (λ p. entry_of p c.args.d.now)) c.longhands-ids.ensures ∙ sym (matched_longhands c.args.d.now (sym c.is_custom.ensures ∙ c.if-is_custom.false))))) (c.loop-id.invariant ds h)
+pub returns-clause-best : goal.returns-clause-best
+returns-clause-best c = λ ds h.
+    subst (λ es. AreWinners c.loop-id.self (ds ++ es)) (ap (map (λ id. entry_of (property_of id) c.args.d.now)) (take_all c.loop-id.id-index c.longhands-ids.result.now c.loop-id-test.false) ∙ (sym (map-map property_of (λ p. entry_of p c.args.d.now) c.longhands-ids.result.now) ∙ (ap (map (λ p. entry_of p c.args.d.now)) c.longhands-ids.ensures ∙ sym (matched_longhands c.args.d.now (sym c.is_custom.ensures ∙ c.if-is_custom.false))))) (c.loop-id.invariant.0 ds h)

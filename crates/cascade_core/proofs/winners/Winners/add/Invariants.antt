@@ -1,4 +1,4 @@
-use Rattle.std.proofs.Common.{◌++◌, take, map, List}
+use Rattle.std.proofs.Common.{◌≡◌, ◌++◌, take, map, List}
 use Rattle.cascade_model.specs.Key.{Matched}
 use Rattle.property_table.specs.View.{property_of}
 use Rattle.cascade_core.specs.View.{entry_of}
@@ -7,4 +7,4 @@ use Rattle.cascade_core.proofs.winners.Winners.add.Given as goal
 
 abbrev pub invariant-loop-id : goal.invariant-loop-id
 invariant-loop-id l =
-    (ds : List Matched) → AreWinners l.fn.self ds → AreWinners l.self (ds ++ map (λ id. entry_of (property_of id) l.d) (take l.id-index l.ids))
+    ((ds : List Matched) → AreWinners l.fn.self ds → AreWinners l.self (ds ++ map (λ id. entry_of (property_of id) l.d) (take l.id-index l.ids))) × (l.self.list ≡ l.fn.self.list)

@@ -6,8 +6,8 @@ use Rattle.std.specs.Prelude.{slice_get}
 use Rattle.std.proofs.lemmas.Nat.Bits.{bit_at-trailing_zeros}
 use Rattle.custom_model.specs.Expand.{Lookup}
 use Rattle.value_model.specs.Value.{Value, pixels}
-use Rattle.value_model.specs.Table.{table, font_size_property}
-use Rattle.value_model.specs.Style.{Style, inherited_part, inherited_values, font_size_of, font_weight_of}
+use Rattle.value_model.specs.Table.{table, font_size_property, font_size_row}
+use Rattle.value_model.specs.Style.{Style, inherited_part, inherited_values, size_in, font_size_of, font_weight_of}
 use Rattle.property_table.specs.View.{row_seen, value_of}
 use Rattle.property_table.specs.declared.property.Row.{Row}
 use Rattle.property_table.proofs.RowLemmas.{length-rows, row_at, property_at}
@@ -19,8 +19,8 @@ use Rattle.cascade_core.specs.EndingView.{ending_seen}
 use Rattle.cascade_core.proofs.FilledLemmas.{IsPartly, the_sizes, partly_first, partly_next, partly_all, cleared_less}
 use mir.Val.{Fits}
 use Rattle.cascade_core.proofs.WonLemmas.{short_table}
-use Rattle.cascade_core.proofs.styled.values.Goals as goal
-use Rattle.cascade_core.proofs.styled.values.Goals.{then-is_root, else-is_root}
+use Rattle.cascade_core.proofs.styled.set_values.Goals as goal
+use Rattle.cascade_core.proofs.styled.set_values.Goals.{then-is_root, else-is_root}
 
 -- the values that are left, where they and the row whose bit is cleared are known
 moved : (custom : Lookup) (is_root : Bool) (parents : List Value) (root_size : ℤ) (ds : List Matched) (vs ws : List Value) (rest r q : ℕ) → vs ≡ ws → r ≡ q → IsPartly custom is_root parents root_size ds ws (bit_and rest (bit_not w64 (1 * 2 ^ q % 2 ^ 64))) → IsPartly custom is_root parents root_size ds vs (bit_and rest (bit_not w64 (1 * 2 ^ r % 2 ^ 64)))
@@ -31,13 +31,14 @@ pub loop-rest-init : goal.loop-rest-init
 loop-rest-init c =
     let custom : Lookup = finmap.get c.args.custom.now in
     let parents : List Value = c.args.parent.now.values in
-    let first = partly_first custom c.args.is_root parents c.args.root_size c.args.applied.now c.size_of.ensures.all c.declared.result c.declared.ensures.rows (c.declared.ensures.others custom) in
-    let own : c.in_ok-own.own ≡ own_size custom parents c.args.root_size c.args.applied.now = c.in_ok-own.ensures.size
-    ∙ ap (λ (r : Reading). own_size (finmap.get r.custom) parents c.args.root_size c.args.applied.now) c.over-longhands.ensures in
-    let was : c.set.new.self ≡ record (inherited_part c.args.parent.now) { values = set (inherited_values table parents) font_size_property (pixels c.in_ok-own.own) } = c.set.ensures ∙ ap (λ (s : Style). record s { values = set s.values font_size_property (pixels c.in_ok-own.own) }) c.in_ok-draft.ensures in (
+    let first = partly_first custom c.args.is_root parents c.args.root_size c.args.applied.now c.font_of-font.ensures.all c.declared.result c.declared.ensures.rows (c.declared.ensures.others custom) in
+    let size = c.font_of-font.ensures.size in
+    let own : c.in_ok-own.own ≡ own_size custom parents c.args.root_size c.args.applied.now = c.in_ok-own.ensures
+    ∙ (λ i. size_in (value_at font_size_row (pixels (size i)) (size i) (c.font_of-font.ensures.weight i) (sizes (size i) c.args.root_size) (ending custom font_size_property c.args.applied.now))) in
+    let was : c.set.new.self ≡ record (inherited_part c.args.parent.now) { values = set (inherited_values table parents) font_size_property (pixels c.in_ok-own.own) } = c.set.ensures ∙ ap (λ (s : Style). record s { values = set s.values font_size_property (pixels c.in_ok-own.own) }) c.requires in (
       moved custom c.args.is_root parents c.args.root_size c.args.applied.now c.set.new.self.values _ c.declared.result c.row.result font_size_property (ap (λ (s : Style). s.values) was ∙ ap (λ z. set (inherited_values table parents) font_size_property (pixels z)) own) c.row.ensures.row first,
       ap (λ (s : Style). s.custom) was,
-      ap (λ (r : Reading). r.custom) (c.size_of.ensures.same ∙ c.over-longhands.ensures),
+      ap (λ (r : Reading). r.custom) c.over-longhands.ensures,
     )
 
 -- the lowest bit of a number that is not 0 is set
@@ -74,14 +75,15 @@ loop-rest-preserved c =
     let ends : ending_seen value_of c.in_ok-ending.ending ≡ ending custom q ds = c.in_ok-ending.ensures.ending
     ∙ ap (λ (r : Reading). ending (finmap.get r.custom) r.property ds) (c.read_as.ensures
     ∙ (λ i. record { custom = c.loop-rest.invariant.2 i; property = at i })) in
-    let own : c.in_ok-own.own ≡ own_size custom parents c.args.root_size ds = c.in_ok-own.ensures.size
-    ∙ ap (λ (r : Reading). own_size (finmap.get r.custom) parents c.args.root_size ds) c.over-longhands.ensures in
+    let size = c.font_of-font.ensures.size in
+    let own : c.in_ok-own.own ≡ own_size custom parents c.args.root_size ds = c.in_ok-own.ensures
+    ∙ (λ i. size_in (value_at font_size_row (pixels (size i)) (size i) (c.font_of-font.ensures.weight i) (sizes (size i) c.args.root_size) (ending custom font_size_property ds))) in
     let root : c.if-is_root.sizes ≡ (if c.args.is_root then own_size custom parents c.args.root_size ds else c.args.root_size) = elim c.if-is_root.branch [
       | then-is_root w ↦ w.sizes-is ∙ (λ i. if sym w.if-is_root.true i then own i else c.args.root_size)
       | else-is_root w ↦ w.sizes-is ∙ (λ i. if sym w.if-is_root.false i then own i else c.args.root_size)
     ] in
     let put = c.set-in-loop-rest.ensures in (
-      moved custom c.args.is_root parents c.args.root_size ds c.set-in-loop-rest.new.self.values _ c.loop-rest.rest c.row-in-loop-rest.result q (ap (λ (s : Style). s.values) put ∙ ap (λ k. set c.loop-rest.draft.values k (value_of c.value_at.result)) at) (c.row-in-loop-rest.ensures.row ∙ at) (next_row custom c.args.is_root parents c.args.root_size ds c.size_of.ensures.all c.loop-rest.draft.values c.loop-rest.rest c.all.result.now q _ _ _ _ _ _ _ c.value_at.ensures c.all.ensures.rows within is_set (ap (slice_get parents) (sym at) ∙ c.over.ensures.value) c.over.ensures.size c.over.ensures.weight (λ i. sizes (own i) (root i)) ends c.loop-rest.invariant.0),
+      moved custom c.args.is_root parents c.args.root_size ds c.set-in-loop-rest.new.self.values _ c.loop-rest.rest c.row-in-loop-rest.result q (ap (λ (s : Style). s.values) put ∙ ap (λ k. set c.loop-rest.draft.values k (value_of c.value_at.result)) at) (c.row-in-loop-rest.ensures.row ∙ at) (next_row custom c.args.is_root parents c.args.root_size ds c.font_of-font.ensures.all c.loop-rest.draft.values c.loop-rest.rest c.all.result.now q _ _ _ _ _ _ _ c.value_at.ensures c.all.ensures.rows within is_set (ap (slice_get parents) (sym at) ∙ c.value.ensures.value) c.font_of-font.ensures.size c.font_of-font.ensures.weight (λ i. sizes (own i) (root i)) ends c.loop-rest.invariant.0),
       ap (λ (s : Style). s.custom) put ∙ c.loop-rest.invariant.1,
       ap (λ (r : Reading). r.custom) (c.ending.ensures.same ∙ c.read_as.ensures) ∙ c.loop-rest.invariant.2,
     )
@@ -89,6 +91,6 @@ loop-rest-preserved c =
 pub returns : goal.returns
 returns c =
     λ i. record {
-      values = partly_all (finmap.get c.args.custom.now) c.args.is_root c.args.parent.now.values c.args.root_size c.args.applied.now c.size_of.ensures.all c.loop-rest.draft.values c.loop-rest.rest c.loop-rest-test.false c.loop-rest.invariant.0 i;
+      values = partly_all (finmap.get c.args.custom.now) c.args.is_root c.args.parent.now.values c.args.root_size c.args.applied.now c.font_of-font.ensures.all c.loop-rest.draft.values c.loop-rest.rest c.loop-rest-test.false c.loop-rest.invariant.0 i;
       custom = c.loop-rest.invariant.1 i;
     }

@@ -1,7 +1,7 @@
 use Rattle.std.proofs.Common.{◌≡◌}
 use Rattle.std.specs.FinMap as finmap
 use Rattle.cascade_core.proofs.FilledLemmas.{IsPartly}
-use Rattle.cascade_core.proofs.styled.values.Given as goal
+use Rattle.cascade_core.proofs.styled.set_values.Given as goal
 
 abbrev pub invariant-loop-rest : goal.invariant-loop-rest
 invariant-loop-rest l =
