@@ -18,4 +18,4 @@ mod styled;
 mod winners;
 
 pub use matched::Matched;
-pub use styled::cascade;
+pub use styled::{cascade, cascade_draft};

@@ -40,13 +40,29 @@ pub fn cascade(
     ensures { IfOk result (λ style. style ≡ cascaded is_root parent.now root_size
         (flat_map matched_of (matched.now ++ attached.now))) }
 {
+    cascade_draft(alloc, matched, attached, parent, root_size, is_root)?.finish(alloc)
+}
+
+/// The same style before it is finished, for a caller that keeps equal styles once: the text of the
+/// style is not yet made.
+pub fn cascade_draft(
+    alloc: Global,
+    matched: &[Matched<'_>],
+    attached: &[Matched<'_>],
+    parent: &Style,
+    root_size: Fixed,
+    is_root: bool,
+) -> Result<StyleDraft, NoMemory>
+    ensures { IfOk result (λ draft. draft ≡ cascaded is_root parent.now root_size
+        (flat_map matched_of (matched.now ++ attached.now))) }
+{
     let mut winners = Winners::none(matched, attached);
     winners.add_all(matched, attached)?;
     let applied = Applied::of(matched, attached, &winners);
     let mut draft = StyleDraft::inheriting(alloc, parent)?;
     fill(alloc, &mut draft, &applied, parent, root_size, is_root)?;
     draft.adjust(is_root);
-    draft.finish(alloc)
+    Ok(draft)
 }
 
 /// Makes the style before the adjustments of what an element takes from its parent.

@@ -3,7 +3,7 @@
 use property_table::{Keyword, PropId, Value};
 use std::alloc::Global;
 use std::test::Fail;
-use style_value::{Style, StyleDraft};
+use style_value::{Style, StyleDraft, StyleTable};
 use stylo_base::NoMemory;
 
 // What is inherited of a style with one value that is, and one that is not. Nothing is adjusted, so
@@ -24,5 +24,29 @@ fn values(rt: HostRuntime) -> Result<(), Fail> {
         "visibility: hidden; border-top-width: 3px; border-right-width: 3px; \
          border-bottom-width: 3px; border-left-width: 3px"
     );
+    Ok(())
+}
+
+// A draft in which this is the value of `display`.
+fn displayed(alloc: Global, display: Keyword) -> Result<StyleDraft, NoMemory> {
+    let mut draft = StyleDraft::inheriting(alloc, &Style::initial(alloc)?)?;
+    draft.set(PropId::Display, Value::Keyword(display));
+    Ok(draft)
+}
+
+// The numbers of a style, of another one, and of the first again.
+fn numbers(alloc: Global) -> Result<(usize, usize, usize), NoMemory> {
+    let mut table = StyleTable::start(alloc)?;
+    Ok((
+        table.add(alloc, displayed(alloc, Keyword::Block)?)?,
+        table.add(alloc, displayed(alloc, Keyword::None)?)?,
+        table.add(alloc, displayed(alloc, Keyword::Block)?)?,
+    ))
+}
+
+#[test]
+fn equal_styles_have_one_number(rt: HostRuntime) -> Result<(), Fail> {
+    let numbers = numbers(rt.alloc())?;
+    assert_eq!(rt; numbers, (0, 1, 0));
     Ok(())
 }

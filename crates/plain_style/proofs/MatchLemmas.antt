@@ -23,7 +23,11 @@ use Rattle.cascade_model.specs.Key.{Matched}
 use Rattle.sheet_model.specs.Declared.{Declared}
 use Rattle.sheet_model.specs.Sources.{PlacedRule, Sources}
 use Rattle.cascade_model.specs.Matching.{matched, all_matched, greatest_by, rule_matched, matching_rules, with_greater}
+use Rattle.sheet_set.specs.declared.sheets.Sheets.{Sheets}
+use Rattle.std.proofs.lemmas.Grind.{flat_map-append}
 use Rattle.plain_style.specs.Filters.{AreFilters, rule_filter}
+use Rattle.plain_style.specs.Hits.{declarations_of, declares_at, hit_declares}
+use Rattle.plain_style.specs.declared.hits.Hit.{Hit}
 
 -- the selectors of a rule are not looked at any more
 pub all_matched-same : (layers : Layers) (a b : PlacedRule) (specificity : Specificity) (index : ℕ) (ds : List Declared) → a.origin ≡ b.origin → a.layer ≡ b.layer → a.sheet ≡ b.sheet → a.position ≡ b.position → all_matched layers a specificity index ds ≡ all_matched layers b specificity index ds
@@ -80,3 +84,15 @@ pub matched_all : (found : List Matched) (doc : List Element) (sources : Sources
 unfolding matching_rules
 matched_all found doc sources left x none all =
     sym (append-nil found) ∙ (ap (λ l. found ++ flat_map (rule_matched sources.layers (λ s. holds doc s x)) l) (sym none) ∙ all)
+
+-- what a rule of which a selector of this specificity holds gives
+pub rule_hit : (sheets : Sheets) (passes : Selector → Bool) (rule : SheetRule) (list : List Chosen) (hit : Hit) → greatest_by passes None (map selector_of list) ≡ Some hit.specificity → slice_get sheets.rules.items hit.rule ≡ Some rule → rule_matched sheets.layers passes (rule_of rule list) ≡ hit_declares sheets hit
+rule_hit sheets passes rule list hit best at =
+    let own : PlacedRule = rule_of rule list in
+    rule_some sheets.layers passes own hit.specificity best
+    ∙ (all_matched-same sheets.layers own (rule_of rule []) hit.specificity own.first_index own.declarations refl refl refl refl ∙ sym (ap (declares_at sheets.layers hit.specificity) at))
+
+-- one rule more that was found
+pub hits_more : (sheets : Sheets) (found more : List Hit) (hit : Hit) → more ≡ found ++ hit ∷ [] → declarations_of sheets more ≡ declarations_of sheets found ++ hit_declares sheets hit
+hits_more sheets found more hit is =
+    ap (declarations_of sheets) is ∙ (flat_map-append (hit_declares sheets) found (hit ∷ []) ∙ ap (λ l. declarations_of sheets found ++ l) (append-nil (hit_declares sheets hit)))

@@ -23,9 +23,7 @@ unfolding root_size_of
 no_root_size doc sources size none is =
     is ∙ ap (λ o. option_map_or (root_size_at doc sources) o initial_size) (sym none)
 
-pub root_size_is : (doc : List Element) (sources : Sources) (x : ℕ) (first style : Style) (handed size : ℤ) → root_of doc ≡ Some x → first ≡ initial_style → handed ≡ initial_size → style ≡ cascaded true first handed (matching doc sources x) → size ≡ font_size_of style.values → size ≡ root_size_of doc sources
+pub root_size_is : (doc : List Element) (sources : Sources) (x : ℕ) (style : Style) (size : ℤ) → root_of doc ≡ Some x → style ≡ cascaded true initial_style initial_size (matching doc sources x) → size ≡ font_size_of style.values → size ≡ root_size_of doc sources
 unfolding root_size_of
-root_size_is doc sources x first style handed size root initial initially made is =
-    is
-    ∙ (ap (λ (s : Style). font_size_of s.values) (made ∙ (ap (λ s. cascaded true s handed (matching doc sources x)) initial ∙ ap (λ z. cascaded true initial_style z (matching doc sources x)) initially))
-    ∙ ap (λ o. option_map_or (root_size_at doc sources) o initial_size) (sym root))
+root_size_is doc sources x style size root made is =
+    is ∙ (ap (λ (s : Style). font_size_of s.values) made ∙ ap (λ o. option_map_or (root_size_at doc sources) o initial_size) (sym root))

@@ -38,19 +38,18 @@ style_matching value seen declared attached doc sources x read are =
     by_text (Some text) = refl
 
 -- an element without a parent is styled over all initial values, and each other one over its parent
-pub over_none : {E : Type 0} (doc : List Element) (sources : Sources) (x : ℕ) (first : Style) (size : ℤ) (result : Result Style E) → IsValid doc → parent_of doc x ≡ None → first ≡ initial_style → size ≡ initial_size → IfOk result (λ style. style ≡ cascaded true first size (matching doc sources x)) → IfOk result (λ style. style ≡ style_of doc sources x)
-over_none doc sources x first size (Err e) valid none initial initially made = tt
-over_none doc sources x first size (Ok style) valid none initial initially made =
-    made
-    ∙ (ap (λ s. cascaded true s size (matching doc sources x)) initial
-    ∙ (ap (λ z. cascaded true initial_style z (matching doc sources x)) initially ∙ sym (style_of-root doc sources valid x none)))
+pub over_none : (doc : List Element) (sources : Sources) (x : ℕ) (style : Style) → IsValid doc → parent_of doc x ≡ None → style ≡ cascaded true initial_style initial_size (matching doc sources x) → style ≡ style_of doc sources x
+over_none doc sources x style valid none made = made ∙ sym (style_of-root doc sources valid x none)
 
-pub over_parent : {E : Type 0} (doc : List Element) (sources : Sources) (x p : ℕ) (over : Style) (size : ℤ) (result : Result Style E) → IsValid doc → parent_of doc x ≡ Some p → over ≡ style_of doc sources p → size ≡ root_size_of doc sources → IfOk result (λ style. style ≡ cascaded false over size (matching doc sources x)) → IfOk result (λ style. style ≡ style_of doc sources x)
-over_parent doc sources x p over size (Err e) valid parent is root made = tt
-over_parent doc sources x p over size (Ok style) valid parent is root made =
-    made
-    ∙ (ap (λ s. cascaded false s size (matching doc sources x)) is
-    ∙ (ap (λ z. cascaded false (style_of doc sources p) z (matching doc sources x)) root ∙ sym (style_of-child doc sources valid x p parent)))
+pub over_parent : (doc : List Element) (sources : Sources) (x p : ℕ) (size : ℤ) → IsValid doc → parent_of doc x ≡ Some p → size ≡ root_size_of doc sources → cascaded false (style_of doc sources p) size (matching doc sources x) ≡ style_of doc sources x
+over_parent doc sources x p size valid parent root =
+    ap (λ z. cascaded false (style_of doc sources p) z (matching doc sources x)) root ∙ sym (style_of-child doc sources valid x p parent)
+
+-- over a style that is the initial one
+pub over_initial : {E : Type 0} (applied : List Matched) (first : Style) (size : ℤ) (result : Result Style E) → first ≡ initial_style → size ≡ initial_size → IfOk result (λ style. style ≡ cascaded true first size applied) → IfOk result (λ style. style ≡ cascaded true initial_style initial_size applied)
+over_initial applied first size (Err e) initial initially made = tt
+over_initial applied first size (Ok style) initial initially made =
+    made ∙ (ap (λ s. cascaded true s size applied) initial ∙ ap (λ z. cascaded true initial_style z applied) initially)
 
 -- the style by what applies
 pub styled_by : {E : Type 0} (applied : List Matched) (doc : List Element) (sources : Sources) (x : ℕ) (is_root : Bool) (over : Style) (size : ℤ) (result : Result Style E) → applied ≡ matching doc sources x → IfOk result (λ style. style ≡ cascaded is_root over size applied) → IfOk result (λ style. style ≡ cascaded is_root over size (matching doc sources x))

@@ -1,2 +1,4 @@
 pub mod Filters
+pub mod Hits
 pub mod Known
+pub mod Memo

@@ -1,22 +1,20 @@
 //! The declarations that apply to an element.
 
-ghost use Rattle.std.specs.Prelude.{◌≡◌, ◌++◌, [], None, IfOk, OnOk, flat_map, map};
+ghost use Rattle.std.specs.Prelude.{◌≡◌, ◌++◌, [], IfOk, OnOk, flat_map};
 ghost use Rattle.scene_model.specs.Lookups.{IsElement};
-ghost use Rattle.selector_model.specs.Holds.{holds};
-ghost use Rattle.cascade_model.specs.Matching.{all_matched, greatest_by, matching_rules};
+ghost use Rattle.cascade_model.specs.Matching.{all_matched, matching_rules};
 ghost use Rattle.cascade_core.specs.View.{matched_of};
-ghost use Rattle.selector_types.specs.View.{selector_of};
 ghost use Rattle.layer_model.specs.Order.{Layers};
 ghost use Rattle.shorthands.specs.View.{declared_of};
 ghost use Rattle.sheet_set.specs.Ranks.{rank_seen};
 ghost use Rattle.sheet_set.specs.View.{rule_of, sources_seen};
-ghost use Rattle.plain_style.specs.Filters.{AreFilters};
+ghost use Rattle.plain_style.specs.Hits.{declarations_of};
 
 use crate::filters::rule_filters;
+use crate::hits::{Hit, hits_into};
 use cascade_core::Matched;
 use dom_tree::Doc;
-use selector_match::{matches, may_hold};
-use selector_types::{Selector, Specificity, weight};
+use selector_types::Specificity;
 use sheet_set::{SheetRule, Sheets};
 use std::alloc::Global;
 use stylo_base::NoMemory;
@@ -34,60 +32,30 @@ pub fn match_rules<'a>(
         flat_map matched_of list.items ≡ matching_rules doc.now.elements (sources_seen sheets.now) x) }
 {
     let filters = rule_filters(alloc, sheets)?;
+    let mut hits = Vec::new(alloc);
+    hits_into(&mut hits, doc, sheets, &filters, x)?;
     let mut list = Vec::new(alloc);
-    match_into(&mut list, doc, sheets, &filters, x)?;
+    declarations_into(&mut list, sheets, &hits)?;
     Ok(list)
 }
 
-/// Puts the declarations of all rules with a selector that holds at `x`, in the order of the rules,
-/// in place of what is in the list. Most rules that have none are passed over by their filters.
-pub(crate) fn match_into<'a>(
+/// Puts the declarations of these rules in place of what is in the list.
+pub(crate) fn declarations_into<'a>(
     list: &mut Vec<Matched<'a>>,
-    doc: &Doc,
     sheets: &'a Sheets,
-    filters: &[u64],
-    x: u32,
+    hits: &[Hit],
 ) -> Result<(), NoMemory>
-    requires element { IsElement doc.now.elements x }
-    requires filters { AreFilters filters.now sheets.now.selectors.items }
-    ensures { OnOk result (flat_map matched_of list.new.items
-        ≡ matching_rules doc.now.elements (sources_seen sheets.now) x) }
+    ensures { OnOk result (flat_map matched_of list.new.items ≡ declarations_of sheets.now hits.now) }
 {
     list.clear();
     let rules = sheets.rules();
-    let selectors = sheets.selectors();
     let ranks = sheets.ranks();
-    let names = doc.name_bits(x);
-    for index in 0..rules.len() {
-        if !may_hold(filters[index], names) {
-            continue;
-        }
-        let rule = &rules[index];
-        let rank = ranks[index];
-        if let Some(specificity) = greatest(doc, &selectors[index], x) {
-            add_declarations(list, rule, rank, specificity)?;
+    for hit in hits {
+        if let Some(rule) = rules.get(hit.rule) {
+            add_declarations(list, rule, ranks[hit.rule], hit.specificity)?;
         }
     }
     Ok(())
-}
-
-/// The greatest specificity of the selectors that hold at `x`, if some does.
-fn greatest(doc: &Doc, selectors: &[Selector], x: u32) -> Option<Specificity>
-    requires { IsElement doc.now.elements x }
-    ensures { result ≡ greatest_by (λ selector. holds doc.now.elements selector x) None
-        (map selector_of selectors.now) }
-{
-    let mut best: Option<Specificity> = None;
-    for selector in selectors {
-        if matches(doc, selector, x) {
-            let found = weight::specificity(selector);
-            best = Some(match best {
-                Some(other) => other.greater(found),
-                None => found,
-            });
-        }
-    }
-    best
 }
 
 /// Adds the declarations of a rule whose layer has this rank.

@@ -104,3 +104,10 @@ printed_whole style own custom line led parted new one other text texts first se
     ∙ (append_assoc (line ++ chars own) (separator own custom) (chars custom)
     ∙ (append_assoc line (chars own) (separator own custom ++ chars custom)
     ∙ ap (λ l. line ++ l) (kept_whole style own custom one other text texts)))))
+
+-- where there is no custom property
+pub printed_alone : (style : Style) (own custom : List ℕ) (line led : Characters) → IsUtf8 own → IsUtf8 custom → chars own ≡ joined between (declaration_texts table style.values) → chars custom ≡ custom_declarations style.custom → led ≡ line ++ chars own → custom ≡ [] → led ≡ line ++ printed_declarations style
+printed_alone style own custom line led one other text texts first none =
+    printed_whole style own custom line led led led one other text texts first
+    (sym (ap (λ l. led ++ l) (ap (separator own) none ∙ nothing_after own) ∙ append-nil led))
+    (sym (ap (λ l. led ++ l) (ap chars none ∙ chars-nil) ∙ append-nil led))

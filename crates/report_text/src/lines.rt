@@ -68,6 +68,9 @@ fn push_declarations(line: &mut Text, style: &Style) -> Result<(), NoMemory>
     let own = style.text();
     let custom = style.custom().text();
     line.push_str(own)?;
+    if custom.is_empty() {
+        return Ok(());
+    }
     line.push_str(separator(own, custom))?;
     line.push_str(custom)
 }

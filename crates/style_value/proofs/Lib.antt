@@ -3,3 +3,4 @@ pub mod ColumnTests
 pub mod AdjustLemmas
 pub mod InheritedLemmas
 pub mod TextLemmas
+pub mod TableLemmas

@@ -187,6 +187,19 @@ impl Columns {
         self.words[row] == WORDS[row] && self.amounts[row].thousandths() == STANDING[row]
     }
 
+    /// A number that equal values share.
+    pub(crate) fn slot(&self) -> usize {
+        let mut sum = 0u64;
+        for row in 0..COUNT {
+            let amount = self.amounts[row].thousandths().cast_unsigned();
+            sum = sum
+                .wrapping_mul(31)
+                .wrapping_add(amount)
+                .wrapping_add((self.words[row] as u64) << 20);
+        }
+        (sum ^ (sum >> 24)) as usize
+    }
+
     /// Whether both have the same values.
     pub fn is_same(&self, other: &Columns) -> bool
         ensures { IsTrue result ↔ (self.now ≡ other.now) }

@@ -1,6 +1,6 @@
 //! A style that is being made.
 
-ghost use Rattle.std.specs.Prelude.{◌≡◌, Some, IfOk, length, slice_get, slice_set};
+ghost use Rattle.std.specs.Prelude.{◌≡◌, Some, IfOk, IsTrue, length, slice_get, slice_set};
 ghost use Rattle.value_model.specs.Table.{table};
 ghost use Rattle.value_model.specs.Style.{adjusted, inherited_part, initial_style};
 ghost use Rattle.property_table.specs.View.{property_of, value_of};
@@ -85,6 +85,18 @@ impl StyleDraft {
         ensures { self.new ≡ record self.old { values = adjusted is_root self.old.values } }
     {
         self.columns.adjust(is_root);
+    }
+
+    /// Whether a style has these values, those of custom properties too.
+    pub(crate) fn is_same(&self, style: &Style) -> bool
+        ensures { IsTrue result → style.now ≡ self.now }
+    {
+        self.columns.is_same(style.columns()) && self.custom.is_same(style.custom())
+    }
+
+    /// A number that equal drafts share.
+    pub(crate) fn slot(&self) -> usize {
+        self.columns.slot() ^ self.custom.text().len()
     }
 
     /// The style with these values. It takes memory only for the text of those that are printed.

@@ -7,8 +7,10 @@ mod columns;
 mod custom;
 mod draft;
 mod style;
+mod table;
 mod text;
 
 pub use custom::Custom;
 pub use draft::StyleDraft;
 pub use style::Style;
+pub use table::StyleTable;

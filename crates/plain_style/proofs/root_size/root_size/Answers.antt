@@ -1,4 +1,4 @@
-use Rattle.std.proofs.Common.{◌≡◌, ◌<◌, ◌≤◌, get_or, length, subst, sym, rules as the_rules}
+use Rattle.std.proofs.Common.{◌≡◌, ◌<◌, ◌≤◌, ◌∙◌, get_or, length, subst, sym, rules as the_rules}
 use Rattle.scene_model.specs.Lookups.{IsElement}
 use Rattle.sheet_set.specs.View.{sources_seen}
 use Rattle.plain_style.proofs.Walk.{element_in_order}
@@ -12,8 +12,8 @@ returns-in_default c =
     let none : length order ≤ 0 = search the_rules in
     no_root_size doc (sources_seen c.args.inputs.now.sheets.now) c.initial_size.result (root_nowhere doc order c.in_tree_order.ensures.order none) c.initial_size.ensures
 
-pub styled-requires-clause-element : goal.styled-requires-clause-element
-styled-requires-clause-element c =
+pub root_style-requires-clause-element : goal.root_style-requires-clause-element
+root_style-requires-clause-element c =
     let order = c.in_tree_order.result.now in
     let doc = c.args.inputs.now.doc.now.elements in
     let some : 0 < length order = search the_rules in
@@ -27,4 +27,4 @@ returns c =
     let root = c.in-Some.root.now in
     let some : 0 < length order = search the_rules in
     let first : root ≡ get_or order 0 0 = search the_rules in
-    root_size_is doc (sources_seen c.args.inputs.now.sheets.now) root c.in_ok-initial.initial c.in_ok-style.style c.initial_size-2.result c.font_size.result (root_there doc order root c.in_tree_order.ensures.order some first) c.in_ok-initial.ensures c.initial_size-2.ensures c.in_ok-style.ensures c.font_size.ensures
+    root_size_is doc (sources_seen c.args.inputs.now.sheets.now) root c.in_ok-style.style c.font_size.result (root_there doc order root c.in_tree_order.ensures.order some first) (c.in_ok-style.ensures ∙ c.in_ok-root_style.ensures) c.font_size.ensures

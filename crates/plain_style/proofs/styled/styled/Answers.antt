@@ -15,8 +15,8 @@ returns c =
     let doc = c.args.inputs.now.doc.now.elements in
     let sources = sources_seen c.args.inputs.now.sheets.now in
     let x = c.args.number in
-    let rules : flat_map matched_of c.deref.result.now ≡ matching_rules doc sources x = ap (flat_map matched_of) c.deref.ensures.value ∙ c.in_ok-match_into.ensures in
+    let rules : flat_map matched_of c.deref.result.now ≡ matching_rules doc sources x = ap (flat_map matched_of) c.deref.ensures.value ∙ c.in_ok-declarations_into.ensures ∙ c.requires.hits in
     let read = c.in_ok-declared.ensures ∙ ap (λ n. option_map_or style_declared (attribute_of doc x n) []) c.requires.name in
     let are : flat_map matched_of c.in_ok-attached.attached.items ≡ all_attached sources.layers 0 (flat_map declared_of c.in_ok-declared.declared.items) = c.in_ok-attached.ensures ∙ (ap (λ l. all_attached l 0 (flat_map declared_of c.as_slice.result.now)) c.layers.ensures ∙ ap (λ l. all_attached sources.layers 0 (flat_map declared_of l)) c.as_slice.ensures.value) in
     let style : flat_map matched_of c.deref-2.result.now ≡ matching_style doc sources x = ap (flat_map matched_of) c.deref-2.ensures.value ∙ style_matching matched_of declared_of c.in_ok-declared.declared.items c.in_ok-attached.attached.items doc sources x read are in
-    styled_by _ doc sources x c.args.is_root c.args.parent.now c.args.size c.cascade.result (all_matching matched_of c.deref.result.now c.deref-2.result.now doc sources x rules style) c.cascade.ensures
+    styled_by _ doc sources x c.args.is_root c.args.parent.now c.args.size c.cascade_draft.result (all_matching matched_of c.deref.result.now c.deref-2.result.now doc sources x rules style) c.cascade_draft.ensures

@@ -4,11 +4,13 @@ use Rattle.scene_model.proofs.Numbers.{is_in}
 use Rattle.cascade_model.specs.StyleOf.{style_of}
 use Rattle.sheet_set.specs.View.{sources_seen}
 use Rattle.plain_style.specs.Known.{style_at}
+use Rattle.plain_style.specs.Memo.{AllRight}
 use Rattle.plain_style.proofs.styles.styles_in_order.Given as goal
 
 abbrev pub invariant-loop-number : goal.invariant-loop-number
 invariant-loop-number l = record {
-  room : (k : ℕ) → k < length l.order → get_or l.order k 0 < length l.places.items;
+  room : (k : ℕ) → k < length l.order → get_or l.order k 0 < length l.known.items;
   styled : map arc_value l.styles.items ≡ map (style_of l.inputs.doc.now.elements (sources_seen l.inputs.sheets.now)) (take l.number-index l.order);
-  known : (q : ℕ) → is_in q (take l.number-index l.order) ≡ true → style_at (map arc_value l.styles.items) l.places.items q ≡ Some (style_of l.inputs.doc.now.elements (sources_seen l.inputs.sheets.now) q);
+  known : (q : ℕ) → is_in q (take l.number-index l.order) ≡ true → style_at l.styler.table l.known.items q ≡ Some (style_of l.inputs.doc.now.elements (sources_seen l.inputs.sheets.now) q);
+  memo : AllRight l.inputs.sheets.now l.size l.styler.table l.styler.memo;
 }

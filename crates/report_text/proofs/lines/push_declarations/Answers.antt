@@ -1,9 +1,16 @@
-use Rattle.std.proofs.Common.{◌≡◌, ◌++◌, ap, ◌∙◌}
+use Rattle.std.proofs.Common.{◌≡◌, ◌++◌, [], length, sym, ap, ◌∙◌}
 use Rattle.std.specs.Str.{chars}
+use Rattle.std.proofs.lemmas.Bool.{eqb-true}
+use Rattle.std.proofs.lemmas.List.{nil_from_length}
 use Rattle.std.proofs.lemmas.Result.{on_ok_weaker}
 use Rattle.custom_model.specs.Printed.{custom_declarations}
-use Rattle.report_text.proofs.DeclarationLemmas.{printed_whole}
+use Rattle.report_text.proofs.DeclarationLemmas.{printed_alone, printed_whole}
 use Rattle.report_text.proofs.lines.push_declarations.Goals as goal
+
+pub returns-then-is_empty : goal.returns-then-is_empty
+returns-then-is_empty c =
+    let none : c.text-custom.result.now ≡ [] = nil_from_length c.text-custom.result.now (eqb-true (length c.text-custom.result.now) 0 (sym c.is_empty.ensures ∙ c.if-is_empty.true)) in
+    printed_alone c.args.style.now c.text-own.result.now c.text-custom.result.now c.args.line.now c.push_str.new.self c.text-own.utf8 c.text-custom.utf8 c.text-own.ensures (c.text-custom.ensures ∙ ap custom_declarations c.custom.ensures) c.in_ok-push_str.ensures.ok none
 
 pub returns : goal.returns
 returns c =

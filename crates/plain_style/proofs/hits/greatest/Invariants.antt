@@ -2,7 +2,7 @@ use Rattle.std.proofs.Common.{◌≡◌, None, drop, map}
 use Rattle.selector_model.specs.Holds.{holds}
 use Rattle.selector_types.specs.View.{selector_of}
 use Rattle.cascade_model.specs.Matching.{greatest_by}
-use Rattle.plain_style.proofs.matching.greatest.Given as goal
+use Rattle.plain_style.proofs.hits.greatest.Given as goal
 
 -- the best so far, and what is left, give the greatest of all
 abbrev pub invariant-loop-selector : goal.invariant-loop-selector
