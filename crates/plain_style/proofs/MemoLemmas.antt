@@ -38,7 +38,7 @@ pub right_more : (sheets : Sheets) (size : ℤ) (table more : List Style) (paren
 right_more sheets size table more parent hits style kept right = record {
   over = right.over;
   parent_is = kept_at table more parent right.over kept right.parent_is;
-  style_is = kept_at table more style (cascaded false right.over size (declarations_of sheets hits)) kept right.style_is;
+  own_is = kept_at table more style (cascaded false right.over size (declarations_of sheets hits)) kept right.own_is;
 }
 
 pub all_right_more : (sheets : Sheets) (size : ℤ) (table more : List Style) (entries : List Entry) → take (length table) more ≡ table → All (HasRight sheets size table) entries → All (HasRight sheets size more) entries
@@ -57,7 +57,7 @@ pub right_here : (sheets : Sheets) (size : ℤ) (table : List Style) (parent : �
     → IsRight sheets size table parent hits style → slice_get table style ≡ Some (cascaded false over size (matching doc (sources_seen sheets) x))
 right_here sheets size table parent hits style doc x over found none at right =
     let same : right.over ≡ over = same_Some _ _ (sym right.parent_is ∙ at) in
-    right.style_is ∙ (ap (λ s. Some (cascaded false s size (declarations_of sheets hits))) same
+    right.own_is ∙ (ap (λ s. Some (cascaded false s size (declarations_of sheets hits))) same
     ∙ ap (λ l. Some (cascaded false over size l)) (found ∙ sym (matching_alone doc (sources_seen sheets) x none)))
 
 -- and the other way: the style of such an element is right for these rules
@@ -67,7 +67,7 @@ pub right_of : (sheets : Sheets) (size : ℤ) (table : List Style) (parent : ℕ
 right_of sheets size table parent hits style doc x over found none at is = record {
   over = over;
   parent_is = at;
-  style_is = is ∙ ap (λ l. Some (cascaded false over size l)) (matching_alone doc (sources_seen sheets) x none ∙ sym found);
+  own_is = is ∙ ap (λ l. Some (cascaded false over size l)) (matching_alone doc (sources_seen sheets) x none ∙ sym found);
 }
 
 -- what an entry has for a parent's style and rules that are its own

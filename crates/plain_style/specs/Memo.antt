@@ -9,11 +9,11 @@ use Rattle.plain_style.specs.declared.hits.Hit.{Hit}
 use Rattle.plain_style.specs.declared.memo.Entry.{Entry}
 use Rattle.plain_style.specs.declared.memo.Memo.{Memo}
 
--- A style is that over the parent's style for what these rules declare. Both are in the table, by their numbers.
-pub record IsRight (sheets : Sheets) (size : ℤ) (table : List Style) (parent : ℕ) (hits : List Hit) (style : ℕ) : Type 0 where
+-- A style is that over the parent's style for what these rules declare. Both are among all, by their numbers.
+pub record IsRight (rules : Sheets) (rem : ℤ) (all : List Style) (parent : ℕ) (hits : List Hit) (own : ℕ) : Type 0 where
   pub over : Style
-  pub parent_is : slice_get table parent ≡ Some over
-  pub style_is : slice_get table style ≡ Some (cascaded false over size (declarations_of sheets hits))
+  pub parent_is : slice_get all parent ≡ Some over
+  pub own_is : slice_get all own ≡ Some (cascaded false over rem (declarations_of rules hits))
 
 -- so is that of an entry, if it has one
 abbrev pub HasRight : Sheets → ℤ → List Style → Entry → Type 0

@@ -1,11 +1,10 @@
 -- What tests of columns say of the values.
-use Rattle.std.proofs.Common.{◌≡◌, ◌&&◌, ℕ, ◌+◌, ◌<◌, ◌≤◌, ◌^◌, ℤ, pos, List, [], ◌∷◌, ◌++◌, length, take, take_all, Bool, true, false, FitsSigned, w64, of_z, to_z, nat_eq, nat_lt, Some, map, get_or, slice_get, option_map, unsigned_abs, true≢false, refl, sym, ap, ◌∙◌, arith}
+use Rattle.std.proofs.Common.{◌≡◌, ◌&&◌, ℕ, ◌<◌, ◌^◌, ℤ, pos, List, [], ◌∷◌, Bool, true, false, FitsSigned, w64, of_z, to_z, nat_eq, nat_lt, Some, map, get_or, slice_get, option_map, unsigned_abs, refl, sym, ap, ◌∙◌, arith}
 use Rattle.std.specs.Bool.{Decides}
 use Rattle.std.specs.List.{AllByRecursion, list_all}
 use Rattle.std.specs.Cmp.Lexicographic.{pointwise}
 use Rattle.std.proofs.lemmas.Bool.Decides.{Decides-eqb, Decides-like, nat_tests, same_from_decides}
 use Rattle.std.proofs.lemmas.Int.{fits_signed_from_abs, to_z-of_z}
-use Rattle.std.proofs.lemmas.List.{take_more}
 use Rattle.std.proofs.lemmas.List.Sums.{AllPass-from_list_all}
 use Rattle.std.proofs.lemmas.Option.{same_Some, slice_get-map}
 use Rattle.std.proofs.lemmas.Slice.Eq.{slice_eq-Decides}
@@ -66,14 +65,6 @@ seen_initial words amounts w a =
     ∙ (ap (column_values (map value_word initial_values)) a
     ∙ (values_seen (map value_word initial_values) (map value_amount initial_values) initial_columns ∙ initial_seen))
 
--- what the standing columns stand for
-pub seen_standing : (words : List ℕ) (amounts : List ℤ) → words ≡ map value_word standing_values → amounts ≡ map value_amount standing_values → column_values words amounts ≡ map (λ (row : table_model.Row). row.standing) table
-unfolding standing_columns
-seen_standing words amounts w a =
-    ap (λ ws. column_values ws amounts) w
-    ∙ (ap (column_values (map value_word standing_values)) a
-    ∙ (values_seen (map value_word standing_values) (map value_amount standing_values) standing_columns ∙ standing_seen))
-
 -- the columns of one value are the same as those of another where the values are
 row_Decides : (words others : List ℕ) (amounts more : List ℤ) (row : ℕ) (d e : ℤ) (test : Bool) (one : IsAt words amounts row d) (other : IsAt others more row e) → Decides test ((get_or words row 0 ≡ get_or others row 0) × (get_or amounts row d ≡ get_or more row e)) → Decides test (value_of one.value ≡ value_of other.value)
 row_Decides words others amounts more row d e test one other same =
@@ -123,37 +114,6 @@ standing_fits row lt =
 pub bits_Decide : (a b : ℤ) → FitsSigned w64 a → FitsSigned w64 b → Decides (nat_eq (of_z w64 a) (of_z w64 b)) (a ≡ b)
 bits_Decide a b k l =
     Decides-like (nat_eq (of_z w64 a) (of_z w64 b)) (λ h. sym (to_z-of_z w64 a k) ∙ (ap (to_z w64) h ∙ to_z-of_z w64 b l)) (ap (of_z w64)) (Decides-eqb (of_z w64 a) (of_z w64 b))
-
--- the amounts of the rows up to an index are those of the standing values, where a test says so
-pub record AreStanding (same : Bool) (amounts : List ℤ) (i : ℕ) : Type 0 where
-  pub so_far : same ≡ true → take i amounts ≡ take i (map value_amount standing_values)
-
-pub standing_next : (amounts : List ℤ) (i : ℕ) (d amount : ℤ) (same test next : Bool) → length amounts ≡ COUNT → i < COUNT → amount ≡ get_or amounts i d → FitsSigned w64 amount → test ≡ nat_eq (of_z w64 amount) (of_z w64 (get_or (map value_amount standing_values) i (pos 0))) → (next ≡ true → (same ≡ true) × (test ≡ true)) → AreStanding same amounts i → AreStanding next amounts (i + 1)
-standing_next amounts i d amount same test next long lt is fits tested both old = record {
-  so_far = λ e.
-      let standing : ℤ = get_or (map value_amount standing_values) i (pos 0) in
-      let two = both e in
-      let here : get_or amounts i d ≡ standing = sym is ∙ (bits_Decide amount standing fits (standing_fits i lt)).0 (sym tested ∙ two.1) in
-      take_more amounts i d (omega (arith, lt, long))
-      ∙ (ap (λ z. take i amounts ++ z ∷ []) here
-      ∙ (ap (λ l. l ++ standing ∷ []) (old.so_far two.0)
-      ∙ sym (take_more (map value_amount standing_values) i (pos 0) (omega (arith, lt)))));
-}
-
-pub standing_all : (amounts : List ℤ) (i : ℕ) (same : Bool) → length amounts ≡ COUNT → COUNT ≤ i → AreStanding same amounts i → same ≡ true → amounts ≡ map value_amount standing_values
-standing_all amounts i same long past old e =
-    sym (take_all i amounts (omega (arith, long, past)))
-    ∙ (old.so_far e ∙ take_all i (map value_amount standing_values) (omega (arith, past)))
-
-pub both_true : (a b : Bool) → (a && b) ≡ true → (a ≡ true) × (b ≡ true)
-both_true true b h = (refl, h)
-both_true false b h = absurd (true≢false (sym h))
-
--- columns of the standing words and amounts are those of the standing values
-pub all_standing : (words : List ℕ) (amounts : List ℤ) (seen : List model.Value) (r : Bool) → column_values words amounts ≡ seen → true ≡ pointwise nat_eq words (map value_word standing_values) → (r ≡ true → amounts ≡ map value_amount standing_values) → r ≡ true → seen ≡ map (λ (row : table_model.Row). row.standing) table
-all_standing words amounts seen r is same test e =
-    sym is
-    ∙ seen_standing words amounts ((slice_eq-Decides Decides-eqb words (map value_word standing_values) true same).0 refl) (test e)
 
 -- where the words are the same, the amounts decide
 pub amount_test : (words : List ℕ) (amounts : List ℤ) → AreColumns words amounts → (seen : List model.Value) (row : ℕ) (d : ℤ) (amount : ℤ) (r : table_model.Row) (value : model.Value) → column_values words amounts ≡ seen → row < COUNT → slice_get table row ≡ Some r → slice_get seen row ≡ Some value → get_or words row 0 ≡ get_or (map value_word standing_values) row 0 → amount ≡ get_or amounts row d → FitsSigned w64 amount → nat_eq (of_z w64 amount) (of_z w64 (get_or (map value_amount standing_values) row (pos 0))) ≡ model.same_value value r.standing

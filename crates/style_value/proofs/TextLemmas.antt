@@ -13,7 +13,6 @@ use Rattle.value_model.specs.Printed.{declaration_text, declaration_texts}
 use Rattle.property_table.specs.View.{property_of, row_of}
 use Rattle.property_table.specs.declared.property.PropId.{PropId}
 use Rattle.property_table.proofs.RowLemmas.{drop_at}
-use Rattle.property_table.proofs.ValueLemmas.{same_value-Decides}
 use Rattle.custom_model.specs.Printed.{each_after, joined}
 use Rattle.style_value.specs.StyleText.{printed_from, printed_properties, property_text, values_text}
 
@@ -183,14 +182,3 @@ pub printed_all : (values : List Value) (ids : List PropId) (text separator : Ch
 printed_all values ids text separator i past old =
     sym (append-nil text)
     ∙ (ap (λ l. text ++ led_by separator (texts_of values l)) (sym (drop_all i ids past)) ∙ old.printed)
-
--- where each value is the standing one, nothing is printed
-none_printed : (rows : List model.Row) → declaration_texts rows (map (λ (row : model.Row). row.standing) rows) ≡ []
-none_printed [] = refl
-none_printed (row ∷ rows) =
-    ap (λ b. if b then declaration_texts rows (map (λ (row : model.Row). row.standing) rows) else declaration_text row row.standing ∷ declaration_texts rows (map (λ (row : model.Row). row.standing) rows)) ((same_value-Decides row.standing row.standing).1 refl)
-    ∙ none_printed rows
-
-pub text_of_none : (values : List Value) → values ≡ map (λ (row : model.Row). row.standing) table → values_text values ≡ []
-text_of_none values is =
-    ap values_text is ∙ ap (joined (codes "; ")) (none_printed table)

@@ -8,7 +8,7 @@ ghost use Rattle.value_model.specs.Value.{same_value};
 ghost use Rattle.value_model.specs.Style.{inherited_values, initial_style};
 ghost use Rattle.property_table.specs.Columns.{value_amount, value_word};
 ghost use Rattle.property_table.specs.View.{property_of, value_of};
-ghost use Rattle.style_value.specs.ColumnView.{initial_values, standing_values, with_value_in};
+ghost use Rattle.style_value.specs.ColumnView.{initial_values, with_value_in};
 ghost use Rattle.style_value.specs.StyleText.{printed_properties};
 
 use property_table::word::{COLOR, NUMBER, PIXELS};
@@ -171,13 +171,6 @@ impl Columns {
         count
     }
 
-    /// Whether each value is the one that is not printed.
-    pub fn is_all_standing(&self) -> bool
-        ensures { IsTrue result → self.now ≡ map (λ row. row.standing) table }
-    {
-        self.words == WORDS && are_standing(&self.amounts)
-    }
-
     /// Whether the value of the property of a row is the one that is not printed.
     fn is_standing(&self, row: usize) -> bool
         requires { row < COUNT }
@@ -206,17 +199,6 @@ impl Columns {
     {
         self.words == other.words && self.amounts == other.amounts
     }
-}
-
-/// Whether these are the amounts of the standing values.
-fn are_standing(amounts: &[Fixed; COUNT]) -> bool
-    ensures { IsTrue result → amounts.now ≡ map value_amount standing_values }
-{
-    let mut same = true;
-    for row in 0..COUNT {
-        same &= amounts[row].thousandths() == STANDING[row];
-    }
-    same
 }
 
 /// The word of a value.

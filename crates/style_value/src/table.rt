@@ -9,7 +9,7 @@ use std::marker::Model;
 use std::sync::Arc;
 use stylo_base::NoMemory;
 
-/// For how many styles it is known where they are kept, at most.
+/// How many styles can be found again, at most.
 const SLOTS: usize = 4_096;
 
 /// Styles with numbers from 0. A style that is added again most often gets the number that it has, so

@@ -20,9 +20,6 @@ const ROOM: usize = 12;
 pub(crate) fn values_text(alloc: Global, columns: &Columns) -> Result<Text, NoMemory>
     ensures { IfOk result (λ text. text ≡ values_text columns.now) }
 {
-    if columns.is_all_standing() {
-        return Ok(Text::new(alloc));
-    }
     let mut list = [PropId::Color; COUNT];
     let count = columns.printed(&mut list);
     declarations(alloc, columns, &list[..count])

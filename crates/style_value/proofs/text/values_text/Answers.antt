@@ -1,12 +1,8 @@
-use Rattle.std.proofs.Common.{◌≡◌, IfOk, subst, sym, ◌∙◌}
+use Rattle.std.proofs.Common.{◌≡◌, IfOk, subst}
 use Rattle.base_model.specs.Text.{Characters}
-use Rattle.style_value.proofs.TextLemmas.{text_of_all, text_of_none}
+use Rattle.style_value.proofs.TextLemmas.{text_of_all}
 use Rattle.style_value.proofs.text.values_text.Goals as goal
 
 pub returns : goal.returns
 returns c =
     subst (λ (whole : Characters). IfOk c.declarations.result (λ text. text ≡ whole)) (text_of_all c.args.columns.now _ c.printed-count.ensures.all c.printed-count.ensures.list) c.declarations.ensures
-
-pub returns-then-is_all_standing : goal.returns-then-is_all_standing
-returns-then-is_all_standing c =
-    c.new.ensures ∙ sym (text_of_none _ (c.is_all_standing.ensures c.if-is_all_standing.true))
