@@ -1,15 +1,12 @@
 -- The definitions computed.
 use Rattle.std.specs.Prelude.{◌≡◌, ℕ, List, [], ◌∷◌, ◌++◌, ℤ, pos, neg_ℤ, ◌*ℤ◌, ◌+ℤ◌, map, true, false, codes, decimal}
 use Rattle.std.proofs.Common.{refl, arith}
-use Rattle.std.proofs.lemmas.Fmt.{decimal_digit, decimal-digits_of}
+use Rattle.std.proofs.lemmas.Fmt.{decimal-digits_of}
 use Rattle.base_model.specs.Text.{ascii_lower, same_text, is_word}
 use Rattle.base_model.specs.Thousandths.{clamped, rounded, written}
 use Rattle.base_model.specs.Specificity.{Specificity, greater, is_less}
 
 -- numbers of thousandths; the digits of a whole part do not compute, so they are written as such
-
-one_digit : decimal 0 ≡ codes "0"
-one_digit = decimal_digit 0 (omega arith)
 
 two_digits : decimal 37 ≡ codes "37"
 two_digits = decimal-digits_of 37 (omega arith) (omega arith)

@@ -1,5 +1,45 @@
--- Items of a list by their index.
-use Rattle.std.proofs.Common.{◌≡◌, ℕ, zero, suc, ◌<◌, List, [], ◌∷◌, ◌++◌, length, Some, slice_get, refl, arith}
+-- Items of a list by their index, and what holds of each.
+use Rattle.std.proofs.Common.{◌≡◌, ℕ, zero, suc, ◌<◌, Bool, true, false, cond, List, [], ◌∷◌, ◌++◌, map, find, length, take, drop, Option, Some, slice_get, refl, arith}
+use Rattle.std.specs.List.{AllByRecursion}
+
+-- what holds of each item
+
+pub each_weaker : {X : Type 0} (P Q : X → Type 0) → ((x : X) → P x → Q x) → (xs : List X) → AllByRecursion P xs → AllByRecursion Q xs
+each_weaker P Q w [] h = tt
+each_weaker P Q w (x ∷ xs) h = (w x h.0, each_weaker P Q w xs h.1)
+
+-- what holds of anything holds of each
+pub each_any : {X : Type 0} (P : X → Type 0) → ((x : X) → P x) → (xs : List X) → AllByRecursion P xs
+each_any P h [] = tt
+each_any P h (x ∷ xs) = (h x, each_any P h xs)
+
+pub each-map : {X Y : Type 0} (P : Y → Type 0) (f : X → Y) (xs : List X) → AllByRecursion (λ x. P (f x)) xs → AllByRecursion P (map f xs)
+each-map P f [] h = tt
+each-map P f (x ∷ xs) h = (h.0, each-map P f xs h.1)
+
+pub each-take : {X : Type 0} (P : X → Type 0) (n : ℕ) (xs : List X) → AllByRecursion P xs → AllByRecursion P (take n xs)
+each-take P zero xs h = tt
+each-take P (suc n) [] h = tt
+each-take P (suc n) (x ∷ xs) h = (h.0, each-take P n xs h.1)
+
+pub each-drop : {X : Type 0} (P : X → Type 0) (n : ℕ) (xs : List X) → AllByRecursion P xs → AllByRecursion P (drop n xs)
+each-drop P zero xs h = h
+each-drop P (suc n) [] h = tt
+each-drop P (suc n) (x ∷ xs) h = each-drop P n xs h.1
+
+pub each-append : {X : Type 0} (P : X → Type 0) (xs ys : List X) → AllByRecursion P xs → AllByRecursion P ys → AllByRecursion P (xs ++ ys)
+each-append P [] ys h k = k
+each-append P (x ∷ xs) ys h k = (h.0, each-append P xs ys h.1 k)
+
+-- what is found in a list
+
+found_one : {X : Type 0} (p : X → Bool) (b : Bool) (y x : X) (o : Option X) → p y ≡ b → cond b (Some y) o ≡ Some x → (o ≡ Some x → p x ≡ true) → p x ≡ true
+found_one p true y x o e h r = cc
+found_one p false y x o e h r = r h
+
+pub find_passes : {X : Type 0} (p : X → Bool) (xs : List X) (x : X) → find p xs ≡ Some x → p x ≡ true
+find_passes p [] x h = cc
+find_passes p (y ∷ ys) x h = found_one p (p y) y x (find p ys) refl h (find_passes p ys x)
 
 pub slice_get_some : {X : Type 0} (xs : List X) (i : ℕ) → i < length xs → (x : X) × (slice_get xs i ≡ Some x)
 slice_get_some [] i h = absurd (omega arith)

@@ -8,3 +8,4 @@ pub mod Specificity
 pub mod Origin
 pub mod Sheet
 pub mod State
+pub mod Device

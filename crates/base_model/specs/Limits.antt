@@ -32,3 +32,15 @@ sheet_limit = 256
 -- bytes of a sheet's text
 abbrev pub text_limit : ℕ
 text_limit = 4_194_304
+
+-- numbers ever given to elements, or to sheets
+abbrev pub number_limit : ℕ
+number_limit = 4_000_000
+
+-- batches of a job
+abbrev pub batch_limit : ℕ
+batch_limit = 10_000
+
+-- pixels of the width of a device, and of its height
+abbrev pub device_limit : ℕ
+device_limit = 1_000_000

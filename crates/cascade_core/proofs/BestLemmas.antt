@@ -3,6 +3,7 @@ use Rattle.std.proofs.Common.{◌≡◌, Bool, true, false, ◌||◌, is_some, r
 use Rattle.std.proofs.lemmas.List.Folds.{list_any-append}
 use Rattle.std.proofs.lemmas.Option.{none-some, same_Some}
 use Rattle.std.specs.Option.{option_map_or}
+use Rattle.std.proofs.Math.Bool.{or-false}
 use Rattle.cascade_model.specs.Key.{Matched}
 use Rattle.cascade_model.specs.Winner.{winner, declares_longhand}
 use Rattle.syntax_model.specs.Wide.{inherit, initial, unset, revert, revert_layer}
@@ -42,10 +43,6 @@ module _ (means : Given → Meaning Value) where
 
   pub unset_at : (ds : List Matched) (p : ℕ) → won ds p ≡ None → unsets ≡ ended ds p
   unset_at ds p is = sym (ending_at ds p None is)
-
-or-false : (b : Bool) → (b || false) ≡ b
-or-false true = refl
-or-false false = refl
 
 or-true : (b : Bool) → (b || true) ≡ true
 or-true true = refl

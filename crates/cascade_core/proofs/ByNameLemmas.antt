@@ -28,8 +28,9 @@ use Rattle.cascade_core.specs.Names.{name_of, compare_names, by_name, NamesRise,
 use Rattle.cascade_core.proofs.RollbackLemmas.{stricter, walked_down}
 use Rattle.cascade_core.proofs.SortedLemmas.{Sorted, sorted_by_place, falls, first_seen, by_seen, by_seen-total, found_among}
 use Rattle.cascade_core.proofs.DeclaredLemmas.{declared_by, get-declared_values}
-use Rattle.cascade_core.proofs.NameLemmas.{names_cmp-total, is_equal, declares-names}
+use Rattle.cascade_core.proofs.NameLemmas.{names_cmp-total, declares-names}
 use Rattle.cascade_core.proofs.ListedLemmas.{Entry}
+use Rattle.base_model.proofs.Orderings.{is_equal}
 
 pub by_name-total : IsTotalOrder by_name
 by_name-total = then_total (on_total name_of names_cmp-total) (back_total key_cmp-total)

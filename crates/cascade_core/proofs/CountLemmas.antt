@@ -1,7 +1,7 @@
 -- Lists that are counted on, and what is left of them for one number.
 use Rattle.std.proofs.Common.{◌≡◌, ℕ, ◌+◌, ◌==◌, Bool, true, false, not, ◌&&◌, ◌||◌, cond, List, [], ◌∷◌, ◌++◌, filter, map, length, get_or, drop, refl, sym, ap, ◌∙◌, arith}
 use Rattle.std.specs.List.{list_any, flat_map, range_with_len}
-use Rattle.std.proofs.lemmas.Bool.{true≢false, and_parts, eqb-true}
+use Rattle.std.proofs.lemmas.Bool.{and_parts, eqb-true, not-true}
 use Rattle.std.proofs.lemmas.List.Elements.{filter-append}
 
 -- each number with the count
@@ -23,16 +23,12 @@ abbrev pub are_distinct : List ℕ → Bool
 are_distinct [] = true
 are_distinct (p ∷ ps) = not (list_any (λ q. q == p) ps) && are_distinct ps
 
-not_is : (b : Bool) → not b ≡ true → b ≡ false
-not_is true h = absurd (true≢false (sym h))
-not_is false h = refl
-
 module _ {X : Type 0} (passes : X → Bool) (f : ℕ → X) (p : ℕ) (is : (q : ℕ) → passes (f q) ≡ (q == p)) where
   abbrev is_in : List ℕ → Bool
   is_in qs = list_any (λ q. q == p) qs
 
   none : (q : ℕ) (qs : List ℕ) → q ≡ p → not (list_any (λ x. x == q) qs) ≡ true → is_in qs ≡ false
-  none q qs same apart = ap (λ x. list_any (λ y. y == x) qs) (sym same) ∙ not_is (list_any (λ x. x == q) qs) apart
+  none q qs same apart = ap (λ x. list_any (λ y. y == x) qs) (sym same) ∙ not-true (list_any (λ x. x == q) qs) apart
 
   by_test : (b : Bool) (q : ℕ) (qs : List ℕ) → (q == p) ≡ b → not (list_any (λ x. x == q) qs) ≡ true → filter passes (map f qs) ≡ cond (is_in qs) (f p ∷ []) [] → filter passes (map f (q ∷ qs)) ≡ cond (is_in (q ∷ qs)) (f p ∷ []) []
   by_test true q qs test apart rest =

@@ -17,7 +17,7 @@ use Rattle.value_model.proofs.ByRow as rows_model
 use Rattle.cascade_model.specs.Key.{Matched}
 use Rattle.cascade_model.specs.Ending.{unsets, ending}
 use Rattle.cascade_model.specs.Cascade.{Sizes, sizes, own_size, value_at, property_value, values_over}
-use Rattle.cascade_model.proofs.ValuesLemmas.{values_from-at, length-values_over}
+use Rattle.cascade_model.proofs.ValuesLemmas.{values_from-at, length-values_over, size_within}
 use Rattle.cascade_core.proofs.WonLemmas.{get-set_other, get-set_same, short_table}
 
 -- lists that have the same at each index
@@ -28,10 +28,6 @@ same_by_place n (x ∷ xs) [] h k same = absurd (omega (arith, h, k))
 same_by_place zero (x ∷ xs) (y ∷ ys) h k same = absurd (omega (arith, h))
 same_by_place (suc n) (x ∷ xs) (y ∷ ys) h k same =
     λ i. same_Some x y (same 0 (omega arith)) i ∷ same_by_place n xs ys (omega (arith, h)) (omega (arith, k)) (λ p within. same (suc p) (omega arith)) i
-
-pub size_within : font_size_property < length table
-unfolding table
-size_within = lit< tt
 
 -- a number without one of its bits is less
 pub cleared_less : (n q : ℕ) → q < 64 → bit_at n q ≡ 1 → bit_and n (bit_not w64 (1 * 2 ^ q % 2 ^ 64)) < n

@@ -17,7 +17,8 @@ use Rattle.cascade_model.specs.Winner.{declares_custom}
 use Rattle.cascade_model.proofs.WinnerLemmas.{all_through}
 use Rattle.cascade_core.specs.Names.{name_of, have_same_name, begins_apart, NamesRise, declared_along, named_entry, run_entry, is_run, declared_of}
 use Rattle.cascade_core.proofs.DeclaredLemmas.{ties, ties-same}
-use Rattle.cascade_core.proofs.NameLemmas.{names_cmp, is_below, first_all, is_equal, names_cmp-total, run_left, run_dropped, lower_dropped, rise_behind, head_above}
+use Rattle.cascade_core.proofs.NameLemmas.{names_cmp, is_below, first_all, names_cmp-total, run_left, run_dropped, lower_dropped, rise_behind, head_above}
+use Rattle.base_model.proofs.Orderings.{is_equal}
 
 abbrev pub Entry : Type 0
 Entry = Characters × Option CustomValue

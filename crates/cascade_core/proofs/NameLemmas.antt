@@ -9,7 +9,7 @@ use Rattle.std.specs.Option.{option_cmp}
 use Rattle.std.specs.Ordering.{nat_cmp, is_lt, is_le, is_eq, ordering_reverse}
 use Rattle.std.proofs.lemmas.Cmp.{tied_itself, alike_right}
 use Rattle.std.proofs.lemmas.Option.{none-some, same_Some}
-use Rattle.std.proofs.lemmas.Bool.{true≢false, and_parts, and_from}
+use Rattle.std.proofs.lemmas.Bool.{true≢false, and_parts, and_from, not_from_false}
 use Rattle.std.proofs.lemmas.List.Folds.{list_all-append}
 use Rattle.base_model.specs.Text.{Characters}
 use Rattle.sheet_model.specs.Declared.{Target, longhand, custom, is_custom}
@@ -20,22 +20,13 @@ use Rattle.cascade_model.proofs.WinnerLemmas.{all_through}
 use Rattle.cascade_core.specs.Names.{name_of, compare_names, have_same_name, begins_apart, NamesRise}
 use Rattle.cascade_core.proofs.SortedLemmas.{none_left}
 use Rattle.cascade_core.proofs.DeclaredLemmas.{is_custom-ties}
+use Rattle.base_model.proofs.Orderings.{is_equal, is_less}
 
 abbrev pub names_cmp : Option Characters → Option Characters → Ordering
 names_cmp = option_cmp (slice_cmp nat_cmp)
 
 pub names_cmp-total : IsTotalOrder names_cmp
 names_cmp-total = options_total nat_list_cmp_total
-
-pub is_equal : (o : Ordering) → is_eq o ≡ true → o ≡ Equal
-is_equal Less h = absurd (true≢false (sym h))
-is_equal Equal h = refl
-is_equal Greater h = absurd (true≢false (sym h))
-
-pub is_less : (o : Ordering) → is_lt o ≡ true → o ≡ Less
-is_less Less h = refl
-is_less Equal h = absurd (true≢false (sym h))
-is_less Greater h = absurd (true≢false (sym h))
 
 -- a declaration is of a name exactly where its own ties with it
 by_target : (name : Characters) (t : Target) → is_custom name t ≡ is_eq (names_cmp (Some name) (custom_name t))
@@ -44,10 +35,6 @@ by_target name (custom other) = is_custom-ties name other
 
 pub declares-names : (name : Characters) (d : Matched) → declares_custom name d ≡ is_eq (names_cmp (Some name) (name_of d))
 declares-names name d = by_target name d.target
-
-not_true : (b : Bool) → b ≡ false → not b ≡ true
-not_true true h = sym h
-not_true false h = refl
 
 module _ {X : Type 0} where
   kept_step : (b : Bool) (x : X) (xs ys : List X) → b ≡ true → xs ≡ ys → cond b (x ∷ xs) xs ≡ x ∷ ys
@@ -94,12 +81,12 @@ module _ (first : Option Characters) where
   -- and of no other
   pub run_dropped : (q : Characters) (run : List Matched) → is_eq (names_cmp (Some q) first) ≡ false → list_all is_same run ≡ true → filter (declares_custom q) run ≡ []
   run_dropped q run other same =
-      none_left (declares_custom q) run (all_through is_same (λ d. not (declares_custom q d)) (λ d h. not_true (declares_custom q d) (declares-names q d ∙ (ap is_eq (sym (alike_right names_cmp-total first (name_of d) (Some q) (is_equal _ h))) ∙ other))) run same)
+      none_left (declares_custom q) run (all_through is_same (λ d. not (declares_custom q d)) (λ d h. not_from_false (declares_custom q d) (declares-names q d ∙ (ap is_eq (sym (alike_right names_cmp-total first (name_of d) (Some q) (is_equal _ h))) ∙ other))) run same)
 
 -- those of lower names are not of it
 pub lower_dropped : (name : Characters) (first : Matched) (rest done : List Matched) → name_of first ≡ Some name → list_all (λ d. is_below (first ∷ rest) (name_of d)) done ≡ true → filter (declares_custom name) done ≡ []
 lower_dropped name first rest done named below =
-    none_left (declares_custom name) done (all_through (λ d. is_below (first ∷ rest) (name_of d)) (λ d. not (declares_custom name d)) (λ d h. not_true (declares_custom name d) (other d (and_parts (is_lt (names_cmp (name_of d) (name_of first))) (is_below rest (name_of d)) h).0)) done below)
+    none_left (declares_custom name) done (all_through (λ d. is_below (first ∷ rest) (name_of d)) (λ d. not (declares_custom name d)) (λ d h. not_from_false (declares_custom name d) (other d (and_parts (is_lt (names_cmp (name_of d) (name_of first))) (is_below rest (name_of d)) h).0)) done below)
   where
     other : (d : Matched) → is_lt (names_cmp (name_of d) (name_of first)) ≡ true → declares_custom name d ≡ false
     other d less =

@@ -3,8 +3,6 @@ use Rattle.std.proofs.Common.{◌≡◌, ◌<◌, ◌≤◌, Bool, true, false, 
 use Rattle.std.proofs.lemmas.Bool.{true≢false, ltb-true, lt-ltb, le-ltb, false_from_ne_true}
 use Rattle.std.proofs.lemmas.Cmp.{nat_cmp_total, on_total, then_total, tied_itself, ranked, by_ranked}
 use Rattle.std.specs.Cmp.{IsTotalOrder, bool_cmp_total}
-use Rattle.std.specs.declared.cmp.Ordering.{Ordering}
-use Rattle.std.specs.declared.cmp.Ordering.TheVariants.{Less, Equal, Greater}
 use Rattle.std.specs.Option.{option_map_or}
 use Rattle.std.specs.Ordering.{is_lt, ordering_then, nat_cmp, bool_cmp}
 use Rattle.base_model.specs.Origin.{origin_rank}
@@ -15,15 +13,11 @@ use Rattle.cascade_model.specs.Winner.{greatest_of}
 use Rattle.cascade_model.specs.Ending.{Ending, unsets, Meaning, keyword, value, ending_of, ending_on}
 use Rattle.cascade_model.proofs.EndingLemmas.{ending_of-step}
 use Rattle.cascade_core.specs.Rollback.{Descends, Level, level_of, compare_level, Limit, no_limit, below_origin, below_level, keeps, settled, limit_by, walked}
+use Rattle.base_model.proofs.Orderings.{is_less}
 
 compare_level-total : IsTotalOrder compare_level
 compare_level-total =
     then_total (on_total (λ (l : Level). l.rank) nat_cmp_total) (then_total (on_total (λ (l : Level). l.attached) bool_cmp_total) (on_total (λ (l : Level). l.layer) nat_cmp_total))
-
-is_less : (o : Ordering) → is_lt o ≡ true → o ≡ Less
-is_less Less h = refl
-is_less Equal h = absurd (true≢false (sym h))
-is_less Greater h = absurd (true≢false (sym h))
 
 lower-trans : (a b c : Level) → is_lt (compare_level a b) ≡ true → is_lt (compare_level b c) ≡ true → is_lt (compare_level a c) ≡ true
 lower-trans a b c h k =

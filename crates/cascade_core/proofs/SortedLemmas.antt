@@ -13,7 +13,8 @@ use Rattle.std.specs.declared.cmp.Ordering.TheVariants.{Less, Equal, Greater}
 use Rattle.std.specs.List.{list_all}
 use Rattle.std.specs.List.Sorted.{IsPermutation, IsSortedBy, IsStableBy, ties}
 use Rattle.std.specs.Ordering.{ordering_reverse, is_lt, is_le}
-use Rattle.cascade_model.proofs.WinnerLemmas.{found_within, found_passes, found_alike, all_through, at_most-trans, is_top, top_of}
+use Rattle.cascade_model.proofs.WinnerLemmas.{found_within, found_alike, all_through, at_most-trans, is_top, top_of}
+use Rattle.base_model.proofs.Lists.{find_passes}
 
 module _ {X : Type 0} where
   -- each of a list passes, seen by place
@@ -176,7 +177,7 @@ module _ {X : Type 0} (R : X → X → Ordering) (o : IsTotalOrder R) where
         down top =
             let each : list_all (λ z. not (p z) || is_le (R z y)) ys ≡ true = all_permuted (λ z. not (p z) || is_le (R z y)) xs ys permuted (sym (all_kept p (λ z. is_le (R z y)) xs) ∙ top) in
             let at : (not (p x) || is_le (R x y)) ≡ true = found_within p (λ z. not (p z) || is_le (R z y)) ys x found each in
-            sym (ap (λ b. not b || is_le (R x y)) (found_passes p ys x found)) ∙ at
+            sym (ap (λ b. not b || is_le (R x y)) (find_passes p ys x found)) ∙ at
 
         ties_le : ties falls x y ≡ is_le (R x y)
         ties_le = sym (ap is_le (back x y) ∙ (tied (R y x) below ∙ ap (λ o. not (is_lt (R y x)) && not (is_lt o)) (sym (back x y))))

@@ -50,17 +50,7 @@ pub(crate) fn own_size(size: Fixed, weight: Fixed, root_size: Fixed, ending: End
         element: size,
         root: root_size,
     };
-    size_in(value_at(Row::of(PropId::FontSize), over, &sizes, ending))
-}
-
-/// The size that a value of `font-size` is.
-pub(crate) fn size_in(value: Value) -> Fixed
-    ensures { result ≡ size_in (value_of value) }
-{
-    match value {
-        Value::Pixels(size) => size,
-        _ => Fixed::clamp(16_000),
-    }
+    value_at(Row::of(PropId::FontSize), over, &sizes, ending).font_size()
 }
 
 /// The value of a property whose declarations come to this (css-cascade-5, section 7.3).

@@ -13,7 +13,7 @@ ghost use Rattle.cascade_core.specs.View.{matched_of};
 
 use crate::Matched;
 use crate::applied::Applied;
-use crate::computed::{Over, Sizes, own_size, size_in, value_at};
+use crate::computed::{Over, Sizes, own_size, value_at};
 use crate::custom::changed_custom;
 use crate::longhands::Longhands;
 use crate::winners::Winners;
@@ -183,7 +183,7 @@ fn font_of(parent: &Style) -> Over
     ensures weight { result.weight ≡ font_weight_of parent.now.values }
     ensures all { length parent.now.values ≡ length table }
 {
-    let size = size_in(parent.value(PropId::FontSize));
+    let size = parent.value(PropId::FontSize).font_size();
     Over {
         value: Value::Pixels(size),
         size,

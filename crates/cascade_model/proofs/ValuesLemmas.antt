@@ -114,7 +114,7 @@ size_row : slice_get table font_size_property ≡ Some font_size_row
 unfolding table
 size_row = refl
 
-size_within : font_size_property < length table
+pub size_within : font_size_property < length table
 unfolding table
 size_within = lit< tt
 

@@ -13,13 +13,11 @@ use Rattle.std.specs.declared.cmp.Ordering.TheVariants.{Less, Equal, Greater}
 use Rattle.std.specs.List.{list_all}
 use Rattle.std.specs.Option.{option_or}
 use Rattle.std.specs.Ordering.{ordering_reverse, is_lt, is_le, is_gt}
+use Rattle.std.proofs.Math.Bool.{and-true}
 use Rattle.cascade_model.specs.Key.{Matched, key_cmp}
 use Rattle.cascade_model.specs.Winner.{greatest_of, winner}
 use Rattle.cascade_model.proofs.KeyOrder.{key_cmp-total}
-
-and-true : (b : Bool) → (b && true) ≡ b
-and-true true = refl
-and-true false = refl
+use Rattle.base_model.proofs.Lists.{find_passes}
 
 and_implied : (a b : Bool) → (a ≡ true → b ≡ true) → (a && b) ≡ a
 and_implied true b h = h refl
@@ -62,12 +60,6 @@ module _ {K : Type 0} where
   found_within p q (y ∷ ys) x h all =
       let parts = and_parts (q y) (list_all q ys) all in
       ⊎_elim (λ (e : (p y ≡ true) × (y ≡ x)). ap q (sym e.1) ∙ parts.0) (λ (e : find p ys ≡ Some x). found_within p q ys x e parts.1) (first_or_rest (p y) y x (find p ys) h)
-
-  -- what is found passes
-  pub found_passes : (p : K → Bool) (xs : List K) (x : K) → find p xs ≡ Some x → p x ≡ true
-  found_passes p [] x h = absurd (none-some x h)
-  found_passes p (y ∷ ys) x h =
-      ⊎_elim (λ (e : (p y ≡ true) × (y ≡ x)). ap p (sym e.1) ∙ e.0) (λ (e : find p ys ≡ Some x). found_passes p ys x e) (first_or_rest (p y) y x (find p ys) h)
 
   -- where each one fails, none is found
   none_found : (p q : K → Bool) → ((x : K) → p x ≡ true → q x ≡ false) → (xs : List K) → list_all p xs ≡ true → find q xs ≡ None
@@ -115,7 +107,7 @@ module _ {K : Type 0} (R : K → K → Ordering) (o : IsTotalOrder R) where
   -- a greater one takes the place of the first greatest
   push_greater : (ds : List K) (w d : K) → top_of ds ≡ Some w → is_lt (R w d) ≡ true → top_of (ds ++ d ∷ []) ≡ Some d
   push_greater ds w d found lt =
-      let top : is_top ds w ≡ true = found_passes (is_top ds) ds w found in
+      let top : is_top ds w ≡ true = find_passes (is_top ds) ds w found in
       let below_d : (x : K) → is_le (R x w) ≡ true → is_le (R x d) ≡ true = λ x h. at_most-trans x w d h (le_from_lt (R w d) lt) in
       let not_above : is_le (R d w) ≡ false = ap is_le (o.antisymm d w) ∙ not_back (R w d) lt in
       let fails : (x : K) → is_le (R x w) ≡ true → is_top (ds ++ d ∷ []) x ≡ false = λ x h. is_top-push ds d x ∙ and_right (is_top ds x) (is_le (R d x)) (false_from_ne_true _ (λ e. true≢false (sym (at_most-trans d x w e h) ∙ not_above))) in

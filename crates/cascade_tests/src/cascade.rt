@@ -3,7 +3,7 @@
 use cascade_core::{Matched, cascade};
 use css_tokens::{CustomName, CustomValue, Wide, preprocess, tokens};
 use layer_order::Origin;
-use property_table::{Keyword, PropId, Value};
+use property_table::{Keyword, PropId, Value, initial_size};
 use shorthands::{Declared, Given, Short, Target};
 use std::alloc::Global;
 use std::test::Fail;
@@ -41,7 +41,7 @@ fn by_rule(declared: &Declared, layer: u32) -> Matched<'_> {
 // the style by these declarations, over initial values
 fn styled(alloc: Global, matched: &[Matched<'_>]) -> Result<Style, NoMemory> {
     let parent = Style::initial(alloc)?;
-    cascade(alloc, matched, &[], &parent, Fixed::clamp(16_000), true)
+    cascade(alloc, matched, &[], &parent, initial_size(), true)
 }
 
 fn of_the_layer_below(alloc: Global) -> Result<Style, NoMemory> {
@@ -107,7 +107,7 @@ fn with_reference(alloc: Global) -> Result<Style, NoMemory> {
     let parent = with_custom(alloc)?;
     let referring = referring(alloc)?;
     let matched = [by_rule(&referring, 0)];
-    cascade(alloc, &matched, &[], &parent, Fixed::clamp(16_000), false)
+    cascade(alloc, &matched, &[], &parent, initial_size(), false)
 }
 
 #[test]

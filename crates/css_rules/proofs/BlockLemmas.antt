@@ -43,7 +43,7 @@ past_below pending token test =
     ap (with_opened (opened_by token.kind)) (without_below pending token.kind test)
     ∙ with_below (opened_by token.kind) (without_closed pending (closed_by token.kind))
 
-is_closer : (kind : Kind) → is_close_curly kind ≡ true → kind ≡ close_curly
+pub is_closer : (kind : Kind) → is_close_curly kind ≡ true → kind ≡ close_curly
 is_closer close_curly test = refl
 is_closer kind test = cc
 

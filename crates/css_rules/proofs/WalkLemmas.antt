@@ -2,13 +2,14 @@
 use Rattle.std.proofs.Common.{◌≡◌, ℕ, Bool, true, false, cond, List, [], ◌∷◌, ◌++◌, None, refl, sym, ap, ◌∙◌}
 use Rattle.std.proofs.lemmas.Bool.{and_right, true≢false}
 use Rattle.base_model.specs.Text.{Characters}
-use Rattle.syntax_model.specs.Token.{Token, Kind, at_keyword, cdc, cdo, close_curly, open_curly, semicolon, whitespace}
+use Rattle.syntax_model.specs.Token.{Token, Kind, at_keyword, cdc, cdo, open_curly, semicolon, whitespace}
 use Rattle.syntax_model.specs.Kinds.{is_at_keyword, is_close_curly, is_open_curly, is_semicolon}
 use Rattle.syntax_model.specs.Brackets.{Bracket, closed_by, curly, open_past, opened_by, with_opened, without_closed}
 use Rattle.syntax_model.specs.Rules.{Rule, Context, SheetEdition, Piece, qualified_head, at_head}
 use Rattle.syntax_model.specs.Rules as model
 use Rattle.syntax_model.specs.RulesIn.{is_between_rules, is_last, without_block}
 use Rattle.syntax_model.specs.SheetRules.{Found, found, block_within, pieces_found, is_layer_name, statement_found}
+use Rattle.css_rules.proofs.BlockLemmas.{is_closer}
 use Rattle.css_rules.specs.Walk.{Walk, ended_rules, ends_statement, head_named, kept}
 use Rattle.css_rules.specs.declared.rule_parser.State.{State}
 use Rattle.css_rules.specs.declared.rule_parser.Head.{Head}
@@ -94,14 +95,10 @@ pub same_last : (head : model.Head) (kind : Kind) → ends_statement (head_of he
 same_last qualified_head kind = refl
 same_last (at_head name) kind = named_ends name kind
 
-close_kind : (kind : Kind) → is_close_curly kind ≡ true → kind ≡ close_curly
-close_kind close_curly test = refl
-close_kind kind test = cc
-
 pub close_is_not_last : (head : Head) (kind : Kind) → is_close_curly kind ≡ true → ends_statement head kind ≡ false
 close_is_not_last Qualified kind test = refl
-close_is_not_last Layer kind test = ap is_semicolon (close_kind kind test)
-close_is_not_last Other kind test = ap is_semicolon (close_kind kind test)
+close_is_not_last Layer kind test = ap is_semicolon (is_closer kind test)
+close_is_not_last Other kind test = ap is_semicolon (is_closer kind test)
 
 -- what a rule without a block gives
 named_statement : (context : Context) (name : Characters) (prelude : List Token) → ended_rules (head_named name) context (all_kept (head_named name) prelude) ≡ statement_found context name prelude

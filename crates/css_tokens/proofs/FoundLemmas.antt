@@ -1,27 +1,23 @@
 -- What is found of a value: whether it is valid, whether it refers to something, and else what it expands to.
-use Rattle.std.proofs.Common.{◌≡◌, ◌≤◌, List, [], ◌∷◌, map, length, Bool, true, false, not, ◌&&◌, Option, Some, None, option_map, refl, sym, ap, ◌∙◌, arith}
+use Rattle.std.proofs.Common.{◌≡◌, ◌≤◌, List, [], ◌∷◌, map, length, Bool, true, false, not, ◌&&◌, Option, Some, None, option_map, refl, sym, ap, ◌∙◌}
 use Rattle.std.specs.Prelude.{if◌then◌else◌, ◌||◌}
 use Rattle.std.specs.Option.{option_map_or}
 use Rattle.std.specs.List.{list_any}
 use Rattle.base_model.specs.Lists.{is_nil}
 use Rattle.base_model.specs.Text.{Characters}
 use Rattle.syntax_model.specs.Token.{Said, Token, said}
-use Rattle.syntax_model.specs.Kinds.{is_white, is_comma}
+use Rattle.syntax_model.specs.Kinds.{is_white, is_comma, is_close_round}
 use Rattle.custom_model.specs.Value.{CustomValue, normal, unplaced}
-use Rattle.custom_model.specs.Parts.{Parts, done, plain, reference, with_fallback, custom_value_in, is_close_round, is_name, is_unfit, is_valid, is_var, parts, references, referring_value_in, refers}
+use Rattle.custom_model.specs.Parts.{Parts, done, plain, reference, with_fallback, custom_value_in, is_name, is_unfit, is_valid, is_var, parts, references, referring_value_in, refers}
 use Rattle.custom_model.specs.Steps.{Step, token, alone, begins, ends, steps, steps_in}
-use Rattle.custom_model.specs.Expand.{Lookup, expansion}
-use Rattle.custom_model.proofs.Normal.{normal_again}
+use Rattle.custom_model.specs.Expand.{IsPlain}
 use Rattle.custom_model.proofs.Plain.{expand_itself}
-use Rattle.css_tokens.specs.KeptTokens.{IsKept}
-use Rattle.css_tokens.specs.declared.custom_value.KeptTokens.{KeptTokens}
-use Rattle.css_tokens.proofs.ListLemmas.{said_unplaced}
-use Rattle.std.specs.Prelude.{nat_le}
-use Rattle.std.proofs.lemmas.Bool.Decides.{nat_tests}
-use Rattle.std.proofs.lemmas.List.{length-map}
+use Rattle.custom_model.proofs.Simple.{is_simple}
+use Rattle.custom_model.proofs.Said.{said_unplaced}
+use Rattle.std.specs.Prelude.{◌↔◌, IsTrue}
 use Rattle.base_model.specs.Options.{◌>>=◌}
-use Rattle.css_tokens.specs.Opened.{Opened, anywhere, in_var, after_name, beyond, brackets_in, first_then, is_in_fallback, outside, steps_from}
-use Rattle.css_tokens.specs.Found.{found_after, is_found_plain, is_found_referring, is_found_valid, is_of_var}
+use Rattle.css_tokens.specs.Opened.{Opened, anywhere, in_var, after_name, beyond, brackets_in, finished, first_then, invalid, is_in_fallback, outside, steps_from, whole}
+use Rattle.css_tokens.specs.Found.{found_after, is_found_referring, is_found_valid, is_of_var}
 use Rattle.css_tokens.specs.declared.custom_value.Found.{Found}
 use Rattle.css_tokens.specs.declared.custom_value.Found.TheVariants as variant
 use Rattle.css_tokens.proofs.OpenedLemmas.{steps_are}
@@ -68,55 +64,55 @@ refers_is value = from (parts value)
 
 -- a value without a `var()` is made of its tokens
 
-no_first : (step : Step) (left : Option (List Step)) (all : List Step) → is_of_var step ≡ true → first_then step left ≡ Some all → list_any is_of_var all ≡ true
+no_first : (step : Step) (left : Option (List Step)) (all : List Step) → is_of_var step ≡ true → option_map (λ rest. step ∷ rest) left ≡ Some all → list_any is_of_var all ≡ true
 no_first step None all is e = cc
 no_first step (Some rest) all is e =
     let same : step ∷ rest ≡ all = cc in
     sym (ap (list_any is_of_var) same) ∙ ap (λ b. b || list_any is_of_var rest) is
 
-no_name : (openers : Opened) (name : Characters) (tokens : List Said) (all : List Step) → steps_from (after_name name) openers tokens ≡ Some all → list_any is_of_var all ≡ true
+no_name : (openers : Opened) (name : Characters) (tokens : List Said) (all : List Step) → whole (steps_from (after_name name) openers tokens) ≡ Some all → list_any is_of_var all ≡ true
 unfolding steps_from
 no_name openers name [] all e = cc
 no_name openers name (t ∷ tokens) all e =
-    elim (is_white t.kind) as (λ b. (if b then steps_from (after_name name) openers tokens else if is_close_round t.kind then first_then (alone name) (steps_from anywhere openers tokens) else if is_comma t.kind then first_then (begins name) (steps_from anywhere (None ∷ openers) tokens) else None) ≡ Some all → list_any is_of_var all ≡ true) [
+    elim (is_white t.kind) as (λ b. whole (if b then steps_from (after_name name) openers tokens else if is_close_round t.kind then first_then (alone name) (steps_from anywhere openers tokens) else if is_comma t.kind then first_then (begins name) (steps_from anywhere (None ∷ openers) tokens) else invalid) ≡ Some all → list_any is_of_var all ≡ true) [
       | true ↦ λ e. no_name openers name tokens all e
-      | false ↦ elim (is_close_round t.kind) as (λ b. (if b then first_then (alone name) (steps_from anywhere openers tokens) else if is_comma t.kind then first_then (begins name) (steps_from anywhere (None ∷ openers) tokens) else None) ≡ Some all → list_any is_of_var all ≡ true) [
+      | false ↦ elim (is_close_round t.kind) as (λ b. whole (if b then first_then (alone name) (steps_from anywhere openers tokens) else if is_comma t.kind then first_then (begins name) (steps_from anywhere (None ∷ openers) tokens) else invalid) ≡ Some all → list_any is_of_var all ≡ true) [
         | true ↦ λ e. no_first (alone name) _ all refl e
-        | false ↦ elim (is_comma t.kind) as (λ b. (if b then first_then (begins name) (steps_from anywhere (None ∷ openers) tokens) else None) ≡ Some all → list_any is_of_var all ≡ true) [
+        | false ↦ elim (is_comma t.kind) as (λ b. whole (if b then first_then (begins name) (steps_from anywhere (None ∷ openers) tokens) else invalid) ≡ Some all → list_any is_of_var all ≡ true) [
           | true ↦ λ e. no_first (begins name) _ all refl e
           | false ↦ λ e. cc
         ]
       ]
     ] e
 
-no_var : (openers : Opened) (tokens : List Said) (all : List Step) → steps_from in_var openers tokens ≡ Some all → list_any is_of_var all ≡ true
+no_var : (openers : Opened) (tokens : List Said) (all : List Step) → whole (steps_from in_var openers tokens) ≡ Some all → list_any is_of_var all ≡ true
 unfolding steps_from
 no_var openers [] all e = cc
 no_var openers (t ∷ tokens) all e =
-    elim (is_white t.kind) as (λ b. (if b then steps_from in_var openers tokens else if is_name t then steps_from (after_name t.name) openers tokens else None) ≡ Some all → list_any is_of_var all ≡ true) [
+    elim (is_white t.kind) as (λ b. whole (if b then steps_from in_var openers tokens else if is_name t then steps_from (after_name t.name) openers tokens else invalid) ≡ Some all → list_any is_of_var all ≡ true) [
       | true ↦ λ e. no_var openers tokens all e
-      | false ↦ elim (is_name t) as (λ b. (if b then steps_from (after_name t.name) openers tokens else None) ≡ Some all → list_any is_of_var all ≡ true) [
+      | false ↦ elim (is_name t) as (λ b. whole (if b then steps_from (after_name t.name) openers tokens else invalid) ≡ Some all → list_any is_of_var all ≡ true) [
         | true ↦ λ e. no_name openers t.name tokens all e
         | false ↦ λ e. cc
       ]
     ] e
 
 one_token : (said : Said) (tokens : List Said) (left : Option (List Step)) (all : List Step) → ((rest : List Step) → left ≡ Some rest → list_any is_of_var rest ≡ false → rest ≡ map token tokens)
-    → first_then (token said) left ≡ Some all → list_any is_of_var all ≡ false → all ≡ map token (said ∷ tokens)
+    → option_map (λ rest. token said ∷ rest) left ≡ Some all → list_any is_of_var all ≡ false → all ≡ map token (said ∷ tokens)
 one_token said tokens None all again e none = cc
 one_token said tokens (Some rest) all again e none =
     let same : token said ∷ rest ≡ all = cc in
     sym same ∙ ap (λ l. token said ∷ l) (again rest refl (ap (list_any is_of_var) same ∙ none))
 
-tokens_alone : (openers : Opened) (tokens : List Said) (all : List Step) → steps_from anywhere openers tokens ≡ Some all → list_any is_of_var all ≡ false → all ≡ map token tokens
+tokens_alone : (openers : Opened) (tokens : List Said) (all : List Step) → whole (steps_from anywhere openers tokens) ≡ Some all → list_any is_of_var all ≡ false → all ≡ map token tokens
 unfolding steps_from
-tokens_alone openers [] all e none = elim (is_nil openers) as (λ b. (if b then Some [] else None) ≡ Some all → all ≡ []) [ true ↦ λ e. cc | false ↦ λ e. cc ] e
+tokens_alone openers [] all e none = elim (is_nil openers) as (λ b. whole (if b then finished else invalid) ≡ Some all → all ≡ []) [ true ↦ λ e. cc | false ↦ λ e. cc ] e
 tokens_alone openers (t ∷ tokens) all e none =
-    elim (is_in_fallback openers && is_close_round t.kind) as (λ b. (if b then first_then ends (steps_from anywhere (outside openers) tokens) else if is_unfit (brackets_in openers) t.kind then None else if is_var t then steps_from in_var openers tokens else first_then (token t) (steps_from anywhere (beyond openers t.kind) tokens)) ≡ Some all → all ≡ map token (t ∷ tokens)) [
+    elim (is_in_fallback openers && is_close_round t.kind) as (λ b. whole (if b then first_then ends (steps_from anywhere (outside openers) tokens) else if is_unfit (brackets_in openers) t.kind then invalid else if is_var t then steps_from in_var openers tokens else first_then (token t) (steps_from anywhere (beyond openers t.kind) tokens)) ≡ Some all → all ≡ map token (t ∷ tokens)) [
       | true ↦ λ e. let is = no_first ends _ all refl e in cc
-      | false ↦ elim (is_unfit (brackets_in openers) t.kind) as (λ b. (if b then None else if is_var t then steps_from in_var openers tokens else first_then (token t) (steps_from anywhere (beyond openers t.kind) tokens)) ≡ Some all → all ≡ map token (t ∷ tokens)) [
+      | false ↦ elim (is_unfit (brackets_in openers) t.kind) as (λ b. whole (if b then invalid else if is_var t then steps_from in_var openers tokens else first_then (token t) (steps_from anywhere (beyond openers t.kind) tokens)) ≡ Some all → all ≡ map token (t ∷ tokens)) [
         | true ↦ λ e. cc
-        | false ↦ elim (is_var t) as (λ b. (if b then steps_from in_var openers tokens else first_then (token t) (steps_from anywhere (beyond openers t.kind) tokens)) ≡ Some all → all ≡ map token (t ∷ tokens)) [
+        | false ↦ elim (is_var t) as (λ b. whole (if b then steps_from in_var openers tokens else first_then (token t) (steps_from anywhere (beyond openers t.kind) tokens)) ≡ Some all → all ≡ map token (t ∷ tokens)) [
           | true ↦ λ e. let is = no_var openers tokens all e in cc
           | false ↦ λ e. one_token t tokens _ all (λ rest h n. tokens_alone (beyond openers t.kind) tokens rest h n) e none
         ]
@@ -134,9 +130,27 @@ plain_steps value e = from (steps_in value) refl e
         none true e = cc
         none false e = refl
 
--- a plain value within the limit expands to itself
-pub plain_itself : (value : CustomValue) → variant.Plain ≡ found_after false (steps_in value) → normal value ≡ value → length value ≤ 4096 → (values : Lookup) → expansion values value ≡ Some value
-plain_itself value e n few values = expand_itself values value (plain_steps value e) n few
+-- a value expands to itself exactly where it is valid, refers to nothing, is within the limit, and is in normal form
+
+module _ (value : CustomValue) (found : Found) (f : found ≡ found_after false (steps_in value)) where
+  pub plain_found : IsPlain value → variant.Plain ≡ found
+  plain_found all =
+      let simple = is_simple value all in
+      from found (ap is_found_valid f ∙ sym (valid_is value) ∙ simple.valid) (ap is_found_referring f ∙ sym (refers_is value) ∙ simple.none)
+    where
+      from : (found : Found) → is_found_valid found ≡ true → is_found_referring found ≡ false → variant.Plain ≡ found
+      from variant.Plain v n = refl
+      from variant.Referring v n = cc
+      from variant.Invalid v n = cc
+
+  pub plain_few : IsPlain value → length value ≤ 4096
+  plain_few all = (is_simple value all).few
+
+  pub plain_normal : variant.Plain ≡ found → length value ≤ 4096 → (b : Bool) → IsTrue b ↔ (normal value ≡ value) → IsTrue b ↔ IsPlain value
+  plain_normal is few b h = (
+    λ t. λ values. expand_itself values value (plain_steps value (is ∙ f)) (h.0 t) few,
+    λ all. h.1 (is_simple value all).same,
+  )
 
 -- what is kept of tokens, where this is found of their normal form
 
@@ -144,8 +158,8 @@ module _ (tokens items : List Token) (found : Found) (e : items ≡ map unplaced
   value_is : map said items ≡ normal (map said tokens)
   value_is = ap (map said) e ∙ said_unplaced (normal (map said tokens))
 
-  pub stays_normal : items ≡ map unplaced (normal (map said items))
-  stays_normal = e ∙ ap (map unplaced) (sym (ap normal value_is ∙ normal_again (map said tokens)))
+  pub stays_unplaced : items ≡ map unplaced (map said items)
+  stays_unplaced = e ∙ ap (map unplaced) (sym value_is)
 
   module _ (f : found ≡ found_after false (steps_in (map said items))) where
     validity : is_valid (normal (map said tokens)) ≡ is_found_valid found
@@ -179,33 +193,3 @@ module _ (tokens items : List Token) (found : Found) (e : items ≡ map unplaced
         valid_too variant.Referring h = refl
         valid_too variant.Plain h = cc
         valid_too variant.Invalid h = cc
-
--- what holds of the tokens that are kept
-pub kept_is : (items : List Token) (found : Found) (is_plain : Bool) → items ≡ map unplaced (normal (map said items)) → found ≡ found_after false (steps_in (map said items))
-    → is_plain ≡ (is_found_plain found && nat_le (length items) 4096) → (kept : KeptTokens) → kept.list.items ≡ items → kept.is_plain ≡ is_plain → IsKept kept
-kept_is items found is_plain n f p kept same flag = record {
-  unplaced_all = same ∙ (n ∙ ap (map unplaced) (stays ∙ ap (map said) (sym same)));
-  plain = λ h. λ values.
-      let both : (is_found_plain found && nat_le (length items) 4096) ≡ true = cc in
-      let itself = plain_itself (map said items) (is_plain_found found (first _ _ both) ∙ f) stays (few (second _ _ both)) values in
-      ap (λ (items : List Token). expansion values (map said items)) same ∙ (itself ∙ ap (λ (items : List Token). Some (map said items)) (sym same));
-}
-  where
-    stays : normal (map said items) ≡ map said items
-    stays = sym (ap (map said) n ∙ said_unplaced (normal (map said items)))
-
-    first : (a b : Bool) → (a && b) ≡ true → a ≡ true
-    first true b e = refl
-    first false b e = e
-
-    second : (a b : Bool) → (a && b) ≡ true → b ≡ true
-    second true b e = e
-    second false b e = cc
-
-    is_plain_found : (found : Found) → is_found_plain found ≡ true → variant.Plain ≡ found
-    is_plain_found variant.Plain e = refl
-    is_plain_found variant.Referring e = cc
-    is_plain_found variant.Invalid e = cc
-
-    few : nat_le (length items) 4096 ≡ true → length (map said items) ≤ 4096
-    few h = grind (arith, nat_tests, length-map)

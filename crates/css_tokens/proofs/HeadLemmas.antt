@@ -1,13 +1,15 @@
 -- The beginning of a `var()`, as the code reads it.
-use Rattle.std.proofs.Common.{◌≡◌, ◌≤◌, suc, List, [], ◌∷◌, map, length, Bool, true, false, None, refl, sym, ap, ◌∙◌, arith}
+use Rattle.std.proofs.Common.{◌≡◌, ◌≤◌, suc, List, [], ◌∷◌, map, length, true, false, None, refl, sym, ap, ◌∙◌, arith}
 use Rattle.std.specs.Prelude.{if◌then◌else◌}
 use Rattle.base_model.specs.Text.{Characters}
 use Rattle.syntax_model.specs.Token.{Token, Kind, close_round, said}
 use Rattle.syntax_model.specs.Kinds as kinds
-use Rattle.custom_model.specs.Parts.{is_close_round, is_name, without_white}
+use Rattle.custom_model.specs.Parts.{is_name, without_white}
+use Rattle.syntax_model.specs.Kinds.{is_close_round}
 use Rattle.custom_model.specs.Steps.{alone, begins}
-use Rattle.css_tokens.specs.Opened.{Opened, after_name, anywhere, first_then, in_var, steps_from}
+use Rattle.css_tokens.specs.Opened.{Opened, after_name, anywhere, first_then, in_var, invalid, steps_from}
 use Rattle.css_tokens.proofs.OpenedLemmas.{named_from, named_is, var_from, var_is}
+use Rattle.base_model.proofs.Bools.{chosen}
 
 white_said : (tokens : List Token) → without_white (map said tokens) ≡ map said (kinds.without_white tokens)
 white_said [] = refl
@@ -41,30 +43,27 @@ nothing : (left : List Token) → length left ≡ 0 → left ≡ []
 nothing [] e = refl
 nothing (token ∷ left) e = absurd (omega arith)
 
-chosen : {X : Type 0} (b c : Bool) → b ≡ c → (x y : X) → (if b then x else y) ≡ (if c then x else y)
-chosen b c e x y = ap (λ b. if b then x else y) e
-
 -- no name is there
-pub no_name : (tokens left : List Token) → left ≡ kinds.without_white tokens → length left ≡ 0 → (openers : Opened) → steps_from in_var openers (map said tokens) ≡ None
+pub no_name : (tokens left : List Token) → left ≡ kinds.without_white tokens → length left ≡ 0 → (openers : Opened) → steps_from in_var openers (map said tokens) ≡ invalid
 no_name tokens left e none openers = at_name tokens left e openers ∙ ap (λ l. var_from openers (map said l)) (nothing left none)
 
 module _ (tokens left : List Token) (first : Token) (rest : List Token) (e : left ≡ kinds.without_white tokens) (l : left ≡ first ∷ rest) where
-  pub other_name : is_name (said first) ≡ false → (openers : Opened) → steps_from in_var openers (map said tokens) ≡ None
+  pub other_name : is_name (said first) ≡ false → (openers : Opened) → steps_from in_var openers (map said tokens) ≡ invalid
   other_name h openers = at_name tokens left e openers ∙ (ap (λ l. var_from openers (map said l)) l ∙ chosen _ false h _ _)
 
   module _ (is : is_name (said first) ≡ true) where
     named : (openers : Opened) → steps_from in_var openers (map said tokens) ≡ steps_from (after_name first.name) openers (map said rest)
     named openers = at_name tokens left e openers ∙ (ap (λ l. var_from openers (map said l)) l ∙ chosen _ true is _ _)
 
-    pub no_end : (right : List Token) → right ≡ kinds.without_white rest → length right ≡ 0 → (openers : Opened) → steps_from in_var openers (map said tokens) ≡ None
+    pub no_end : (right : List Token) → right ≡ kinds.without_white rest → length right ≡ 0 → (openers : Opened) → steps_from in_var openers (map said tokens) ≡ invalid
     no_end right r none openers =
         named openers ∙ (at_end first.name rest right r openers ∙ ap (λ l. named_from openers first.name (map said l)) (nothing right none))
 
     module _ (right : List Token) (end : Token) (behind : List Token) (r : right ≡ kinds.without_white rest) (m : right ≡ end ∷ behind) where
-      ended : (openers : Opened) → steps_from in_var openers (map said tokens) ≡ (if is_close_round end.kind then first_then (alone first.name) (steps_from anywhere openers (map said behind)) else if kinds.is_comma end.kind then first_then (begins first.name) (steps_from anywhere (None ∷ openers) (map said behind)) else None)
+      ended : (openers : Opened) → steps_from in_var openers (map said tokens) ≡ (if is_close_round end.kind then first_then (alone first.name) (steps_from anywhere openers (map said behind)) else if kinds.is_comma end.kind then first_then (begins first.name) (steps_from anywhere (None ∷ openers) (map said behind)) else invalid)
       ended openers = named openers ∙ (at_end first.name rest right r openers ∙ ap (λ l. named_from openers first.name (map said l)) m)
 
-      pub other_end : kinds.is_comma end.kind ≡ false → is_close_round end.kind ≡ false → (openers : Opened) → steps_from in_var openers (map said tokens) ≡ None
+      pub other_end : kinds.is_comma end.kind ≡ false → is_close_round end.kind ≡ false → (openers : Opened) → steps_from in_var openers (map said tokens) ≡ invalid
       other_end comma close openers = ended openers ∙ (chosen _ false close _ _ ∙ chosen _ false comma _ _)
 
       pub at_close : is_close_round end.kind ≡ true → (openers : Opened) → steps_from in_var openers (map said tokens) ≡ first_then (alone first.name) (steps_from anywhere openers (map said behind))

@@ -1,9 +1,10 @@
-use Rattle.std.proofs.Common.{◌≡◌, ℕ, ◌+◌, ◌<◌, Bool, true, false, eqb, [], ◌∷◌, ◌++◌, length, get_or, drop, refl, sym, ap, ◌∙◌, arith, append_assoc, append-nil}
+use Rattle.std.proofs.Common.{◌≡◌, ℕ, ◌+◌, ◌<◌, Bool, true, eqb, [], ◌∷◌, ◌++◌, length, get_or, drop, sym, ap, ◌∙◌, arith, append_assoc, append-nil}
 use Rattle.std.proofs.lemmas.Bool.Decides.{nat_tests}
 use Rattle.std.proofs.lemmas.List.{drop_all, drop_more}
 use Rattle.base_model.specs.Text.{Characters}
 use Rattle.syntax_model.specs.Preprocess.{preprocessed_after, preprocessed, is_preprocessed}
 use Rattle.css_tokens.specs.Input.{given_by}
+use Rattle.syntax_model.proofs.CleanTokens.{after_clean}
 
 -- one character on
 preprocessed-cons : (b : Bool) (c : ℕ) (cs : Characters) → preprocessed_after b (c ∷ cs) ≡ given_by b c ++ preprocessed_after (eqb c 13) cs
@@ -25,10 +26,5 @@ pub given_all : (cs out : Characters) (b : Bool) (n : ℕ) → n ≡ length cs �
 given_all cs out b n e before =
     sym (append-nil out) ∙ (ap (λ xs. out ++ preprocessed_after b xs) (sym (drop_all n cs (omega arith))) ∙ before)
 
--- a text that was preprocessed is as `tokens` wants it
-is_ready : (b : Bool) (cs : Characters) → is_preprocessed (preprocessed_after b cs) ≡ true
-is_ready b [] = refl
-is_ready b (c ∷ cs) = grind (arith, nat_tests, is_ready true cs, is_ready false cs)
-
 pub ready_all : (cs out : Characters) → out ≡ preprocessed cs → is_preprocessed out ≡ true
-ready_all cs out e = ap is_preprocessed e ∙ is_ready _ cs
+ready_all cs out e = ap is_preprocessed e ∙ after_clean _ cs

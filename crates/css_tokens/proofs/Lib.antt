@@ -12,6 +12,7 @@ pub mod NextLemmas
 pub mod SearchLemmas
 pub mod OrderLemmas
 pub mod SpacedLemmas
+pub mod NormalLemmas
 pub mod FoundLemmas
 pub mod NameLemmas
 pub mod ListLemmas

@@ -1,9 +1,7 @@
 -- Two lists that are compared place by place, by what each of their elements is seen as.
-use Rattle.std.proofs.Common.{◌≡◌, ℕ, ◌+◌, ◌<◌, List, [], ◌∷◌, ◌++◌, map, length, take, get_or, refl, sym, ap, ◌∙◌, arith}
+use Rattle.std.proofs.Common.{◌≡◌, ℕ, ◌+◌, ◌<◌, List, [], ◌∷◌, ◌++◌, map, length, take, get_or, sym, ap, ◌∙◌, arith}
 use Rattle.std.proofs.Math.Seq.{take-length}
 use Rattle.std.proofs.lemmas.List.{get_or-map, map_more}
-use Rattle.syntax_model.specs.Token.{said}
-use Rattle.custom_model.specs.Value.{CustomValue, unplaced}
 
 take_whole : {X : Type 0} (xs : List X) (i : ℕ) → length xs ≡ i → take i xs ≡ xs
 take_whole xs i e = ap (λ n. take n xs) (sym e) ∙ take-length xs
@@ -28,8 +26,3 @@ module _ {X Y : Type 0} (f : X → Y) (a b : List X) where
   -- at all places
   pub same_all : (i : ℕ) → length a ≡ length b → length a ≡ i → map f (take i a) ≡ map f (take i b) → map f a ≡ map f b
   same_all i same whole e = ap (map f) (sym (take_whole a i whole)) ∙ e ∙ ap (map f) (take_whole b i (omega arith))
-
--- what tokens say does not go with their places
-pub said_unplaced : (value : CustomValue) → map said (map unplaced value) ≡ value
-said_unplaced [] = refl
-said_unplaced (token ∷ tokens) = ap (λ l. token ∷ l) (said_unplaced tokens)

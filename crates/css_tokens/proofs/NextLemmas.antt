@@ -1,19 +1,18 @@
 -- One step of the reading of a value.
-use Rattle.std.proofs.Common.{◌≡◌, List, [], ◌∷◌, map, length, Bool, true, false, ◌&&◌, Some, None, refl, sym, ap, ◌∙◌, arith}
+use Rattle.std.proofs.Common.{◌≡◌, List, [], ◌∷◌, map, length, true, false, ◌&&◌, refl, sym, ap, ◌∙◌, arith}
 use Rattle.std.specs.Prelude.{if◌then◌else◌}
 use Rattle.base_model.specs.Lists.{is_nil}
 use Rattle.syntax_model.specs.Token.{Token, Kind, said}
-use Rattle.custom_model.specs.Parts.{is_close_round, is_unfit, is_var}
+use Rattle.custom_model.specs.Parts.{is_unfit, is_var}
+use Rattle.syntax_model.specs.Kinds.{is_close_round}
 use Rattle.custom_model.specs.Steps.{token, ends}
-use Rattle.css_tokens.specs.Opened.{Opened, anywhere, beyond, brackets_in, first_then, in_var, is_in_fallback, outside, steps_from}
+use Rattle.css_tokens.specs.Opened.{Opened, anywhere, beyond, brackets_in, finished, first_then, in_var, invalid, is_in_fallback, outside, steps_from}
+use Rattle.base_model.proofs.Bools.{chosen}
 
-pub at_end : (openers : Opened) (tokens : List Token) → length tokens ≡ 0 → steps_from anywhere openers (map said tokens) ≡ (if is_nil openers then Some [] else None)
+pub at_end : (openers : Opened) (tokens : List Token) → length tokens ≡ 0 → steps_from anywhere openers (map said tokens) ≡ (if is_nil openers then finished else invalid)
 unfolding steps_from
 at_end openers [] e = refl
 at_end openers (t ∷ tokens) e = absurd (omega arith)
-
-chosen : {X : Type 0} (b c : Bool) → b ≡ c → (x y : X) → (if b then x else y) ≡ (if c then x else y)
-chosen b c e x y = ap (λ b. if b then x else y) e
 
 module _ (openers : Opened) (tokens : List Token) (t : Token) (rest : List Token) (kind : Kind) (e : tokens ≡ t ∷ rest) (same : kind ≡ t.kind) where
   pub fallback_ends : (is_in_fallback openers && is_close_round kind) ≡ true
@@ -23,12 +22,12 @@ module _ (openers : Opened) (tokens : List Token) (t : Token) (rest : List Token
       ap (λ l. steps_from anywhere openers (map said l)) e ∙ chosen _ true (ap (λ k. is_in_fallback openers && is_close_round k) (sym same) ∙ h) _ _
 
   module _ (goes_on : (is_in_fallback openers && is_close_round kind) ≡ false) where
-    at_first : steps_from anywhere openers (map said tokens) ≡ (if is_unfit (brackets_in openers) t.kind then None else if is_var (said t) then steps_from in_var openers (map said rest) else first_then (token (said t)) (steps_from anywhere (beyond openers t.kind) (map said rest)))
+    at_first : steps_from anywhere openers (map said tokens) ≡ (if is_unfit (brackets_in openers) t.kind then invalid else if is_var (said t) then steps_from in_var openers (map said rest) else first_then (token (said t)) (steps_from anywhere (beyond openers t.kind) (map said rest)))
     unfolding steps_from
     at_first =
         ap (λ l. steps_from anywhere openers (map said l)) e ∙ chosen _ false (ap (λ k. is_in_fallback openers && is_close_round k) (sym same) ∙ goes_on) _ _
 
-    pub is_invalid : is_unfit (brackets_in openers) kind ≡ true → steps_from anywhere openers (map said tokens) ≡ None
+    pub is_invalid : is_unfit (brackets_in openers) kind ≡ true → steps_from anywhere openers (map said tokens) ≡ invalid
     is_invalid h = at_first ∙ chosen _ true (ap (is_unfit (brackets_in openers)) (sym same) ∙ h) _ _
 
     module _ (fits : is_unfit (brackets_in openers) kind ≡ false) where

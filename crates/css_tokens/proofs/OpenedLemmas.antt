@@ -5,12 +5,12 @@ use Rattle.base_model.specs.Options.{◌>>=◌}
 use Rattle.base_model.specs.Lists.{is_nil}
 use Rattle.base_model.specs.Text.{Characters}
 use Rattle.syntax_model.specs.Token.{Said, Kind}
-use Rattle.syntax_model.specs.Kinds.{is_white, is_comma}
+use Rattle.syntax_model.specs.Kinds.{is_white, is_comma, is_close_round}
 use Rattle.syntax_model.specs.Brackets.{Bracket, opened_by, closed_by, same_bracket, with_opened, without_closed}
 use Rattle.custom_model.specs.Value.{CustomValue}
-use Rattle.custom_model.specs.Parts.{Parts, Reading, Reader, after, done, plain, reference, with_fallback, is_close_round, is_name, is_unfit, is_var, named_by, open_beyond, parts, parts_by, parts_within, var_by, without_white}
+use Rattle.custom_model.specs.Parts.{Parts, Reading, Reader, after, done, plain, reference, with_fallback, is_name, is_unfit, is_var, named_by, open_beyond, parts, parts_by, parts_within, var_by, without_white}
 use Rattle.custom_model.specs.Steps.{Step, token, alone, begins, ends, steps, steps_in}
-use Rattle.css_tokens.specs.Opened.{Opened, anywhere, in_var, after_name, beyond, brackets_in, first_then, is_in_fallback, outside, steps_from, with_bracket, without_bracket}
+use Rattle.css_tokens.specs.Opened.{Opened, Read, anywhere, in_var, after_name, beyond, brackets_in, finished, first_then, invalid, is_in_fallback, outside, steps_from, whole, with_bracket, without_bracket}
 
 -- what is open outside the innermost fallback, with this one itself
 abbrev around : Bool → Opened → Opened
@@ -67,21 +67,21 @@ ending_is (b ∷ pending) false outer closes = refl
 
 -- after `var(`, and after the name in it, whitespace is skipped
 
-abbrev pub named_from : Opened → Characters → List Said → Option (List Step)
-named_from openers name [] = None
+abbrev pub named_from : Opened → Characters → List Said → Read
+named_from openers name [] = invalid
 named_from openers name (said ∷ tokens) =
     if is_close_round said.kind then first_then (alone name) (steps_from anywhere openers tokens)
     else if is_comma said.kind then first_then (begins name) (steps_from anywhere (None ∷ openers) tokens)
-    else None
+    else invalid
 
-abbrev pub var_from : Opened → List Said → Option (List Step)
-var_from openers [] = None
-var_from openers (said ∷ tokens) = if is_name said then steps_from (after_name said.name) openers tokens else None
+abbrev pub var_from : Opened → List Said → Read
+var_from openers [] = invalid
+var_from openers (said ∷ tokens) = if is_name said then steps_from (after_name said.name) openers tokens else invalid
 
 pub named_is : (openers : Opened) (name : Characters) (tokens : List Said) → steps_from (after_name name) openers tokens ≡ named_from openers name (without_white tokens)
 unfolding steps_from
 named_is openers name [] = refl
-named_is openers name (said ∷ tokens) = elim (is_white said.kind) as (λ white. ◌≡◌ {A = Option (List Step)} (if white then steps_from (after_name name) openers tokens else named_from openers name (said ∷ tokens)) (named_from openers name (if white then without_white tokens else said ∷ tokens))) [
+named_is openers name (said ∷ tokens) = elim (is_white said.kind) as (λ white. ◌≡◌ {A = Read} (if white then steps_from (after_name name) openers tokens else named_from openers name (said ∷ tokens)) (named_from openers name (if white then without_white tokens else said ∷ tokens))) [
   | true ↦ named_is openers name tokens
   | false ↦ refl
 ]
@@ -89,7 +89,7 @@ named_is openers name (said ∷ tokens) = elim (is_white said.kind) as (λ white
 pub var_is : (openers : Opened) (tokens : List Said) → steps_from in_var openers tokens ≡ var_from openers (without_white tokens)
 unfolding steps_from
 var_is openers [] = refl
-var_is openers (said ∷ tokens) = elim (is_white said.kind) as (λ white. ◌≡◌ {A = Option (List Step)} (if white then steps_from in_var openers tokens else var_from openers (said ∷ tokens)) (var_from openers (if white then without_white tokens else said ∷ tokens))) [
+var_is openers (said ∷ tokens) = elim (is_white said.kind) as (λ white. ◌≡◌ {A = Read} (if white then steps_from in_var openers tokens else var_from openers (said ∷ tokens)) (var_from openers (if white then without_white tokens else said ∷ tokens))) [
   | true ↦ var_is openers tokens
   | false ↦ refl
 ]
@@ -159,8 +159,11 @@ within_all zero within pending tokens = tt
 within_all (suc most) within pending tokens = parts_are_within (parts_within most) (within_all most) within pending tokens
 
 -- the steps after the parts of a value, or of a fallback that is in it
+abbrev before : Step → Option (List Step) → Option (List Step)
+before step steps = option_map (λ rest. step ∷ rest) steps
+
 abbrev after_end : Bool → Opened → List Said → Option (List Step)
-after_end true outer tokens = first_then ends (steps_from anywhere outer tokens)
+after_end true outer tokens = before ends (whole (steps_from anywhere outer tokens))
 after_end false outer tokens = Some []
 
 abbrev followed : Bool → Opened → Reading → Option (List Step)
@@ -171,20 +174,20 @@ twice : (f g h : List Step → List Step) → ((s : List Step) → f (g s) ≡ h
 twice f g h e None = refl
 twice f g h e (Some s) = ap Some (e s)
 
-followed_plain : (within : Bool) (outer : Opened) (said : Said) (r : Reading) → first_then (token said) (followed within outer r) ≡ followed within outer (after (plain said) r)
+followed_plain : (within : Bool) (outer : Opened) (said : Said) (r : Reading) → before (token said) (followed within outer r) ≡ followed within outer (after (plain said) r)
 followed_plain within outer said None = refl
 followed_plain within outer said (Some r) = twice _ _ _ (λ s. refl) (after_end within outer r.1)
 
-followed_reference : (within : Bool) (outer : Opened) (name : Characters) (r : Reading) → first_then (alone name) (followed within outer r) ≡ followed within outer (after (reference name) r)
+followed_reference : (within : Bool) (outer : Opened) (name : Characters) (r : Reading) → before (alone name) (followed within outer r) ≡ followed within outer (after (reference name) r)
 followed_reference within outer name None = refl
 followed_reference within outer name (Some r) = twice _ _ _ (λ s. refl) (after_end within outer r.1)
 
 followed_fallback : (within : Bool) (outer : Opened) (name : Characters) (fallback : Parts) (r : Reading)
-    → first_then (begins name) (option_map (λ rest. steps fallback ++ rest) (first_then ends (followed within outer r))) ≡ followed within outer (after (with_fallback name fallback) r)
+    → before (begins name) (option_map (λ rest. steps fallback ++ rest) (before ends (followed within outer r))) ≡ followed within outer (after (with_fallback name fallback) r)
 followed_fallback within outer name fallback None = refl
 followed_fallback within outer name fallback (Some r) =
-    ap (λ o. first_then (begins name) (option_map (λ rest. steps fallback ++ rest) o)) (twice (λ s. ends ∷ s) (λ s. steps r.0 ++ s) (λ s. ends ∷ (steps r.0 ++ s)) (λ s. refl) (after_end within outer r.1))
-    ∙ ap (first_then (begins name)) (twice (λ s. steps fallback ++ s) (λ s. ends ∷ (steps r.0 ++ s)) (λ s. steps fallback ++ (ends ∷ (steps r.0 ++ s))) (λ s. refl) (after_end within outer r.1))
+    ap (λ o. before (begins name) (option_map (λ rest. steps fallback ++ rest) o)) (twice (λ s. ends ∷ s) (λ s. steps r.0 ++ s) (λ s. ends ∷ (steps r.0 ++ s)) (λ s. refl) (after_end within outer r.1))
+    ∙ ap (before (begins name)) (twice (λ s. steps fallback ++ s) (λ s. ends ∷ (steps r.0 ++ s)) (λ s. steps fallback ++ (ends ∷ (steps r.0 ++ s))) (λ s. refl) (after_end within outer r.1))
     ∙ twice (λ s. begins name ∷ s) (λ s. steps fallback ++ (ends ∷ (steps r.0 ++ s))) (λ s. (begins name ∷ (steps fallback ++ (ends ∷ steps r.0))) ++ s) (λ s. ap (λ l. begins name ∷ l) (sym (append_assoc (steps fallback) (ends ∷ steps r.0) s))) (after_end within outer r.1)
 
 itself : (o : Option (List Step)) → o ≡ option_map (λ rest. [] ++ rest) o
@@ -192,68 +195,68 @@ itself None = refl
 itself (Some s) = refl
 
 ending : (within : Bool) (outer : Opened) (pending : List Bracket) (closes : Bool) (tokens : List Said) → (within && (is_nil pending && closes)) ≡ true
-    → first_then ends (steps_from anywhere (outside (all_open pending within outer)) tokens) ≡ followed within outer (Some (done, tokens))
+    → before ends (whole (steps_from anywhere (outside (all_open pending within outer)) tokens)) ≡ followed within outer (Some (done, tokens))
 ending true outer [] closes tokens e = itself _
 ending true outer (b ∷ pending) closes tokens e = cc
 ending false outer pending closes tokens e = cc
 
 module _ (again : Reader) (most : ℕ) (shrinks : (within : Bool) (pending : List Bracket) (tokens : List Said) → IsWithin (length tokens) (again within pending tokens))
-    (reads : (within : Bool) (outer : Opened) (pending : List Bracket) (tokens : List Said) → length tokens < most → steps_from anywhere (all_open pending within outer) tokens ≡ followed within outer (again within pending tokens)) where
+    (reads : (within : Bool) (outer : Opened) (pending : List Bracket) (tokens : List Said) → length tokens < most → whole (steps_from anywhere (all_open pending within outer) tokens) ≡ followed within outer (again within pending tokens)) where
   fallback_reads : (within : Bool) (outer : Opened) (pending : List Bracket) (name : Characters) (tokens : List Said) → length tokens < most → (r : Reading) → IsWithin (length tokens) r
-      → first_then (begins name) (followed true (all_open pending within outer) r) ≡ followed within outer (r >>= λ fallback. after (with_fallback name fallback.0) (again within pending fallback.1))
+      → before (begins name) (followed true (all_open pending within outer) r) ≡ followed within outer (r >>= λ fallback. after (with_fallback name fallback.0) (again within pending fallback.1))
   fallback_reads within outer pending name tokens few None h = refl
   fallback_reads within outer pending name tokens few (Some r) h =
-      ap (λ o. first_then (begins name) (option_map (λ rest. steps r.0 ++ rest) (first_then ends o))) (reads within outer pending r.1 (omega arith))
+      ap (λ o. before (begins name) (option_map (λ rest. steps r.0 ++ rest) (before ends o))) (reads within outer pending r.1 (omega arith))
       ∙ followed_fallback within outer name r.0 (again within pending r.1)
 
   named_reads : (within : Bool) (outer : Opened) (pending : List Bracket) (name : Characters) (tokens : List Said) → length tokens < suc most
-      → named_from (all_open pending within outer) name tokens ≡ followed within outer (named_by again within pending name tokens)
+      → whole (named_from (all_open pending within outer) name tokens) ≡ followed within outer (named_by again within pending name tokens)
   named_reads within outer pending name [] few = refl
   named_reads within outer pending name (said ∷ tokens) few =
-      elim (is_close_round said.kind) as (λ closes. (if closes then first_then (alone name) (steps_from anywhere (all_open pending within outer) tokens) else (if is_comma said.kind then first_then (begins name) (steps_from anywhere (None ∷ all_open pending within outer) tokens) else None)) ≡ followed within outer (if closes then after (reference name) (again within pending tokens) else (if is_comma said.kind then (again true [] tokens >>= λ fallback. after (with_fallback name fallback.0) (again within pending fallback.1)) else None))) [
-        | true ↦ ap (first_then (alone name)) (reads within outer pending tokens (omega arith)) ∙ followed_reference within outer name _
-        | false ↦ elim (is_comma said.kind) as (λ comma. (if comma then first_then (begins name) (steps_from anywhere (None ∷ all_open pending within outer) tokens) else None) ≡ followed within outer (if comma then (again true [] tokens >>= λ fallback. after (with_fallback name fallback.0) (again within pending fallback.1)) else None)) [
+      elim (is_close_round said.kind) as (λ closes. whole (if closes then first_then (alone name) (steps_from anywhere (all_open pending within outer) tokens) else (if is_comma said.kind then first_then (begins name) (steps_from anywhere (None ∷ all_open pending within outer) tokens) else invalid)) ≡ followed within outer (if closes then after (reference name) (again within pending tokens) else (if is_comma said.kind then (again true [] tokens >>= λ fallback. after (with_fallback name fallback.0) (again within pending fallback.1)) else None))) [
+        | true ↦ ap (before (alone name)) (reads within outer pending tokens (omega arith)) ∙ followed_reference within outer name _
+        | false ↦ elim (is_comma said.kind) as (λ comma. whole (if comma then first_then (begins name) (steps_from anywhere (None ∷ all_open pending within outer) tokens) else invalid) ≡ followed within outer (if comma then (again true [] tokens >>= λ fallback. after (with_fallback name fallback.0) (again within pending fallback.1)) else None)) [
           | true ↦
-              ap (first_then (begins name)) (reads true (all_open pending within outer) [] tokens (omega arith))
+              ap (before (begins name)) (reads true (all_open pending within outer) [] tokens (omega arith))
               ∙ fallback_reads within outer pending name tokens (omega arith) (again true [] tokens) (shrinks true [] tokens)
           | false ↦ refl
         ]
       ]
 
   var_reads : (within : Bool) (outer : Opened) (pending : List Bracket) (tokens : List Said) → length tokens < suc most
-      → var_from (all_open pending within outer) tokens ≡ followed within outer (var_by again within pending tokens)
+      → whole (var_from (all_open pending within outer) tokens) ≡ followed within outer (var_by again within pending tokens)
   var_reads within outer pending [] few = refl
   var_reads within outer pending (said ∷ tokens) few =
-      elim (is_name said) as (λ is. (if is then steps_from (after_name said.name) (all_open pending within outer) tokens else None) ≡ followed within outer (if is then named_by again within pending said.name (without_white tokens) else None)) [
-        | true ↦ named_is (all_open pending within outer) said.name tokens
+      elim (is_name said) as (λ is. whole (if is then steps_from (after_name said.name) (all_open pending within outer) tokens else invalid) ≡ followed within outer (if is then named_by again within pending said.name (without_white tokens) else None)) [
+        | true ↦ ap whole (named_is (all_open pending within outer) said.name tokens)
             ∙ named_reads within outer pending said.name (without_white tokens) (omega (arith, without_white_shorter again shrinks tokens))
         | false ↦ refl
       ]
 
   parts_read : (within : Bool) (outer : Opened) (pending : List Bracket) (tokens : List Said) → length tokens < suc most
-      → steps_from anywhere (all_open pending within outer) tokens ≡ followed within outer (parts_by again within pending tokens)
+      → whole (steps_from anywhere (all_open pending within outer) tokens) ≡ followed within outer (parts_by again within pending tokens)
   unfolding steps_from
   parts_read within outer pending [] few = rw (is_empty_is pending within outer) (at_end within (is_nil pending))
     where
-      at_end : (within none : Bool) → (if not (within || not none) then Some [] else None) ≡ followed within outer (if within || not none then None else Some (done, []))
+      at_end : (within none : Bool) → whole (if not (within || not none) then finished else invalid) ≡ followed within outer (if within || not none then None else Some (done, []))
       at_end true none = refl
       at_end false true = refl
       at_end false false = refl
   parts_read within outer pending (said ∷ tokens) few =
       rw (ending_is pending within outer (is_close_round said.kind), brackets_are pending within outer, beyond_is pending within outer said.kind)
-      (elim (within && (is_nil pending && is_close_round said.kind)) as (λ ending. (within && (is_nil pending && is_close_round said.kind)) ≡ ending → (if ending then first_then ends (steps_from anywhere (outside (all_open pending within outer)) tokens) else if is_unfit pending said.kind then None else if is_var said then steps_from in_var (all_open pending within outer) tokens else first_then (token said) (steps_from anywhere (all_open (open_beyond pending said.kind) within outer) tokens)) ≡ followed within outer (if ending then Some (done, tokens) else if is_unfit pending said.kind then None else if is_var said then var_by again within pending (without_white tokens) else after (plain said) (again within (open_beyond pending said.kind) tokens))) [
+      (elim (within && (is_nil pending && is_close_round said.kind)) as (λ ending. (within && (is_nil pending && is_close_round said.kind)) ≡ ending → whole (if ending then first_then ends (steps_from anywhere (outside (all_open pending within outer)) tokens) else if is_unfit pending said.kind then invalid else if is_var said then steps_from in_var (all_open pending within outer) tokens else first_then (token said) (steps_from anywhere (all_open (open_beyond pending said.kind) within outer) tokens)) ≡ followed within outer (if ending then Some (done, tokens) else if is_unfit pending said.kind then None else if is_var said then var_by again within pending (without_white tokens) else after (plain said) (again within (open_beyond pending said.kind) tokens))) [
         | true ↦ λ e. ending within outer pending (is_close_round said.kind) tokens e
-        | false ↦ λ e. elim (is_unfit pending said.kind) as (λ unfit. (if unfit then None else if is_var said then steps_from in_var (all_open pending within outer) tokens else first_then (token said) (steps_from anywhere (all_open (open_beyond pending said.kind) within outer) tokens)) ≡ followed within outer (if unfit then None else if is_var said then var_by again within pending (without_white tokens) else after (plain said) (again within (open_beyond pending said.kind) tokens))) [
+        | false ↦ λ e. elim (is_unfit pending said.kind) as (λ unfit. whole (if unfit then invalid else if is_var said then steps_from in_var (all_open pending within outer) tokens else first_then (token said) (steps_from anywhere (all_open (open_beyond pending said.kind) within outer) tokens)) ≡ followed within outer (if unfit then None else if is_var said then var_by again within pending (without_white tokens) else after (plain said) (again within (open_beyond pending said.kind) tokens))) [
           | true ↦ refl
-          | false ↦ elim (is_var said) as (λ var. (if var then steps_from in_var (all_open pending within outer) tokens else first_then (token said) (steps_from anywhere (all_open (open_beyond pending said.kind) within outer) tokens)) ≡ followed within outer (if var then var_by again within pending (without_white tokens) else after (plain said) (again within (open_beyond pending said.kind) tokens))) [
-            | true ↦ var_is (all_open pending within outer) tokens ∙ var_reads within outer pending (without_white tokens) (omega (arith, without_white_shorter again shrinks tokens))
-            | false ↦ ap (first_then (token said)) (reads within outer (open_beyond pending said.kind) tokens (omega arith)) ∙ followed_plain within outer said _
+          | false ↦ elim (is_var said) as (λ var. whole (if var then steps_from in_var (all_open pending within outer) tokens else first_then (token said) (steps_from anywhere (all_open (open_beyond pending said.kind) within outer) tokens)) ≡ followed within outer (if var then var_by again within pending (without_white tokens) else after (plain said) (again within (open_beyond pending said.kind) tokens))) [
+            | true ↦ ap whole (var_is (all_open pending within outer) tokens) ∙ var_reads within outer pending (without_white tokens) (omega (arith, without_white_shorter again shrinks tokens))
+            | false ↦ ap (before (token said)) (reads within outer (open_beyond pending said.kind) tokens (omega arith)) ∙ followed_plain within outer said _
           ]
         ]
       ] refl)
 
 read_all : (most : ℕ) (within : Bool) (outer : Opened) (pending : List Bracket) (tokens : List Said) → length tokens < most
-    → steps_from anywhere (all_open pending within outer) tokens ≡ followed within outer (parts_within most within pending tokens)
+    → whole (steps_from anywhere (all_open pending within outer) tokens) ≡ followed within outer (parts_within most within pending tokens)
 read_all zero within outer pending tokens few = absurd (omega arith)
 read_all (suc most) within outer pending tokens few = parts_read (parts_within most) most (within_all most) (read_all most) within outer pending tokens few
 
@@ -262,6 +265,6 @@ followed_alone None = refl
 followed_alone (Some r) = ap Some (append-nil (steps r.0))
 
 -- where nothing is open, the steps are those of the value
-pub steps_are : (tokens : CustomValue) → steps_from anywhere [] tokens ≡ steps_in tokens
+pub steps_are : (tokens : CustomValue) → whole (steps_from anywhere [] tokens) ≡ steps_in tokens
 unfolding steps_in parts
 steps_are tokens = read_all (suc (length tokens)) false [] [] tokens (omega arith) ∙ followed_alone _

@@ -1,5 +1,5 @@
 -- A search among entries whose names rise.
-use Rattle.std.proofs.Common.{Ordering, Less, Equal, Greater, ◌≡◌, ℕ, List, [], ◌∷◌, ◌++◌, map, take, drop, Bool, true, false, ◌&&◌, Some, None, refl, sym, ap, ◌∙◌}
+use Rattle.std.proofs.Common.{Ordering, Less, Equal, Greater, ◌≡◌, ℕ, List, [], ◌∷◌, ◌++◌, map, take, drop, true, ◌&&◌, Some, None, refl, sym, ap, ◌∙◌}
 use Rattle.std.specs.Prelude.{if◌then◌else◌}
 use Rattle.std.specs.Cmp.Lexicographic.{slice_cmp}
 use Rattle.std.specs.FinMap.{find}
@@ -8,58 +8,44 @@ use Rattle.std.specs.Ordering.{nat_cmp, eq_by_cmp, is_eq, is_lt, ordering_revers
 use Rattle.std.proofs.lemmas.Cmp.{alike_right, nat_list_cmp_total}
 use Rattle.std.proofs.lemmas.List.{map-append, take-append-drop}
 use Rattle.std.specs.Str.{chars, IsUtf8}
+use Rattle.std.proofs.lemmas.Bool.{and_from, and_parts}
 use Rattle.base_model.specs.Text.{Characters}
 use Rattle.custom_model.specs.Value.{CustomValue}
 use Rattle.css_tokens.specs.CustomView.{entry_of}
 use Rattle.css_tokens.specs.declared.custom_map.CustomEntry.{CustomEntry}
 use Rattle.css_tokens.proofs.OrderLemmas.{text_order}
 use Rattle.css_tokens.proofs.MapLemmas.{Pairs, Rises}
-
-first : (a b : Bool) → (a && b) ≡ true → a ≡ true
-first true b e = refl
-first false b e = e
-
-pub second : (a b : Bool) → (a && b) ≡ true → b ≡ true
-second true b e = e
-second false b e = cc
-
-both : (a b : Bool) → a ≡ true → b ≡ true → (a && b) ≡ true
-both a b e f = ap (λ a. a && b) e ∙ f
-
-less_is : (o : Ordering) → is_lt o ≡ true → o ≡ Less
-less_is Less e = refl
-less_is Equal e = cc
-less_is Greater e = cc
+use Rattle.base_model.proofs.Orderings.{is_less}
 
 -- names below another are below each that is above that one
 below_above : (a b : Characters) (pairs : Pairs) → slice_cmp nat_cmp a b ≡ Less → below_all (slice_cmp nat_cmp) b pairs ≡ true → below_all (slice_cmp nat_cmp) a pairs ≡ true
 below_above a b [] less h = refl
 below_above a b (e ∷ pairs) less h =
-    both _ _ (ap is_lt (nat_list_cmp_total.trans a b e.0 less (less_is _ (first _ _ h)))) (below_above a b pairs less (second _ _ h))
+    and_from _ _ (ap is_lt (nat_list_cmp_total.trans a b e.0 less (is_less _ (and_parts _ _ h).0))) (below_above a b pairs less (and_parts _ _ h).1)
 
 -- what is below all names is none of them
 none_above : (name : Characters) (pairs : Pairs) → below_all (slice_cmp nat_cmp) name pairs ≡ true → find (slice_cmp nat_cmp) name pairs ≡ None
 none_above name [] h = refl
 none_above name (e ∷ pairs) h =
-    ap (λ o. if is_eq o then Some e.1 else find (slice_cmp nat_cmp) name pairs) (less_is _ (first _ _ h)) ∙ none_above name pairs (second _ _ h)
+    ap (λ o. if is_eq o then Some e.1 else find (slice_cmp nat_cmp) name pairs) (is_less _ (and_parts _ _ h).0) ∙ none_above name pairs (and_parts _ _ h).1
 
 module _ (middle : Characters × CustomValue) (back : Pairs) where
   -- the front of what rises rises, and so does its back
   pub front_rises : (front : Pairs) → Rises (front ++ middle ∷ back) → Rises front
   front_rises [] h = refl
-  front_rises (e ∷ front) h = both _ _ (front_below front (first _ _ h)) (front_rises front (second _ _ h))
+  front_rises (e ∷ front) h = and_from _ _ (front_below front (and_parts _ _ h).0) (front_rises front (and_parts _ _ h).1)
     where
       front_below : (front : Pairs) → below_all (slice_cmp nat_cmp) e.0 (front ++ middle ∷ back) ≡ true → below_all (slice_cmp nat_cmp) e.0 front ≡ true
       front_below [] h = refl
-      front_below (f ∷ front) h = both _ _ (first _ _ h) (front_below front (second _ _ h))
+      front_below (f ∷ front) h = and_from _ _ (and_parts _ _ h).0 (front_below front (and_parts _ _ h).1)
 
   pub back_rises : (front : Pairs) → Rises (front ++ middle ∷ back) → Rises (middle ∷ back)
   back_rises [] h = h
-  back_rises (e ∷ front) h = back_rises front (second _ _ h)
+  back_rises (e ∷ front) h = back_rises front (and_parts _ _ h).1
 
   below_middle : (x : Characters) (front : Pairs) → below_all (slice_cmp nat_cmp) x (front ++ middle ∷ back) ≡ true → slice_cmp nat_cmp x middle.0 ≡ Less
-  below_middle x [] h = less_is _ (first _ _ h)
-  below_middle x (e ∷ front) h = below_middle x front (second _ _ h)
+  below_middle x [] h = is_less _ (and_parts _ _ h).0
+  below_middle x (e ∷ front) h = below_middle x front (and_parts _ _ h).1
 
   module _ (name : Characters) where
     -- a name that is not less than the middle one is not in front
@@ -67,8 +53,8 @@ module _ (middle : Characters × CustomValue) (back : Pairs) where
         → Rises (front ++ middle ∷ back) → find (slice_cmp nat_cmp) name (front ++ middle ∷ back) ≡ find (slice_cmp nat_cmp) name (middle ∷ back)
     not_in_front [] above h = refl
     not_in_front (e ∷ front) above h =
-        ap (λ o. if is_eq o then Some e.1 else find (slice_cmp nat_cmp) name (front ++ middle ∷ back)) (above e.0 (below_middle e.0 front (first _ _ h)))
-        ∙ not_in_front front above (second _ _ h)
+        ap (λ o. if is_eq o then Some e.1 else find (slice_cmp nat_cmp) name (front ++ middle ∷ back)) (above e.0 (below_middle e.0 front (and_parts _ _ h).0))
+        ∙ not_in_front front above (and_parts _ _ h).1
 
     reversed : (x : Characters) (o : Ordering) → slice_cmp nat_cmp x name ≡ o → slice_cmp nat_cmp name x ≡ ordering_reverse o
     reversed x o e = nat_list_cmp_total.antisymm name x ∙ ap ordering_reverse e
@@ -91,11 +77,11 @@ module _ (middle : Characters × CustomValue) (back : Pairs) where
     pub in_front : (front : Pairs) → slice_cmp nat_cmp middle.0 name ≡ Greater → Rises (front ++ middle ∷ back)
         → find (slice_cmp nat_cmp) name front ≡ find (slice_cmp nat_cmp) name (front ++ middle ∷ back)
     in_front [] more h =
-        sym (none_above name (middle ∷ back) (both _ _ (ap is_lt less) (below_above name middle.0 back less (first _ _ h))))
+        sym (none_above name (middle ∷ back) (and_from _ _ (ap is_lt less) (below_above name middle.0 back less (and_parts _ _ h).0)))
       where
         less : slice_cmp nat_cmp name middle.0 ≡ Less
         less = reversed middle.0 Greater more
-    in_front (e ∷ front) more h = ap (λ o. if eq_by_cmp (slice_cmp nat_cmp) name e.0 then Some e.1 else o) (in_front front more (second _ _ h))
+    in_front (e ∷ front) more h = ap (λ o. if eq_by_cmp (slice_cmp nat_cmp) name e.0 then Some e.1 else o) (in_front front more (and_parts _ _ h).1)
 
 -- the entries in front of the middle one, itself, and those behind it
 pub cut : (left front back behind : List CustomEntry) (middle : CustomEntry) (half : ℕ) → front ≡ take half left → back ≡ drop half left → back ≡ middle ∷ behind

@@ -1,6 +1,9 @@
 -- What is found of a value.
-use Rattle.std.specs.Prelude.{List, Bool, true, false, ◌||◌, if◌then◌else◌, Option, Some, None}
+use Rattle.std.specs.Prelude.{◌≡◌, List, Bool, true, false, ◌||◌, if◌then◌else◌, Option, Some, None}
 use Rattle.std.specs.List.{list_any}
+use Rattle.syntax_model.specs.Token.{Said}
+use Rattle.syntax_model.specs.Kinds.{is_white}
+use Rattle.custom_model.specs.Value.{white_space}
 use Rattle.custom_model.specs.Steps.{Step, token}
 use Rattle.css_tokens.specs.declared.custom_value.Found.{Found}
 use Rattle.css_tokens.specs.declared.custom_value.Found.TheVariants as variant
@@ -15,7 +18,7 @@ abbrev pub found_after : Bool → Option (List Step) → Found
 found_after refers None = variant.Invalid
 found_after refers (Some steps) = if refers || list_any is_of_var steps then variant.Referring else variant.Plain
 
--- whether a value is valid, whether it refers to a custom property, and whether it is valid and refers to none
+-- whether a value is valid, and whether it refers to a custom property
 
 abbrev pub is_found_valid : Found → Bool
 is_found_valid variant.Invalid = false
@@ -25,6 +28,6 @@ abbrev pub is_found_referring : Found → Bool
 is_found_referring variant.Referring = true
 is_found_referring found = false
 
-abbrev pub is_found_plain : Found → Bool
-is_found_plain variant.Plain = true
-is_found_plain found = false
+-- in normal form whitespace is never doubled, and says no more than that it is whitespace
+abbrev pub Fits : Bool → Said → Type 0
+Fits pending said = is_white said.kind ≡ true → (pending ≡ false) × (said ≡ white_space)

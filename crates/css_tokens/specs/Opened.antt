@@ -3,9 +3,9 @@ use Rattle.std.specs.Prelude.{List, [], ◌∷◌, Bool, true, false, ◌&&◌, 
 use Rattle.base_model.specs.Lists.{is_nil}
 use Rattle.base_model.specs.Text.{Characters}
 use Rattle.syntax_model.specs.Token.{Said, Kind}
-use Rattle.syntax_model.specs.Kinds.{is_white, is_comma}
+use Rattle.syntax_model.specs.Kinds.{is_white, is_comma, is_close_round}
 use Rattle.syntax_model.specs.Brackets.{Bracket, opened_by, closed_by, same_bracket}
-use Rattle.custom_model.specs.Parts.{is_close_round, is_name, is_unfit, is_var}
+use Rattle.custom_model.specs.Parts.{is_name, is_unfit, is_var}
 use Rattle.custom_model.specs.Steps.{Step, token, alone, begins, ends}
 
 -- what is open, the innermost first: a bracket, or the fallback of a `var()`, for which nothing stands
@@ -44,9 +44,23 @@ abbrev pub outside : Opened → Opened
 outside [] = []
 outside (innermost ∷ openers) = openers
 
--- the steps with one before them
-abbrev pub first_then : Step → Option (List Step) → Option (List Step)
-first_then step steps = option_map (λ rest. step ∷ rest) steps
+-- the steps of a value one by one, up to its end, or to where it is bad
+pub data Read : Type 0 where
+  finished : Read
+  invalid : Read
+  first_then : Step → Read → Read
+
+-- all of them, where the value is valid
+abbrev pub whole : Read → Option (List Step)
+whole finished = Some []
+whole invalid = None
+whole (first_then step read) = option_map (λ rest. step ∷ rest) (whole read)
+
+-- those up to where it is bad; all, where it is valid
+abbrev pub front : Read → List Step
+front finished = []
+front invalid = []
+front (first_then step read) = step ∷ front read
 
 -- where in a value tokens are read on: anywhere, after `var(`, and after the name that follows it
 pub data Place : Type 0 where
@@ -54,23 +68,27 @@ pub data Place : Type 0 where
   in_var : Place
   after_name : Characters → Place
 
--- the steps that the tokens make from there on, where they are valid
-unfoldable pub steps_from : Place → Opened → List Said → Option (List Step)
-steps_from anywhere openers [] = if is_nil openers then Some [] else None
+-- the steps that the tokens make from there on
+unfoldable pub steps_from : Place → Opened → List Said → Read
+steps_from anywhere openers [] = if is_nil openers then finished else invalid
 steps_from anywhere openers (said ∷ tokens) =
     if is_in_fallback openers && is_close_round said.kind
     then first_then ends (steps_from anywhere (outside openers) tokens)
-    else if is_unfit (brackets_in openers) said.kind then None
+    else if is_unfit (brackets_in openers) said.kind then invalid
     else if is_var said then steps_from in_var openers tokens
     else first_then (token said) (steps_from anywhere (beyond openers said.kind) tokens)
-steps_from in_var openers [] = None
+steps_from in_var openers [] = invalid
 steps_from in_var openers (said ∷ tokens) =
     if is_white said.kind then steps_from in_var openers tokens
     else if is_name said then steps_from (after_name said.name) openers tokens
-    else None
-steps_from (after_name name) openers [] = None
+    else invalid
+steps_from (after_name name) openers [] = invalid
 steps_from (after_name name) openers (said ∷ tokens) =
     if is_white said.kind then steps_from (after_name name) openers tokens
     else if is_close_round said.kind then first_then (alone name) (steps_from anywhere openers tokens)
     else if is_comma said.kind then first_then (begins name) (steps_from anywhere (None ∷ openers) tokens)
-    else None
+    else invalid
+
+-- the steps of a value up to where it is bad
+abbrev pub front_in : List Said → List Step
+front_in tokens = front (steps_from anywhere [] tokens)

@@ -1,11 +1,11 @@
 -- What the code finds in a text, as the pieces of the definitions.
-use Rattle.std.specs.Prelude.{ℕ, List, [], ◌∷◌, Bool, if◌then◌else◌}
+use Rattle.std.specs.Prelude.{ℕ, List, [], ◌∷◌, if◌then◌else◌}
 use Rattle.base_model.specs.Text.{Characters}
 use Rattle.syntax_model.specs.Token as model
 use Rattle.syntax_model.specs.Units as units
 use Rattle.syntax_model.specs.Pieces as pieces
 use Rattle.css_tokens.specs.View.{kind_of}
-use Rattle.css_tokens.specs.declared.kind.Kind.{Kind}
+use Rattle.css_tokens.specs.declared.scan.Scan.{Scan}
 use Rattle.css_tokens.specs.declared.unit.Unit.{Unit}
 use Rattle.css_tokens.specs.declared.unit.Grammar.{Grammar}
 use Rattle.css_tokens.specs.declared.unit.Grammar.TheVariants as grammar
@@ -37,13 +37,13 @@ row_of row.At = pieces.at_row
 row_of row.Ident = pieces.ident_row
 row_of row.Mark = pieces.mark_row
 
--- the piece that was found: its kind, the run that says its name, the spelling of its number, and its length
-abbrev pub found : Kind → Grammar → Characters → Characters → ℕ → pieces.Piece
-found kind grammar name spelling length = record {
-  kind = kind_of kind;
-  name = units.said_of (unit_by grammar) name;
-  spelling = spelling;
-  length = length;
+-- the piece that was found
+abbrev pub piece_of : Scan → pieces.Piece
+piece_of scan = record {
+  kind = kind_of scan.kind;
+  name = units.said_of (unit_by scan.grammar) scan.name.now;
+  spelling = scan.spelling.now;
+  length = scan.len;
 }
 
 -- how many characters the first piece of a text has, and the tokens that it is
@@ -56,5 +56,5 @@ first_tokens start [] = []
 first_tokens start (c ∷ cs) = pieces.row_tokens (pieces.row_at (c ∷ cs)) start c cs
 
 -- the same of what was found
-abbrev pub found_tokens : ℕ → Bool → pieces.Piece → List model.Token
-found_tokens start is_comment piece = if is_comment then [] else pieces.token_of start piece ∷ []
+abbrev pub found_tokens : ℕ → Scan → List model.Token
+found_tokens start scan = if scan.is_comment then [] else pieces.token_of start (piece_of scan) ∷ []

@@ -1,11 +1,11 @@
 //! The values of custom properties.
 
-ghost use Rattle.std.specs.Prelude.{◌≡◌, ◌↔◌, ◌∷◌, ◌++◌, ◌&&◌, [], if◌then◌else◌, IfOk, OnOk, IsTrue, Some, false, length, map, nat_le};
-ghost use Rattle.custom_model.specs.Expand.{Lookup, expansion, token_limit};
+ghost use Rattle.std.specs.Prelude.{◌≡◌, ◌↔◌, ◌∷◌, ◌++◌, [], if◌then◌else◌, IfOk, OnOk, IsTrue, false, map};
+ghost use Rattle.custom_model.specs.Expand.{IsPlain};
 ghost use Rattle.custom_model.specs.Parts.{custom_value_in, referring_value_in};
 ghost use Rattle.custom_model.specs.Steps.{steps_in};
 ghost use Rattle.custom_model.specs.Value.{normal, spaced, unplaced, white_space};
-ghost use Rattle.css_tokens.specs.Found.{found_after, is_found_plain, is_found_referring, is_found_valid};
+ghost use Rattle.css_tokens.specs.Found.{Fits, found_after, is_found_referring, is_found_valid};
 ghost use Rattle.syntax_model.specs.Token.{said};
 
 use crate::Token;
@@ -26,7 +26,7 @@ pub struct CustomValue {
     kept: Arc<KeptTokens>,
 }
 
-/// The tokens, and whether the value is known to expand to itself.
+/// The tokens, and whether the value expands to itself.
 #[derive(Debug, Drop)]
 struct KeptTokens {
     list: Vec<Token>,
@@ -78,13 +78,13 @@ impl CustomValue {
         Ok(Some(value))
     }
 
-    /// The value of these tokens, which are in normal form, and of which this is found.
+    /// The value of these tokens, which have no spans, and of which this is found.
     fn kept(alloc: Global, list: Vec<Token>, found: Found) -> Result<CustomValue, NoMemory>
-        requires normal { list.items ≡ map unplaced (normal (map said list.items)) }
+        requires unplaced { list.items ≡ map unplaced (map said list.items) }
         requires found { found ≡ found_after false (steps_in (map said list.items)) }
         ensures { IfOk result (λ value. value ≡ map said list.items) }
     {
-        let is_plain = found.is_plain(list.as_slice());
+        let is_plain = found.is_plain(alloc, &list);
         let kept = KeptTokens { list, is_plain };
         Ok(CustomValue {
             kept: Arc::new(alloc, kept)?,
@@ -96,13 +96,8 @@ impl CustomValue {
         requires { tokens.items ≡ map unplaced (map said tokens.items) }
         ensures { IfOk result (λ value. value ≡ map said tokens.items) }
     {
-        let kept = KeptTokens {
-            list: tokens,
-            is_plain: false,
-        };
-        Ok(CustomValue {
-            kept: Arc::new(alloc, kept)?,
-        })
+        let found = read_parts(alloc, &tokens)?;
+        CustomValue::kept(alloc, tokens, found)
     }
 
     /// The tokens.
@@ -112,9 +107,10 @@ impl CustomValue {
         &self.kept.list
     }
 
-    /// Whether the value is known to expand to itself, whatever other custom properties are.
+    /// Whether the value expands to itself, whatever other custom properties are: it is valid, refers
+    /// to none of them, is in normal form, and is no longer than the limit.
     pub fn is_plain(&self) -> bool
-        ensures { IsTrue result → (values : Lookup) → expansion values self.now ≡ Some self.now }
+        ensures { IsTrue result ↔ IsPlain self.now }
     {
         self.kept.is_plain
     }
@@ -175,12 +171,59 @@ impl Found {
         matches!(self, Found::Referring)
     }
 
-    // Whether it is known to expand to itself, by its tokens.
-    fn is_plain(self, tokens: &[Token]) -> bool
-        ensures { result ≡ (is_found_plain self && nat_le (length tokens.now) token_limit) }
+    // Whether the value of these tokens, of which this is found, expands to itself.
+    fn is_plain(self, alloc: Global, tokens: &[Token]) -> bool
+        requires { self ≡ found_after false (steps_in (map said tokens.now)) }
+        ensures { IsTrue result ↔ IsPlain (map said tokens.now) }
     {
-        matches!(self, Found::Plain) && tokens.len() <= TOKEN_LIMIT
+        match self {
+            Found::Plain => {}
+            _ => return false,
+        }
+        if tokens.len() > TOKEN_LIMIT {
+            return false;
+        }
+        are_normal(alloc, tokens)
     }
+}
+
+/// Whether the tokens are in normal form.
+fn are_normal(alloc: Global, tokens: &[Token]) -> bool
+    ensures { IsTrue result ↔ (normal (map said tokens.now) ≡ map said tokens.now) }
+{
+    let Some((first, rest)) = tokens.split_first() else {
+        return true;
+    };
+    if first.is_white() {
+        return false;
+    }
+    are_spaced(&Token::white_space(alloc), rest)
+}
+
+/// Whether tokens that come after one that is no whitespace are in normal form with it.
+fn are_spaced(space: &Token, tokens: &[Token]) -> bool
+    requires { said space.now ≡ white_space }
+    ensures { IsTrue result ↔ (spaced false (map said tokens.now) ≡ map said tokens.now) }
+{
+    let mut pending = false;
+    for token in tokens {
+        if !fits(space, pending, token) {
+            return false;
+        }
+        pending = token.is_white();
+    }
+    !pending
+}
+
+/// Whether a token may come next in normal form, after whitespace or after another token.
+fn fits(space: &Token, pending: bool, token: &Token) -> bool
+    requires { said space.now ≡ white_space }
+    ensures { IsTrue result ↔ Fits pending (said token.now) }
+{
+    if !token.is_white() {
+        return true;
+    }
+    !pending && token.says_same(space)
 }
 
 /// What the tokens are, as a value.

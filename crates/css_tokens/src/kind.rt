@@ -2,7 +2,7 @@
 
 ghost use Rattle.std.specs.Prelude.{◌≡◌};
 ghost use Rattle.std.specs.Option.{option_map};
-ghost use Rattle.custom_model.specs.Parts.{is_close_round};
+ghost use Rattle.syntax_model.specs.Kinds.{is_close_round};
 ghost use Rattle.syntax_model.specs.Brackets.{closed_by, opened_by};
 ghost use Rattle.css_tokens.specs.View.{bracket_of, kind_of};
 
@@ -68,7 +68,7 @@ impl Kind {
     }
 
     /// Whether it is `)`.
-    pub(crate) fn is_close_round(self) -> bool
+    pub fn is_close_round(self) -> bool
         ensures { result ≡ is_close_round (kind_of self) }
     {
         matches!(self, Kind::CloseRound)

@@ -2,6 +2,7 @@
 
 ghost use Rattle.std.specs.Prelude.{◌≡◌};
 ghost use Rattle.syntax_model.specs.Letters as model;
+ghost use Rattle.syntax_model.specs.Numbers.{is_minus};
 
 /// Line feed, tab or space.
 pub fn is_blank(c: char) -> bool
@@ -50,6 +51,13 @@ pub fn is_sign(c: char) -> bool
     ensures { result ≡ model.is_sign c }
 {
     matches!(c, '+' | '-')
+}
+
+/// Whether `-` is first.
+pub fn is_minus(text: &[char]) -> bool
+    ensures { result ≡ is_minus text.now }
+{
+    matches!(text, ['-', ..])
 }
 
 /// `e` or `E`.

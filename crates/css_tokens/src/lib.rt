@@ -46,4 +46,4 @@ pub use token_list::TokenList;
 pub use tokenizer::tokens;
 pub use trim::{trimmed, without_white, without_white_end};
 pub use value::value_of;
-pub use wide::Wide;
+pub use wide::{Wide, wide_keyword};

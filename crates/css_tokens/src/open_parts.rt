@@ -2,10 +2,10 @@
 
 ghost use Rattle.std.specs.Prelude.{◌≡◌, ◌∷◌, ◌&&◌, ◌||◌, [], None, OnOk, Some, not};
 ghost use Rattle.base_model.specs.Lists.{is_nil};
-ghost use Rattle.custom_model.specs.Parts.{is_close_round, is_unfit, is_unmatched};
+ghost use Rattle.custom_model.specs.Parts.{is_unfit, is_unmatched};
 ghost use Rattle.css_tokens.specs.Opened as opened;
 ghost use Rattle.css_tokens.specs.View.{bracket_of, kind_of};
-ghost use Rattle.syntax_model.specs.Kinds.{is_delim, is_semicolon};
+ghost use Rattle.syntax_model.specs.Kinds.{is_delim, is_semicolon, is_close_round};
 ghost use Rattle.syntax_model.specs.Signs.{exclamation_mark};
 ghost use Rattle.syntax_model.specs.Written.{is_broken};
 

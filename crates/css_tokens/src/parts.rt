@@ -5,14 +5,14 @@ ghost use Rattle.std.specs.Str.{chars};
 ghost use Rattle.custom_model.specs.Steps.{steps_in};
 ghost use Rattle.custom_model.specs.Value.{is_custom_name};
 ghost use Rattle.custom_model.specs.Parts.{is_name, is_var};
-ghost use Rattle.css_tokens.specs.Opened.{Opened, in_var, steps_from};
+ghost use Rattle.css_tokens.specs.Opened.{Opened, front_in, in_var, steps_from};
 ghost use Rattle.css_tokens.specs.Steps.{IsNext, steps_behind};
 ghost use Rattle.syntax_model.specs.Token.{said};
 
 use crate::open_parts::OpenParts;
 use crate::trim::without_white;
 use crate::wide::is_word;
-use crate::{Kind, Token, name_of};
+use crate::{Token, name_of};
 use std::alloc::Global;
 use std::marker::Model;
 use stylo_base::{NoMemory, Text};
@@ -35,7 +35,8 @@ pub enum PartStep<'a> {
 }
 
 /// Reads a value step by step. It holds what is open in a stack of its own, so it takes values of any
-/// depth. Contracts see the steps that are left, where the value is valid.
+/// depth. Contracts see the steps that are left, where the value is valid, and those up to where it
+/// is bad.
 #[derive(Drop)]
 pub struct PartReader<'a> {
     rest: &'a [Token],
@@ -46,12 +47,13 @@ impl<'a> Model for PartReader<'a> {
     ghost use Rattle.std.specs.Prelude.{length, map};
     ghost use Rattle.syntax_model.specs.Token.{said};
     ghost use Rattle.css_tokens.specs.Steps as model;
-    ghost use Rattle.css_tokens.specs.Opened.{anywhere, steps_from};
+    ghost use Rattle.css_tokens.specs.Opened.{anywhere, front, steps_from, whole};
 
     ghost Value = { model.Left };
 
     ghost view = { λ r. record {
-      steps = steps_from anywhere r.pending (map said r.rest.now);
+      steps = whole (steps_from anywhere r.pending (map said r.rest.now));
+      front = front (steps_from anywhere r.pending (map said r.rest.now));
       tokens = length r.rest.now;
     } };
 }
@@ -60,6 +62,7 @@ impl<'a> PartReader<'a> {
     /// Before the first token. It takes no memory.
     pub fn new(alloc: Global, tokens: &'a [Token]) -> PartReader<'a>
         ensures steps { result.steps ≡ steps_in (map said tokens.now) }
+        ensures front { result.front ≡ front_in (map said tokens.now) }
         ensures tokens { result.tokens ≡ length tokens.now }
     {
         PartReader {
@@ -68,7 +71,7 @@ impl<'a> PartReader<'a> {
         }
     }
 
-    /// The next step.
+    /// The next of the steps up to where the value is bad, and Invalid after them.
     pub fn next(&mut self) -> Result<PartStep<'a>, NoMemory>
         ensures { IfOk result (λ step. IsNext self.old step self.new) }
     {
@@ -139,7 +142,7 @@ fn var_head<'a>(tokens: &'a [Token]) -> Option<VarHead<'a>>
 fn is_var(token: &Token) -> bool
     ensures { result ≡ is_var (said token.now) }
 {
-    matches!(token.kind(), Kind::Function) && is_word(name_of(token).as_str(), "var")
+    token.is_function() && is_word(name_of(token).as_str(), "var")
 }
 
 /// Whether it is the name of a custom property.

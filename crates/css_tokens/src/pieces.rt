@@ -5,7 +5,7 @@ ghost use Rattle.std.specs.List.{prefix_len};
 ghost use Rattle.syntax_model.specs.Letters as letters;
 ghost use Rattle.syntax_model.specs.Pieces as model;
 ghost use Rattle.syntax_model.specs.Units.{len_of, said_of};
-ghost use Rattle.css_tokens.specs.Scanned.{first_len, first_tokens, found, found_tokens, unit_by};
+ghost use Rattle.css_tokens.specs.Scanned.{first_len, first_tokens, found_tokens, piece_of};
 ghost use Rattle.css_tokens.specs.View.{kind_of};
 
 use crate::Kind;
@@ -20,9 +20,7 @@ use crate::url::{is_url, scan_url};
 /// The piece that a text begins with.
 pub fn scan(text: &[char]) -> Scan
     requires { 0 < length text.now }
-    ensures tokens { (start : ℕ) → found_tokens start result.is_comment
-        (found result.kind result.grammar result.name.now result.spelling.now result.len)
-        ≡ first_tokens start text.now }
+    ensures tokens { (start : ℕ) → found_tokens start result ≡ first_tokens start text.now }
     ensures len { result.len ≡ first_len text.now }
     ensures some { 0 < result.len }
     ensures inside { result.len ≤ length text.now }
@@ -33,9 +31,7 @@ pub fn scan(text: &[char]) -> Scan
 // The same, by the row that fits.
 fn scan_first(text: &[char]) -> Scan
     requires { 0 < length text.now }
-    ensures tokens { (start : ℕ) → found_tokens start result.is_comment
-        (found result.kind result.grammar result.name.now result.spelling.now result.len)
-        ≡ first_tokens start text.now }
+    ensures tokens { (start : ℕ) → found_tokens start result ≡ first_tokens start text.now }
     ensures len { result.len ≡ first_len text.now }
 {
     let Some((first, rest)) = text.split_first() else {
@@ -82,7 +78,7 @@ pub fn blank_len(text: &[char]) -> usize
 // `#` or `@`, and a name.
 fn scan_named(kind: Kind, rest: &[char]) -> Scan
     requires fits { 1 + length rest.now < 2 ^ 64 }
-    ensures piece { found result.kind result.grammar result.name.now result.spelling.now result.len
+    ensures piece { piece_of result
         ≡ model.named (kind_of kind) (model.name_in rest.now) (1 + model.name_len rest.now) }
     ensures token { result.is_comment ≡ false }
 {
@@ -92,8 +88,7 @@ fn scan_named(kind: Kind, rest: &[char]) -> Scan
 // A string, by what follows its first quote.
 fn scan_string(quote: char, text: &[char]) -> Scan
     requires fits { 2 + length text.now < 2 ^ 64 }
-    ensures piece { found result.kind result.grammar result.name.now result.spelling.now result.len
-        ≡ model.string_piece quote text.now }
+    ensures piece { piece_of result ≡ model.string_piece quote text.now }
     ensures token { result.is_comment ≡ false }
 {
     let grammar = Grammar::String { quote };
@@ -119,8 +114,7 @@ pub fn next_is(text: &[char], c: char) -> bool
 
 // A number, a percentage or a dimension.
 fn scan_number(text: &[char]) -> Scan
-    ensures piece { found result.kind result.grammar result.name.now result.spelling.now result.len
-        ≡ model.number_piece text.now }
+    ensures piece { piece_of result ≡ model.number_piece text.now }
     ensures token { result.is_comment ≡ false }
 {
     let number = number(text);
@@ -138,8 +132,7 @@ fn scan_number(text: &[char]) -> Scan
 
 // An identifier, a function or a url.
 fn scan_ident(text: &[char]) -> Scan
-    ensures piece { found result.kind result.grammar result.name.now result.spelling.now result.len
-        ≡ model.ident_piece text.now }
+    ensures piece { piece_of result ≡ model.ident_piece text.now }
     ensures token { result.is_comment ≡ false }
 {
     let taken = run_len(Grammar::Name, text);

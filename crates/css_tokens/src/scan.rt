@@ -4,7 +4,7 @@
 ghost use Rattle.std.specs.Prelude.{◌≡◌, true, false};
 ghost use Rattle.syntax_model.specs.Pieces as model;
 ghost use Rattle.syntax_model.specs.Units.{said_of};
-ghost use Rattle.css_tokens.specs.Scanned.{found, unit_by};
+ghost use Rattle.css_tokens.specs.Scanned.{piece_of, unit_by};
 ghost use Rattle.css_tokens.specs.View.{kind_of};
 
 use crate::Kind;
@@ -28,8 +28,7 @@ pub struct Scan<'a> {
 impl<'a> Scan<'a> {
     /// A token with neither name nor number.
     pub fn plain(kind: Kind, len: usize) -> Scan<'a>
-        ensures piece { found result.kind result.grammar result.name.now result.spelling.now result.len
-            ≡ model.plain (kind_of kind) len }
+        ensures piece { piece_of result ≡ model.plain (kind_of kind) len }
         ensures token { result.is_comment ≡ false }
     {
         Scan::numeric(kind, &[], &[], len)
@@ -37,8 +36,7 @@ impl<'a> Scan<'a> {
 
     /// A token with a name.
     pub fn named(kind: Kind, grammar: Grammar, name: &'a [char], len: usize) -> Scan<'a>
-        ensures piece { found result.kind result.grammar result.name.now result.spelling.now result.len
-            ≡ model.named (kind_of kind) (said_of (unit_by grammar) name.now) len }
+        ensures piece { piece_of result ≡ model.named (kind_of kind) (said_of (unit_by grammar) name.now) len }
         ensures token { result.is_comment ≡ false }
     {
         Scan {
@@ -53,13 +51,12 @@ impl<'a> Scan<'a> {
 
     /// A token with a number, and maybe a unit.
     pub fn numeric(kind: Kind, spelling: &'a [char], unit: &'a [char], len: usize) -> Scan<'a>
-        ensures piece { found result.kind result.grammar result.name.now result.spelling.now result.len
-            ≡ record {
-              kind = kind_of kind;
-              name = model.name_in unit.now;
-              spelling = spelling.now;
-              length = len;
-            } }
+        ensures piece { piece_of result ≡ record {
+          kind = kind_of kind;
+          name = model.name_in unit.now;
+          spelling = spelling.now;
+          length = len;
+        } }
         ensures token { result.is_comment ≡ false }
     {
         Scan {

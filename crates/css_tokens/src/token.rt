@@ -8,7 +8,7 @@ ghost use Rattle.syntax_model.specs.Pieces.{token_of};
 ghost use Rattle.syntax_model.specs.Token.{said};
 ghost use Rattle.custom_model.specs.Value.{unplaced, white_space};
 ghost use Rattle.css_tokens.specs.View as view;
-ghost use Rattle.css_tokens.specs.Scanned.{found};
+ghost use Rattle.css_tokens.specs.Scanned.{piece_of};
 ghost use Rattle.css_tokens.specs.View.{bracket_of, kind_of, span_of};
 
 use crate::run::run_text;
@@ -50,8 +50,7 @@ impl Token {
     /// The token that was found at an offset.
     pub(crate) fn of_scan(alloc: Global, start: usize, scan: &Scan) -> Result<Token, NoMemory>
         requires fits { start + scan.now.len < 2 ^ 64 }
-        ensures { IfOk result (λ t. t ≡ token_of start
-            (found scan.now.kind scan.now.grammar scan.now.name.now scan.now.spelling.now scan.now.len)) }
+        ensures { IfOk result (λ t. t ≡ token_of start (piece_of scan.now)) }
     {
         Ok(Token {
             kind: scan.kind,
@@ -102,6 +101,13 @@ impl Token {
         ensures { result ≡ kinds.is_ident self.now.kind }
     {
         matches!(self.kind(), Kind::Ident)
+    }
+
+    /// Whether it is a function's name and `(`.
+    pub fn is_function(&self) -> bool
+        ensures { result ≡ kinds.is_function self.now.kind }
+    {
+        matches!(self.kind(), Kind::Function)
     }
 
     /// Whether it is a hash.

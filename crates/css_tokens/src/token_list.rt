@@ -1,11 +1,9 @@
 //! Lists of tokens.
 
-ghost use Rattle.std.specs.Prelude.{◌≡◌, [], IfOk};
+ghost use Rattle.std.specs.Prelude.{◌≡◌};
 
 use crate::Token;
-use std::alloc::Global;
 use std::marker::Model;
-use stylo_base::NoMemory;
 
 /// A list of tokens.
 #[derive(Debug, Drop)]
@@ -23,28 +21,11 @@ impl Model for TokenList {
 }
 
 impl TokenList {
-    /// No tokens. It takes no memory.
-    pub fn new(alloc: Global) -> TokenList
-        ensures { result ≡ [] }
-    {
-        TokenList {
-            list: Vec::new(alloc),
-        }
-    }
-
     /// The tokens of `list`. It takes no memory.
     pub fn of_vec(list: Vec<Token>) -> TokenList
         ensures { result ≡ list.items }
     {
         TokenList { list }
-    }
-
-    /// The tokens. It takes no memory.
-    pub fn into_vec(self) -> Vec<Token>
-        ensures { result.items ≡ self }
-    {
-        let TokenList { list } = self;
-        list
     }
 
     /// The tokens.

@@ -4,7 +4,7 @@ ghost use Rattle.std.specs.Prelude.{◌≡◌, ◌+◌, ◌<◌, ◌^◌, ◌++�
 ghost use Rattle.std.specs.Str.{chars};
 ghost use Rattle.syntax_model.specs.Preprocess.{is_preprocessed};
 ghost use Rattle.syntax_model.specs.TokensIn.{tokens_in};
-ghost use Rattle.css_tokens.specs.Scanned.{found, found_tokens};
+ghost use Rattle.css_tokens.specs.Scanned.{found_tokens};
 
 use crate::Token;
 use crate::characters::characters_of;
@@ -46,8 +46,7 @@ fn push_token(
     scan: &Scan,
 ) -> Result<(), NoMemory>
     requires fits { start + scan.now.len < 2 ^ 64 }
-    ensures { OnOk result (list.new.items ≡ list.old.items ++ found_tokens start scan.now.is_comment
-        (found scan.now.kind scan.now.grammar scan.now.name.now scan.now.spelling.now scan.now.len)) }
+    ensures { OnOk result (list.new.items ≡ list.old.items ++ found_tokens start scan.now) }
 {
     if !scan.is_comment {
         list.push(Token::of_scan(alloc, start, scan)?)?;

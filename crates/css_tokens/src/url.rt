@@ -4,7 +4,7 @@ ghost use Rattle.std.specs.Prelude.{◌≡◌, ◌∷◌, MatchOption, ◌+◌, 
 ghost use Rattle.base_model.specs.Text.{Characters, is_word};
 ghost use Rattle.syntax_model.specs.Pieces as model;
 ghost use Rattle.syntax_model.specs.Units.{len_of, one_if, remnant_unit};
-ghost use Rattle.css_tokens.specs.Scanned.{found};
+ghost use Rattle.css_tokens.specs.Scanned.{piece_of};
 
 use crate::Kind;
 use crate::letters::is_quote;
@@ -65,8 +65,7 @@ fn quote_follows(text: &[char]) -> bool
 /// A url or a bad url, by how many characters come before what follows the `(`.
 pub fn scan_url(before: usize, text: &[char]) -> Scan
     requires fits { before + length text.now < 2 ^ 64 }
-    ensures piece { found result.kind result.grammar result.name.now result.spelling.now result.len
-        ≡ model.url_piece before text.now }
+    ensures piece { piece_of result ≡ model.url_piece before text.now }
     ensures token { result.is_comment ≡ false }
 {
     let blank = blank_len(text);

@@ -7,6 +7,7 @@ ghost use Rattle.syntax_model.specs.Numbers.{decimal_number};
 ghost use Rattle.syntax_model.specs.Units.{one_if};
 ghost use Rattle.css_tokens.specs.Decimal.{IsDigit, far, front_of, is_half, many, size_of};
 
+use crate::letters::is_minus;
 use crate::number::{digits_len, exponent_len, fraction_len, sign_len};
 use crate::{Kind, Token, spelling_of};
 use stylo_base::Fixed;
@@ -170,10 +171,4 @@ fn without_first(text: &[char]) -> &[char]
         [_, rest @ ..] => rest,
         [] => text,
     }
-}
-
-fn is_minus(text: &[char]) -> bool
-    ensures { result ≡ model.is_minus text.now }
-{
-    matches!(text, ['-', ..])
 }

@@ -1,13 +1,16 @@
 //! The CSS-wide keywords.
 
-ghost use Rattle.std.specs.Prelude.{◌≡◌, IsTrue, true};
+ghost use Rattle.std.specs.Prelude.{◌≡◌, IsTrue, map, true};
 ghost use Rattle.std.specs.Option.{option_map};
 ghost use Rattle.std.specs.Str.{chars};
 ghost use Rattle.base_model.specs.Text.{ascii_lower, is_word, same_text};
 ghost use Rattle.stylo_base.specs.Ascii.{is_all_ascii};
 ghost use Rattle.syntax_model.specs.Wide.{wide_named};
+ghost use Rattle.syntax_model.specs.Token.{said};
+ghost use Rattle.custom_model.specs.Computed.{wide_of as wide_in};
 ghost use Rattle.css_tokens.specs.View.{wide_of};
 
+use crate::{Token, name_of};
 use stylo_base::eq_ascii_case;
 
 /// A keyword that every property takes (css-cascade-5, section 7.3).
@@ -38,6 +41,16 @@ impl Wide {
         } else {
             None
         }
+    }
+}
+
+/// The CSS-wide keyword that the tokens are, ignoring ASCII case. It takes no memory.
+pub fn wide_keyword(tokens: &[Token]) -> Option<Wide>
+    ensures { option_map wide_of result ≡ wide_in (map said tokens.now) }
+{
+    match tokens {
+        [token] if token.is_ident() => Wide::named(name_of(token).as_str()),
+        _ => None,
     }
 }
 

@@ -42,9 +42,6 @@ among_any p (y ∷ xs) e =
 pub text_is : (a b : Characters) → same_text a b ≡ true → a ≡ b
 text_is a b e = (bytes_decides a b).0 e
 
-pub text_is_itself : (a : Characters) → same_text a a ≡ true
-text_is_itself a = (bytes_decides a a).1 refl
-
 pub cases_text : (a b : Characters) → (a ≡ b) ⊎ (a ≢ b)
 cases_text a b =
     ⊎_elim (λ e. inl (text_is a b e)) (λ e. inr (λ s. false≢true (sym e ∙ (bytes_decides a b).1 s))) (cases_Bool (same_text a b))

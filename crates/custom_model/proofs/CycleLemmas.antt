@@ -1,24 +1,19 @@
 -- Which names are on a cycle of what is declared, and which names are declared at all.
-use Rattle.std.proofs.Common.{◌≡◌, ℕ, ◌+◌, length, true, Option, Some, None, is_some, Ordering, Less, Equal, Greater, refl, sym, ◌∙◌, subst}
-use Rattle.std.specs.Ordering.{nat_cmp, eq_by_cmp, is_eq}
+use Rattle.std.proofs.Common.{◌≡◌, ℕ, ◌+◌, length, true, Option, Some, None, is_some, refl, sym, ◌∙◌, subst}
+use Rattle.std.specs.Ordering.{nat_cmp, eq_by_cmp}
 use Rattle.std.specs.Cmp.Lexicographic.{slice_cmp}
 use Rattle.std.specs.FinMap as finmap
 use Rattle.std.specs.FinMap.{slice_cmp-IsAntisymmetric, nat_cmp-IsAntisymmetric}
-use Rattle.std.proofs.lemmas.Bool.{false≢true}
 use Rattle.std.proofs.lemmas.List.{length-map}
 use Rattle.base_model.specs.Text.{Characters}
 use Rattle.custom_model.specs.Value.{CustomValue}
 use Rattle.custom_model.specs.Cycles.{DeclaredValues, references_of, edges, walks, is_cyclic}
 use Rattle.custom_model.proofs.Among.{Among, among_any}
 use Rattle.custom_model.proofs.WalkLemmas.{walks_short, walks_join}
-
-ties : (o : Ordering) → is_eq o ≡ true → o ≡ Equal
-ties Less e = absurd (false≢true e)
-ties Equal e = refl
-ties Greater e = absurd (false≢true e)
+use Rattle.base_model.proofs.Orderings.{is_equal}
 
 pub same_key : (a b : Characters) → eq_by_cmp (slice_cmp nat_cmp) a b ≡ true → a ≡ b
-same_key a b e = slice_cmp-IsAntisymmetric nat_cmp-IsAntisymmetric a b (ties _ e)
+same_key a b e = slice_cmp-IsAntisymmetric nat_cmp-IsAntisymmetric a b (is_equal _ e)
 
 pub key_among : {X : Type 0} (m : finmap.FinMap (slice_cmp nat_cmp) X) (name : Characters) → is_some (finmap.get m name) ≡ true → Among name (finmap.keys m)
 key_among m name e =

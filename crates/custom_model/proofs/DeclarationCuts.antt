@@ -16,10 +16,7 @@ use Rattle.syntax_model.specs.Rules.{Declaration}
 use Rattle.syntax_model.specs.RulesIn.{after_at_rule, after_colon, before_important, before_mark, declaration_in, declarations_from, declarations_in, ends_at_rule, is_important_word, named_declaration, shallow_alone}
 use Rattle.syntax_model.proofs.UrlStrings.{is_quoted}
 use Rattle.custom_model.proofs.CutLemmas.{OfText, of_text-closed, of_text-drop, of_text-last, of_text-trimmed, of_text-up_to, of_text-without_white, of_text-without_white_last}
-
-pub each-append : {X : Type 0} (P : X → Type 0) (xs ys : List X) → AllByRecursion P xs → AllByRecursion P ys → AllByRecursion P (xs ++ ys)
-each-append P [] ys h k = k
-each-append P (x ∷ xs) ys h k = (h.0, each-append P xs ys h.1 k)
+use Rattle.base_model.proofs.Lists.{each-append}
 
 each_of_some : {X : Type 0} (P : X → Type 0) (o : Option X) → IfSome o P → AllByRecursion P (option_to_list o)
 each_of_some P None h = tt

@@ -9,6 +9,7 @@ use Rattle.syntax_model.specs.Written.{is_broken, is_sound, is_string, is_url_fu
 use Rattle.syntax_model.proofs.WrittenLemmas.{sound_first}
 use Rattle.syntax_model.proofs.UrlStrings.{is_quoted}
 use Rattle.custom_model.specs.Value.{CustomValue, unplaced, white_space, spaced, normal}
+use Rattle.custom_model.proofs.Said.{said_unplaced}
 
 -- whether the first that is no whitespace is of such a kind
 abbrev pub first_is : (Kind → Bool) → CustomValue → Bool
@@ -35,12 +36,8 @@ begins_first p (token ∷ tokens) = by (is_white token.kind) (begins_first p tok
   by true e = e
   by false e = refl
 
-said-unplaced : (tokens : CustomValue) → map said (map unplaced tokens) ≡ tokens
-said-unplaced [] = refl
-said-unplaced (token ∷ tokens) = ap (λ ts. token ∷ ts) (said-unplaced tokens)
-
 begins_unplaced : (p : Kind → Bool) (tokens : CustomValue) → begins_with p (without_white (map unplaced tokens)) ≡ first_is p tokens
-begins_unplaced p tokens = begins_first p (map unplaced tokens) ∙ ap (first_is p) (said-unplaced tokens)
+begins_unplaced p tokens = begins_first p (map unplaced tokens) ∙ ap (first_is p) (said_unplaced tokens)
 
 -- whitespace is no function
 url_no_white : (kind : Kind) (name spelling : Characters) → is_url_function (unplaced (record { kind = kind; name = name; spelling = spelling })) ≡ true → is_white kind ≡ false

@@ -12,5 +12,7 @@ pub mod Normal
 pub mod PartsLemmas
 pub mod Plain
 pub mod ResolvedLemmas
+pub mod Said
+pub mod Simple
 pub mod WalkLemmas
 pub mod WritableLemmas

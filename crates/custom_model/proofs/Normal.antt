@@ -4,9 +4,7 @@ use Rattle.std.specs.Prelude.{if◌then◌else◌}
 use Rattle.syntax_model.specs.Token.{Said}
 use Rattle.syntax_model.specs.Kinds.{is_white}
 use Rattle.custom_model.specs.Value.{normal, spaced, white_space}
-
-chosen : {X : Type 0} (b c : Bool) → b ≡ c → (x y : X) → (if b then x else y) ≡ (if c then x else y)
-chosen b c e x y = ap (λ b. if b then x else y) e
+use Rattle.base_model.proofs.Bools.{chosen}
 
 -- whitespace that was joined is joined
 spaced_again : (pending : Bool) (tokens : List Said) → spaced false (spaced pending tokens) ≡ spaced pending tokens

@@ -6,11 +6,11 @@ use Rattle.base_model.specs.Lists.{is_nil}
 use Rattle.base_model.specs.Options.{◌>>=◌}
 use Rattle.base_model.specs.Text.{Characters}
 use Rattle.syntax_model.specs.Token.{Said, Kind, function, ident, close_round, comma}
-use Rattle.syntax_model.specs.Kinds.{is_white, is_ident, is_comma}
+use Rattle.syntax_model.specs.Kinds.{is_white, is_ident, is_comma, is_close_round, is_function}
 use Rattle.syntax_model.specs.Brackets.{Bracket}
 use Rattle.syntax_model.specs.Written.{is_broken, is_string, is_url_function}
 use Rattle.custom_model.specs.Value.{CustomValue, unplaced}
-use Rattle.custom_model.specs.Parts.{Parts, done, plain, reference, with_fallback, Reading, Reader, after, without_white, is_close_round, is_function, is_var, is_name, is_unfit, open_beyond, named_by, var_by, parts_by, parts_within, parts}
+use Rattle.custom_model.specs.Parts.{Parts, done, plain, reference, with_fallback, Reading, Reader, after, without_white, is_var, is_name, is_unfit, open_beyond, named_by, var_by, parts_by, parts_within, parts}
 use Rattle.custom_model.proofs.KeptLemmas.{first_is, Sound, Kept, Fit, white_fit}
 
 -- a string begins the parts, with whitespace or none before it

@@ -4,7 +4,8 @@ use Rattle.std.specs.List.{AllByRecursion}
 use Rattle.std.proofs.lemmas.Bool.{or_cases, or_left, or_right, false≢true}
 use Rattle.base_model.specs.Text.{Characters, same_text}
 use Rattle.custom_model.specs.Cycles.{walks}
-use Rattle.custom_model.proofs.Among.{Among, among_any, any_among, each_among, text_is, text_is_itself, cases_text, without, without_less, among_without}
+use Rattle.custom_model.proofs.Among.{Among, among_any, any_among, each_among, text_is, cases_text, without, without_less, among_without}
+use Rattle.base_model.proofs.Texts.{text_is_itself}
 
 -- the names that edges lead to from each name
 abbrev pub Edges : Type 0

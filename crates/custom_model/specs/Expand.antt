@@ -1,5 +1,5 @@
 -- What a value expands to, over values of the custom properties that it refers to (css-variables-1, section 3).
-use Rattle.std.specs.Prelude.{ℕ, nat_le, [], ◌∷◌, ◌++◌, length, if◌then◌else◌, Option, Some, None, option_map}
+use Rattle.std.specs.Prelude.{◌≡◌, ℕ, nat_le, [], ◌∷◌, ◌++◌, length, if◌then◌else◌, Option, Some, None, option_map}
 use Rattle.std.specs.Option.{option_or}
 use Rattle.base_model.specs.Options.{◌>>=◌}
 use Rattle.base_model.specs.Text.{Characters}
@@ -42,3 +42,8 @@ unfoldable pub expansion : Lookup → CustomValue → Option CustomValue
 expansion values tokens = do
   read ← parts tokens
   expanded values read
+
+-- a value that expands to itself, whatever other custom properties are: it is valid, refers to none of them, is in
+-- normal form, and is no longer than the limit
+abbrev pub IsPlain : CustomValue → Type 0
+IsPlain value = (values : Lookup) → expansion values value ≡ Some value

@@ -7,8 +7,8 @@ use Rattle.base_model.specs.Lists.{is_nil}
 use Rattle.base_model.specs.Options.{◌>>=◌}
 use Rattle.base_model.specs.Text.{Characters, is_word}
 use Rattle.syntax_model.specs.Signs.{exclamation_mark}
-use Rattle.syntax_model.specs.Token.{Token, Said, Kind, said, function, close_round}
-use Rattle.syntax_model.specs.Kinds.{is_white, is_ident, is_comma, is_semicolon, is_delim}
+use Rattle.syntax_model.specs.Token.{Token, Said, Kind, said}
+use Rattle.syntax_model.specs.Kinds.{is_white, is_ident, is_function, is_comma, is_semicolon, is_close_round, is_delim}
 use Rattle.syntax_model.specs.Brackets.{Bracket, opened_by, closed_by, same_bracket, with_opened, without_closed}
 use Rattle.syntax_model.specs.Written.{is_broken}
 use Rattle.custom_model.specs.Value.{CustomValue, is_custom_name, normal}
@@ -33,14 +33,6 @@ after before reading = option_map (λ r. (before r.0, r.1)) reading
 abbrev pub without_white : List Said → List Said
 without_white [] = []
 without_white (token ∷ tokens) = if is_white token.kind then without_white tokens else token ∷ tokens
-
-abbrev pub is_close_round : Kind → Bool
-is_close_round close_round = true
-is_close_round kind = false
-
-abbrev pub is_function : Kind → Bool
-is_function function = true
-is_function kind = false
 
 -- `var(`, ignoring ASCII case
 abbrev pub is_var : Said → Bool

@@ -1,12 +1,12 @@
 -- The references of a value, step by step.
 use Rattle.std.proofs.Common.{◌≡◌, ℕ, suc, ◌+◌, ◌<◌, ◌≤◌, List, [], ◌∷◌, ◌++◌, length, take, drop, get_or, map, Bool, true, false, Bor, Option, Some, None, option_map, option_copied, refl, sym, ap, ap₂, subst, ◌∙◌, append_assoc, arith}
 use Rattle.std.specs.Option.{option_map_or}
-use Rattle.std.proofs.lemmas.List.{append-nil, take-append-le, take_at, drop_more}
+use Rattle.std.proofs.lemmas.List.{append-nil, take-append-le, drop_more}
 use Rattle.std.proofs.lemmas.Bool.{true≢false, false≢true}
 use Rattle.std.proofs.lemmas.Option.{none-some, same_Some}
 use Rattle.base_model.specs.Text.{Characters}
-use Rattle.syntax_model.specs.Token.{Said, said}
-use Rattle.custom_model.specs.Value.{CustomValue, unplaced}
+use Rattle.syntax_model.specs.Token.{Said}
+use Rattle.custom_model.specs.Value.{CustomValue}
 use Rattle.custom_model.specs.Parts.{Parts, done, plain, reference, with_fallback, parts, references, references_in}
 use Rattle.custom_model.specs.Cycles.{references_of}
 use Rattle.custom_model.specs.Steps.{Step, token, alone, begins, ends, steps, steps_in}
@@ -17,10 +17,6 @@ use Rattle.custom_properties.specs.Added.{AreAdded, names_in, with_steps}
 use Rattle.custom_properties.specs.Entries.{declared_entry}
 use Rattle.custom_properties.specs.declared.declared_map.DeclaredEntry.{DeclaredEntry}
 use Rattle.custom_properties.proofs.EntryLemmas.{length-entries, entry_at}
-
-pub said_unplaced : (list : List Said) → map said (map unplaced list) ≡ list
-said_unplaced [] = refl
-said_unplaced (x ∷ list) = ap (λ l. x ∷ l) (said_unplaced list)
 
 names_in-append : (a b : List Step) → names_in (a ++ b) ≡ names_in a ++ names_in b
 names_in-append [] b = refl

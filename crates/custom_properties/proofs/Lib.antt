@@ -14,4 +14,3 @@ mod Chains
 mod Normal
 mod Limit
 pub mod Expanding
-pub mod Said

@@ -2,10 +2,9 @@
 use Rattle.std.proofs.Common.{◌≡◌, ℕ, zero, suc, ◌+◌, ◌<◌, List, [], ◌∷◌, ◌++◌, length, get_or, drop, map, Bool, true, false, cond, ◌||◌, Option, Some, None, is_some, IsTrue, refl, sym, ap, ap₂, subst, ◌∙◌, append_assoc, arith}
 use lib.Dec.{T}
 use Rattle.std.specs.List.{list_any}
-use Rattle.std.specs.Ordering.{eq_by_cmp, is_eq}
+use Rattle.std.specs.Ordering.{eq_by_cmp}
 use Rattle.std.specs.FinMap as finmap
 use Rattle.std.proofs.lemmas.List.{length-map, drop_more, get_or-map}
-use Rattle.std.proofs.lemmas.Bool.{cond-true, cond-false}
 use Rattle.base_model.specs.Text.{Characters}
 use Rattle.custom_model.specs.Value.{CustomValue, CustomValues}
 use Rattle.custom_model.specs.Cycles.{DeclaredValues}
@@ -13,7 +12,7 @@ use Rattle.custom_model.specs.Computed.{computed, resolved}
 use Rattle.custom_model.specs.Expand.{Lookup}
 use Rattle.custom_model.proofs.CycleLemmas.{same_key}
 use Rattle.custom_model.proofs.ComputedLemmas.{computed-undeclared}
-use Rattle.custom_model.proofs.ResolvedLemmas.{resolved_only}
+use Rattle.custom_model.proofs.ResolvedLemmas.{resolved-get, resolved_only}
 use Rattle.custom_properties.specs.Merged.{Pair, lesser, beyond, put, merged, with_values}
 use Rattle.custom_properties.specs.Place.{Entry, place_in}
 use Rattle.custom_properties.proofs.PlaceLemmas.{order, first_part, second_part, place_stands}
@@ -105,20 +104,27 @@ module _ (declared : DeclaredValues) (inherited : CustomValues) where
   length_of_values values e =
       sym (ap length e ∙ (length-map (finmap.keys declared) (computed declared inherited) ∙ length-map (finmap.entries declared) (λ x. x.0)))
 
-  -- where each declared name has what is inherited, that is all
-  pub inherited_whole : (values : List (Option CustomValue)) → values ≡ map (computed declared inherited) (finmap.keys declared)
-      → ((k : ℕ) → k < length (finmap.entries declared) → finmap.get inherited (get_or (finmap.entries declared) k no_entry).0 ≡ get_or values k None) → inherited ≡ resolved declared inherited
-  inherited_whole values is each = resolved_only declared inherited inherited (λ q. by q (place_in (finmap.entries declared) q) refl)
-    where
-      at : (k : ℕ) → k < length (finmap.entries declared) → get_or values k None ≡ computed declared inherited (get_or (finmap.entries declared) k no_entry).0
-      at k within =
-          let lengths = length-map (finmap.entries declared) (λ x. x.0) in
-          ap (λ l. get_or l k None) is
-          ∙ (get_or-map (computed declared inherited) (finmap.keys declared) k [] None (omega arith)
-          ∙ ap (computed declared inherited) (get_or-map (λ x. x.0) (finmap.entries declared) k no_entry [] within))
+  module _ (values : List (Option CustomValue)) (is : values ≡ map (computed declared inherited) (finmap.keys declared)) where
+    -- the value at a place is that of the name there
+    value_at : (k : ℕ) → k < length (finmap.entries declared) → get_or values k None ≡ computed declared inherited (get_or (finmap.entries declared) k no_entry).0
+    value_at k within =
+        let lengths = length-map (finmap.entries declared) (λ x. x.0) in
+        ap (λ l. get_or l k None) is
+        ∙ (get_or-map (computed declared inherited) (finmap.keys declared) k [] None (omega arith)
+        ∙ ap (computed declared inherited) (get_or-map (λ x. x.0) (finmap.entries declared) k no_entry [] within))
 
-      by : (q : Characters) (o : Option ℕ) → place_in (finmap.entries declared) q ≡ o → finmap.get inherited q ≡ computed declared inherited q
-      by q None e = sym (computed-undeclared declared inherited q (undeclared declared q e))
-      by q (Some k) e =
-          let stands = place_stands (finmap.entries declared) q k no_entry e in
-          ap (finmap.get inherited) (sym stands.1) ∙ (each k stands.0 ∙ (at k stands.0 ∙ ap (computed declared inherited) stands.1))
+    -- where each declared name has what is inherited, that is all
+    pub inherited_whole : ((k : ℕ) → k < length (finmap.entries declared) → finmap.get inherited (get_or (finmap.entries declared) k no_entry).0 ≡ get_or values k None) → inherited ≡ resolved declared inherited
+    inherited_whole each = resolved_only declared inherited inherited (λ q. by q (place_in (finmap.entries declared) q) refl)
+      where
+        by : (q : Characters) (o : Option ℕ) → place_in (finmap.entries declared) q ≡ o → finmap.get inherited q ≡ computed declared inherited q
+        by q None e = sym (computed-undeclared declared inherited q (undeclared declared q e))
+        by q (Some k) e =
+            let stands = place_stands (finmap.entries declared) q k no_entry e in
+            ap (finmap.get inherited) (sym stands.1) ∙ (each k stands.0 ∙ (value_at k stands.0 ∙ ap (computed declared inherited) stands.1))
+
+    -- and only there
+    pub inherited_each : inherited ≡ resolved declared inherited → (k : ℕ) → k < length (finmap.entries declared) → finmap.get inherited (get_or (finmap.entries declared) k no_entry).0 ≡ get_or values k None
+    inherited_each e k within =
+        let name = (get_or (finmap.entries declared) k no_entry).0 in
+        ap (λ m. finmap.get m name) e ∙ (resolved-get declared inherited name ∙ sym (value_at k within))

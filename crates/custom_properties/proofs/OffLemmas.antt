@@ -2,13 +2,13 @@
 use Rattle.std.proofs.Common.{◌≡◌, List, map, Option, Some, None, option_map, refl, sym, ap, ◌∙◌}
 use Rattle.std.proofs.lemmas.Option.{none-some, same_Some}
 use Rattle.base_model.specs.Options.{◌>>=◌}
-use Rattle.syntax_model.specs.Token.{Token, Said, said}
+use Rattle.syntax_model.specs.Token.{Token, said}
 use Rattle.syntax_model.specs.Wide.{Wide}
 use Rattle.custom_model.specs.Value.{CustomValue, unplaced}
 use Rattle.custom_model.specs.Expand.{Lookup, expansion}
 use Rattle.custom_model.specs.Computed.{wide_of, by_keyword, after_keyword}
 use Rattle.custom_properties.specs.Off.{off_cycles}
-use Rattle.custom_properties.proofs.AddedLemmas.{said_unplaced}
+use Rattle.custom_model.proofs.Said.{said_unplaced}
 
 module _ (values : Lookup) (inherited : Option CustomValue) (value : CustomValue) (tokens : List Token) (same : tokens ≡ map unplaced value) where
   seen : map said tokens ≡ value

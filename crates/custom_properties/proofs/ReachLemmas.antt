@@ -7,12 +7,13 @@ use Rattle.std.proofs.lemmas.Bool.{false≢true, and_from, and_parts, or_cases, 
 use Rattle.std.proofs.lemmas.List.{length-replicate, get_or-replicate}
 use Rattle.base_model.specs.Text.{Characters, same_text}
 use Rattle.custom_model.specs.Cycles.{DeclaredValues, references_of, edges, walks, is_cyclic}
-use Rattle.custom_model.proofs.Among.{Among, any_among, among_any, text_is, text_is_itself}
+use Rattle.custom_model.proofs.Among.{Among, any_among, among_any, text_is}
 use Rattle.custom_properties.specs.Graph.{graph}
 use Rattle.custom_properties.specs.Place.{place_in}
 use Rattle.custom_properties.specs.Plain.{AreNext, arrives, flag_at, leads}
 use Rattle.custom_properties.proofs.PlaceLemmas.{place_stands, place_of_name}
 use Rattle.custom_properties.proofs.GraphLemmas.{all_of, name_at, no_entry, between, undeclared, joins, joined}
+use Rattle.base_model.proofs.Texts.{text_is_itself}
 
 both_ways : (a b : Bool) → (a ≡ true → b ≡ true) → (b ≡ true → a ≡ true) → a ≡ b
 both_ways true b f g = sym (f refl)

@@ -1,10 +1,9 @@
 //! The computed value of a custom property (css-variables-1, sections 2 and 3).
 
-ghost use Rattle.std.specs.Prelude.{◌≡◌, IfOk, Some, map, option_copied, option_map};
+ghost use Rattle.std.specs.Prelude.{◌≡◌, IfOk, Some, option_copied};
 ghost use Rattle.std.specs.FinMap as finmap;
-ghost use Rattle.syntax_model.specs.Token.{said};
 ghost use Rattle.css_tokens.specs.View.{wide_of as keyword_of};
-ghost use Rattle.custom_model.specs.Computed.{by_keyword, wide_of};
+ghost use Rattle.custom_model.specs.Computed.{by_keyword};
 ghost use Rattle.custom_properties.specs.Entries.{declared_entry};
 ghost use Rattle.custom_properties.specs.Off.{off_cycles, off_cycles_at};
 ghost use Rattle.custom_model.specs.Value.{CustomValue};
@@ -12,7 +11,7 @@ ghost use Rattle.custom_model.specs.Value.{CustomValue};
 use crate::DeclaredEntry;
 use crate::expansion::expand;
 use crate::values::Values;
-use css_tokens::{CustomMap, CustomName, CustomValue, Token, Wide, name_of};
+use css_tokens::{CustomMap, CustomName, CustomValue, Wide, wide_keyword};
 use std::alloc::Global;
 use stylo_base::NoMemory;
 
@@ -45,7 +44,7 @@ fn expanded<V: Values>(
         ≡ off_cycles (V.lookup known.now) (finmap.get inherited.now name.now) value.now) }
 {
     if value.is_plain() {
-        return match keyword(value.tokens()) {
+        return match wide_keyword(value.tokens()) {
             None => shared(Some(value)),
             Some(wide) => by_keyword(wide, name, inherited),
         };
@@ -53,22 +52,12 @@ fn expanded<V: Values>(
     let Some(tokens) = expand(alloc, value.tokens(), known)? else {
         return Ok(None);
     };
-    match keyword(&tokens) {
+    match wide_keyword(&tokens) {
         None => {
             let value = CustomValue::of_tokens(alloc, tokens)?;
             Ok(Some(value))
         }
         Some(wide) => by_keyword(wide, name, inherited),
-    }
-}
-
-/// The CSS-wide keyword that a value is.
-fn keyword(tokens: &[Token]) -> Option<Wide>
-    ensures { option_map keyword_of result ≡ wide_of (map said tokens.now) }
-{
-    match tokens {
-        [token] if token.is_ident() => Wide::named(name_of(token).as_str()),
-        _ => None,
     }
 }
 

@@ -99,7 +99,7 @@ impl Front {
     }
 
     /// Goes on after a value. Whether there is room for its tokens.
-    #[tactic(auto, using(crate::proofs::Said::said_unplaced))]
+    #[tactic(auto, using(custom_model::proofs::Said::said_unplaced))]
     pub(crate) fn place_value(
         &mut self,
         alloc: Global,

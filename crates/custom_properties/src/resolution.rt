@@ -1,6 +1,6 @@
 //! The custom properties of an element (css-variables-1, sections 2 and 3).
 
-ghost use Rattle.std.specs.Prelude.{◌≡◌, ◌↔◌, IfOk, IsTrue, map, option_copied, unwrap_or};
+ghost use Rattle.std.specs.Prelude.{◌≡◌, ◌↔◌, IfOk, IsTrue, None, map, option_copied, unwrap_or};
 ghost use Rattle.std.specs.FinMap as finmap;
 ghost use Rattle.custom_model.specs.Computed.{computed, resolved};
 
@@ -29,13 +29,14 @@ pub fn resolve(
     }
 }
 
-/// The same, if it differs from what is inherited.
+/// The same. None: it is what is inherited.
 pub fn changed(
     alloc: Global,
     declared: &DeclaredMap<'_>,
     inherited: &CustomMap,
 ) -> Result<Option<CustomMap>, NoMemory>
-    ensures { IfOk result (λ o. unwrap_or o inherited.now ≡ resolved declared.now inherited.now) }
+    ensures map { IfOk result (λ o. unwrap_or o inherited.now ≡ resolved declared.now inherited.now) }
+    ensures same { IfOk result (λ o. (o ≡ None) ↔ (resolved declared.now inherited.now ≡ inherited.now)) }
 {
     let values = values(alloc, declared, inherited)?;
     if are_inherited(declared, &values, inherited) {
@@ -73,7 +74,7 @@ fn are_inherited(
     inherited: &CustomMap,
 ) -> bool
     requires { values.now ≡ map (computed declared.now inherited.now) (finmap.keys declared.now) }
-    ensures { IsTrue result → inherited.now ≡ resolved declared.now inherited.now }
+    ensures { IsTrue result ↔ (inherited.now ≡ resolved declared.now inherited.now) }
 {
     let entries = declared.entries();
     for place in 0..entries.len() {

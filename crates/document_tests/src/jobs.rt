@@ -28,7 +28,7 @@ fn counts(rt: HostRuntime) -> Result<(), Fail> {
 /// Whether the first of a job's sheets has this text.
 fn has_text(job: &Job, text: &str) -> bool {
     match job.sheets.as_slice() {
-        [sheet, ..] => sheet.text.is_str(text),
+        [sheet, ..] => sheet.text.as_str() == text,
         [] => false,
     }
 }

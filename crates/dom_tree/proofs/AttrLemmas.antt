@@ -1,9 +1,9 @@
 -- The rows of the attributes of a node: what one more makes of them, and of the map that they stand for.
-use Rattle.std.proofs.Common.{◌≡◌, ℕ, ◌+◌, ◌<◌, ◌≤◌, ◌==◌, ◌&&◌, Bool, true, false, cond, nat_lt, List, [], ◌∷◌, ◌++◌, map, length, find, drop, get_or, Option, Some, None, IfSome, option_map, slice_get, sym, ap, ◌∙◌, subst, refl, arith}
+use Rattle.std.proofs.Common.{◌≡◌, ℕ, ◌+◌, ◌<◌, ◌≤◌, ◌==◌, ◌&&◌, Bool, true, false, cond, nat_lt, List, [], ◌∷◌, ◌++◌, map, length, find, drop, get_or, Option, Some, None, IfSome, option_map, is_some, ◌||◌, slice_get, sym, ap, ◌∙◌, subst, refl, arith}
 use Rattle.std.specs.Cmp.Lexicographic.{slice_cmp}
 use Rattle.std.specs.FinMap as finmap
 use Rattle.std.specs.Bool.{Decides}
-use Rattle.std.specs.List.{AllByRecursion}
+use Rattle.std.specs.List.{AllByRecursion, list_any, IsDistinct}
 use Rattle.std.specs.Ordering.{nat_cmp, eq_by_cmp}
 use Rattle.std.proofs.lemmas.Bool.{and_from, and_parts, false≢true, false_from_ne_true, cond-false, eqb-true, ltb-true, ltb-false, eqb-false, eq-eqb}
 use Rattle.std.proofs.lemmas.Bool.Decides.{same_from_decides}
@@ -11,12 +11,14 @@ use Rattle.std.proofs.lemmas.Cmp.{nat_list_cmp_total}
 use Rattle.stylo_base.specs.NameList.{StandOnce, is_among}
 use Rattle.stylo_base.proofs.NameLemmas.{is_among-Decides}
 use Rattle.scene_model.specs.Element.{Characters, Attributes}
+use Rattle.scene_model.proofs.Found.{found_any}
 use Rattle.scene_model.proofs.Lists.{each_weaker}
 use Rattle.dom_tree.specs.declared.columns.AttrRow.{AttrRow}
-use Rattle.dom_tree.specs.Kept.{text_of, named_pair, named_attributes, put_row, AreAttrs, KeepsTexts}
+use Rattle.dom_tree.specs.Kept.{text_of, named_pair, named_attributes, name_text, put_row, AreAttrs, HaveNames, KeepsTexts}
+use Rattle.dom_tree.specs.ElementNames.{AreNamesOf}
 use Rattle.dom_tree.specs.declared.nodes.Attr.{Attr}
 use Rattle.dom_tree.specs.View.{pair_of, attributes_of}
-use Rattle.dom_tree.proofs.NameLemmas.{tied-Decides, text_at, same_name, below_more_names, text_kept, text_is, KeepsTexts-more}
+use Rattle.dom_tree.proofs.NameLemmas.{tied, tied-Decides, text_at, same_name, same_names, below_more_names, text_kept, text_is, KeepsTexts-more}
 use Rattle.std.specs.Str.{chars}
 use Rattle.base_model.specs.Text.{same_text}
 use Rattle.std.proofs.lemmas.Slice.Eq.{bytes_eq-Decides}
@@ -286,3 +288,37 @@ same_map-rows names xs ys once are also e =
     same_texts None (Some b) l m e = absurd (cc)
     same_texts (Some a) None l m e = absurd (cc)
     same_texts (Some a) (Some b) l m e = ap Some (same_name names a b once l m (same_Some (text_of names a) (text_of names b) e))
+
+-- the names of the rows
+
+pub have_names : (names : List Characters) (rows : List AttrRow) → AreAttrs names rows → HaveNames names rows
+have_names names [] are = tt
+have_names names (row ∷ rows) are = (are.0.0, have_names names rows are.2)
+
+-- they are the names that have a value
+module _ (names : List Characters) (q : Characters) where
+  found_there : (rows : List AttrRow) → list_any (same_text q) (map (name_text names) rows) ≡ is_some (found q (map (named_pair names) rows))
+  found_there [] = refl
+  found_there (row ∷ rows) =
+      ap (λ b. same_text q (text_of names row.name) || b) (found_there rows)
+      ∙ (ap (λ b. b || is_some (found q (map (named_pair names) rows))) (sym (tied q (text_of names row.name)))
+      ∙ found_any (ties q (text_of names row.name)) (text_of names row.value) (found q (map (named_pair names) rows)))
+
+-- and each of them is another
+module _ (names : List Characters) (once : StandOnce names) where
+  others : (row : AttrRow) (rows : List AttrRow) → row.name < length names → AllByRecursion (λ other. row.name < other.name) rows → AreAttrs names rows → AllByRecursion (λ text. same_text (text_of names row.name) text ≡ false) (map (name_text names) rows)
+  others row [] l above are = tt
+  others row (other ∷ rows) l above are =
+      let apart : (row.name == other.name) ≡ false = false_from_ne_true (row.name == other.name) (λ e. omega (arith, above.0, eqb-true row.name other.name e)) in
+      (same_names names row.name other.name once l are.0.0 ∙ apart, others row rows l above.1 are.2)
+
+  distinct_rows : (rows : List AttrRow) → AreAttrs names rows → IsDistinct same_text (map (name_text names) rows)
+  unfolding IsDistinct
+  distinct_rows [] are = tt
+  distinct_rows (row ∷ rows) are = (others row rows are.0.0 are.1 are.2, distinct_rows rows are.2)
+
+pub row_names : (names : List Characters) (rows : List AttrRow) → StandOnce names → AreAttrs names rows → AreNamesOf (finmap.get (named_attributes names rows)) (map (name_text names) rows)
+row_names names rows once are = record {
+  exact = λ q. found_there names q rows ∙ ap is_some (sym (finmap.get-from_entries nat_list_cmp_total (map (named_pair names) rows) q));
+  once = distinct_rows names once rows are;
+}

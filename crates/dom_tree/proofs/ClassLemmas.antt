@@ -1,5 +1,5 @@
 -- The names of the words of a text, each once.
-use Rattle.std.proofs.Common.{◌≡◌, ℕ, zero, suc, ◌+◌, ◌<◌, ◌≤◌, ◌==◌, Bool, true, false, cond, ◌||◌, List, [], ◌∷◌, ◌++◌, map, length, take, drop, get_or, Some, slice_get, sym, ap, ◌∙◌, subst, refl, arith, length-append}
+use Rattle.std.proofs.Common.{◌≡◌, ℕ, ◌+◌, ◌<◌, ◌≤◌, ◌==◌, Bool, true, false, cond, ◌||◌, List, [], ◌∷◌, ◌++◌, map, length, drop, get_or, Some, slice_get, sym, ap, ◌∙◌, subst, refl, arith, length-append}
 use Rattle.std.specs.List.{AllByRecursion, list_any}
 use Rattle.std.specs.Str.{bytes_eq}
 use Rattle.std.proofs.lemmas.Bool.{eqb-true, eq-eqb}
@@ -10,14 +10,16 @@ use Rattle.std.proofs.lemmas.Slice.Eq.{bytes_eq-Decides}
 use Rattle.indexmap.specs.IndexSet.{insert_key}
 use Rattle.stylo_base.specs.NameList.{StandOnce, interned}
 use Rattle.base_model.specs.Text.{same_text}
+use Rattle.base_model.proofs.Lists.{each-take, each-drop}
 use Rattle.scene_model.specs.Element.{Characters}
 use Rattle.scene_model.specs.Words.{words}
-use Rattle.scene_model.proofs.Lists.{each_weaker, each-append}
+use Rattle.scene_model.proofs.Lists.{each_weaker}
 use Rattle.dom_tree.specs.declared.span.Span.{Span}
 use Rattle.dom_tree.specs.Classes.{AreNames, AreLists, distinct_from, distinct_words, list_seen}
 use Rattle.dom_tree.specs.Kept.{KeepsTexts, part_of, text_of}
 use Rattle.dom_tree.proofs.NameLemmas.{below_more_names, text_kept, text_is, same_name}
 use Rattle.dom_tree.proofs.ColumnLemmas.{part_kept, part_last}
+use Rattle.base_model.proofs.Lists.{each-append}
 
 -- more names
 
@@ -89,18 +91,10 @@ module _ (names : List Characters) (word : Characters) (list : List ℕ) (k name
 
 -- the lists, once one more is appended
 
-taken_named : (names : List Characters) (n : ℕ) (list : List ℕ) → AreNames names list → AreNames names (take n list)
-taken_named names zero list h = tt
-taken_named names (suc n) [] h = tt
-taken_named names (suc n) (name ∷ list) h = (h.0, taken_named names n list h.1)
-
-dropped_named : (names : List Characters) (n : ℕ) (list : List ℕ) → AreNames names list → AreNames names (drop n list)
-dropped_named names zero list h = h
-dropped_named names (suc n) [] h = tt
-dropped_named names (suc n) (name ∷ list) h = dropped_named names n list h.1
-
 pub part_named : (names : List Characters) (span : Span) (list : List ℕ) → AreNames names list → AreNames names (part_of list span)
-part_named names span list h = taken_named names span.count (drop span.first list) (dropped_named names span.first list h)
+part_named names span list h =
+    let has_text = λ (name : ℕ). name < length names in
+    each-take has_text span.count (drop span.first list) (each-drop has_text span.first list h)
 
 module _ (old new : List Characters) (list words later : List ℕ) (kept : KeepsTexts old new) (e : later ≡ list ++ words) where
   list_kept : (span : Span) → AreNames old list → span.first + span.count ≤ length list → list_seen new later span ≡ list_seen old list span

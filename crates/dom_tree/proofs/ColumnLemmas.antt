@@ -1,13 +1,13 @@
 -- What one more node leaves of the columns, and what they show of it.
-use Rattle.std.proofs.Common.{◌≡◌, ◌↔◌, ℕ, Bool, IsTrue, zero, suc, ◌+◌, ◌<◌, ◌≤◌, ◌==◌, List, [], ◌∷◌, ◌++◌, map, find, option_map, length, take, drop, get_or, Option, Some, None, IfSome, Result, Ok, Err, OnErr, OnOk, slice_get, sym, ap, ◌∙◌, subst, refl, arith, false, length-append}
+use Rattle.std.proofs.Common.{◌≡◌, ◌↔◌, ℕ, Bool, IsTrue, zero, suc, ◌+◌, ◌<◌, ◌≤◌, ◌==◌, List, [], ◌∷◌, ◌++◌, map, find, option_map, length, take, drop, get_or, Option, Some, None, IfSome, Result, Ok, Err, OnOk, slice_get, sym, ap, ◌∙◌, subst, refl, arith, false, length-append}
 use Rattle.std.specs.Str.{chars}
 use Rattle.std.proofs.Math.Seq.{take-length, drop-append_seam}
-use Rattle.std.proofs.lemmas.List.{map-append, length-map}
+use Rattle.std.proofs.lemmas.List.{map-append, length-map, take-append-le}
 use Rattle.std.proofs.lemmas.Option.{slice_get_within, slice_get_read, slice_get-map}
 use Rattle.stylo_base.specs.NameList.{StandOnce, is_among}
 use Rattle.scene_model.specs.Element.{Characters}
 use Rattle.scene_model.specs.Nodes.{Node}
-use Rattle.scene_model.proofs.Lists.{each_weaker, each-append}
+use Rattle.scene_model.proofs.Lists.{each_weaker}
 use Rattle.dom_tree.specs.declared.span.Span.{Span}
 use Rattle.dom_tree.specs.declared.columns.AttrRow.{AttrRow}
 use Rattle.dom_tree.specs.declared.columns.Row.{Row}
@@ -17,23 +17,20 @@ use Rattle.std.specs.Cmp.Lexicographic.{slice_cmp}
 use Rattle.std.specs.Ordering.{nat_cmp}
 use Rattle.std.proofs.lemmas.Cmp.{nat_list_cmp_total}
 use Rattle.std.specs.FinMap as finmap
-use Rattle.dom_tree.specs.Kept.{Table, text_of, part_of, named_pair, named_attributes, node_seen, IsRow, AreRows, AreAttrs, KeepsTexts}
+use Rattle.dom_tree.specs.Kept.{Table, text_of, part_of, named_pair, named_attributes, name_text, node_seen, IsRow, AreRows, AreAttrs, HaveNames, KeepsTexts}
+use Rattle.dom_tree.specs.ElementNames.{AreNamesOf}
 use Rattle.dom_tree.proofs.NameLemmas.{below_more_names, text_kept, text_is}
-use Rattle.dom_tree.proofs.AttrLemmas.{AreAttrs-more, attributes_kept, keyed, unkeyed, found_within, same_map-rows}
+use Rattle.dom_tree.proofs.AttrLemmas.{AreAttrs-more, attributes_kept, keyed, unkeyed, found_within, have_names, row_names, same_map-rows}
 use Rattle.dom_tree.proofs.Places.{each_at}
+use Rattle.base_model.proofs.Lists.{each-append}
 
 -- a part of a list that grows at its end
-
-taken_front : {X : Type 0} (xs ys : List X) (n : ℕ) → n ≤ length xs → take n (xs ++ ys) ≡ take n xs
-taken_front xs ys zero h = refl
-taken_front [] ys (suc n) h = absurd (omega arith)
-taken_front (x ∷ xs) ys (suc n) h = ap (λ l. x ∷ l) (taken_front xs ys n (omega arith))
 
 pub part_kept : {X : Type 0} (xs ys : List X) (span : Span) → span.first + span.count ≤ length xs → part_of (xs ++ ys) span ≡ part_of xs span
 part_kept {X = X} xs ys span h = from span.first xs h
   where
     from : (k : ℕ) (xs : List X) → k + span.count ≤ length xs → take span.count (drop k (xs ++ ys)) ≡ take span.count (drop k xs)
-    from zero xs h = taken_front xs ys span.count (omega arith)
+    from zero xs h = take-append-le span.count xs ys (omega arith)
     from (suc k) [] h = absurd (omega arith)
     from (suc k) (x ∷ xs) h = from k xs (omega arith)
 
@@ -96,10 +93,6 @@ pub on_ok : {T E : Type 0} (r : Result T E) (P : Type 0) → P → OnOk r P
 on_ok (Ok x) P h = h
 on_ok (Err e) P h = tt
 
-pub on_err : {T E : Type 0} (r : Result T E) (P : Type 0) → P → OnErr r P
-on_err (Ok x) P h = tt
-on_err (Err e) P h = h
-
 -- what the columns show of the node at an index
 
 module _ (names : List Characters) (attrs : List AttrRow) (rows : List Row) (are : AreRows names attrs rows) (table : Table) (view : record { names = names; nodes = map (node_seen names attrs) rows } ≡ table) (i : ℕ) (row : Row) (l : i < length table.nodes) (is : row ≡ get_or rows i row) where
@@ -123,6 +116,15 @@ module _ (names : List Characters) (attrs : List AttrRow) (rows : List Row) (are
 
   pub tag_within : row.tag < length table.names
   tag_within = subst (λ n. row.tag < length n) names_are row_is.tag
+
+  pub rows_named : (part : List AttrRow) → part ≡ part_of attrs row.attrs → HaveNames names part
+  rows_named part e = subst (HaveNames names) (sym e) (have_names names (part_of attrs row.attrs) row_is.attributes)
+
+  pub attribute_names_seen : (part : List AttrRow) (shown : List Characters) → StandOnce table.names → part ≡ part_of attrs row.attrs → shown ≡ map (name_text names) part → IfSome (slice_get table.nodes i) (λ node. AreNamesOf (finmap.get node.attrs) shown)
+  attribute_names_seen part shown once e f =
+      let are = row_names names (part_of attrs row.attrs) (subst StandOnce (sym names_are) once) row_is.attributes in
+      seen (λ node. AreNamesOf (finmap.get node.attrs) shown)
+      (subst (AreNamesOf (finmap.get (named_attributes names (part_of attrs row.attrs)))) (sym (f ∙ ap (map (name_text names)) e)) are)
 
   pub value_seen : (name : ℕ) (value : Option ℕ) (part : List AttrRow) (text : Characters) → slice_get table.names name ≡ Some text → StandOnce table.names → part ≡ part_of attrs row.attrs → value ≡ option_map (λ row. row.value) (find (λ row. row.name == name) part) → IfSome (slice_get table.nodes i) (λ node. option_map (text_of table.names) value ≡ finmap.get node.attrs text)
   value_seen name value part text at once e f =

@@ -2,13 +2,14 @@
 use Rattle.std.proofs.Common.{◌≡◌, ℕ, ◌+◌, ◌<◌, ◌≤◌, List, [], ◌∷◌, ◌++◌, map, length, take, get_or, Some, IfSome, option_map, slice_get, sym, ap, ◌∙◌, subst, refl, arith, length-append}
 use Rattle.std.proofs.lemmas.List.{map-append, take_more}
 use Rattle.std.proofs.lemmas.Option.{slice_get-map, slice_get_read}
-use Rattle.scene_model.proofs.Lists.{each_weaker, each-append}
+use Rattle.scene_model.proofs.Lists.{each_weaker}
 use Rattle.dom_tree.specs.declared.links.Link.{Link}
 use Rattle.dom_tree.specs.declared.links.LinkRow.{LinkRow}
 use Rattle.dom_tree.specs.Kept.{part_of}
 use Rattle.dom_tree.specs.Links.{AreWithin, link_seen}
 use Rattle.dom_tree.proofs.ColumnLemmas.{part_kept, part_last}
 use Rattle.dom_tree.proofs.Places.{each_at}
+use Rattle.base_model.proofs.Lists.{each-append}
 
 seen_kept : (flat more : List ℕ) (rows : List LinkRow) → AreWithin flat rows → map (link_seen (flat ++ more)) rows ≡ map (link_seen flat) rows
 seen_kept flat more [] are = refl

@@ -19,6 +19,7 @@ use Rattle.scene_model.proofs.Numbers.{is_in}
 use Rattle.dom_tree.specs.declared.labels.Label.{Label}
 use Rattle.dom_tree.specs.declared.links.Link.{Link}
 use Rattle.dom_tree.specs.Classes.{list_of}
+use Rattle.dom_tree.specs.ElementNames.{AreNamesOf}
 use Rattle.dom_tree.specs.Kept.{Table, text_of}
 use Rattle.dom_tree.specs.Labels.{IsLabel, class_words, id_text}
 use Rattle.dom_tree.specs.Links.{link_of}
@@ -88,6 +89,14 @@ module _ (table : Table) (links : List Link) (before after : List ℕ) (labels :
       let (node, at, e) = item (λ node. value ≡ finmap.get node.attrs name) h in
       e ∙ sym (ap (option_and_then (λ (e : Element). finmap.get e.attrs name)) (found node at))
 
+  pub attribute_names_are : (shown : List Characters) → IfSome (slice_get table.nodes (x - 1)) (λ node. AreNamesOf (finmap.get node.attrs) shown) → AreNamesOf (attribute_of now.elements x) shown
+  attribute_names_are shown h =
+      let (node, at, are) = item (λ node. AreNamesOf (finmap.get node.attrs) shown) h in
+      record {
+        exact = λ name. are.exact name ∙ sym (ap (λ o. is_some (option_and_then (λ (e : Element). finmap.get e.attrs name) o)) (found node at));
+        once = are.once;
+      }
+
   -- links
 
   so_many : length links ≡ length table.nodes
@@ -144,10 +153,11 @@ module _ (table : Table) (links : List Link) (before after : List ℕ) (labels :
         (subst (λ o. IfSome o (λ label. IfSome (slice_get table.nodes (x - 1)) (λ node. IsLabel table.names lists node label))) label_at
         (whole.labels_of.each (x - 1) (omega (arith, within.0, label_within))))
 
-    pub classes_are : list_of lists label.classes ≡ class_words (attribute_of now.elements x (chars (codes "class")))
+    pub classes_are : list_of lists label.classes ≡ class_words (attribute_of now.elements x (codes "class"))
     classes_are =
         let (node, at, is_label) = labelled in
-        is_label.classes ∙ sym (ap (λ o. class_words (option_and_then (λ (e : Element). finmap.get e.attrs (chars (codes "class"))) o)) (found node at))
+        is_label.classes ∙ (sym (ap (λ o. class_words (option_and_then (λ (e : Element). finmap.get e.attrs (chars (codes "class"))) o)) (found node at))
+        ∙ ap (λ t. class_words (attribute_of now.elements x t)) (chars-ascii (codes "class") refl))
 
     pub listed_within : IfSome label.classes (λ k. k < length lists)
     listed_within = let (node, at, is_label) = labelled in is_label.listed

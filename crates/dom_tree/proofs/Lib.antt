@@ -15,4 +15,5 @@ pub mod WordLemmas
 pub mod ClassLemmas
 pub mod LabelLemmas
 pub mod NameBitLemmas
+pub mod ElementNameLemmas
 pub mod DepthSteps

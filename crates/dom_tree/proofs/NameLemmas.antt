@@ -21,7 +21,7 @@ pub text_is : (names : List Characters) (name : ℕ) (text : Characters) → sli
 text_is names name text h = ap (λ o. unwrap_or o []) h
 
 -- two texts tie where they are equal
-tied : (a b : Characters) → eq_by_cmp (slice_cmp nat_cmp) a b ≡ bytes_eq a b
+pub tied : (a b : Characters) → eq_by_cmp (slice_cmp nat_cmp) a b ≡ bytes_eq a b
 tied a b =
     same_from_slice_cmp nat_cmp is_eq bytes_eq refl (λ _ _. refl) (λ _ _. refl) (λ x y xs ys o h. grind (arith, nat_tests)) a b _ refl
 

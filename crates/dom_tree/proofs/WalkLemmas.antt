@@ -5,11 +5,12 @@ use Rattle.std.proofs.lemmas.List.{reverse-append, reverse-reverse}
 use Rattle.std.proofs.lemmas.List.Concat.{flat_map-append}
 use Rattle.scene_model.specs.Lookups.{children}
 use Rattle.scene_model.specs.Nodes.{Node, IsNodeList, listed, subtree, tree_order}
-use Rattle.scene_model.proofs.Lists.{each_weaker, each-append}
+use Rattle.scene_model.proofs.Lists.{each_weaker}
 use Rattle.scene_model.proofs.Listed.{length-listed, each_child}
 use Rattle.scene_model.proofs.TreeOrder.{subtree-listed}
 use Rattle.dom_tree.specs.declared.links.Link.{Link}
 use Rattle.dom_tree.specs.Links.{AreLinks}
+use Rattle.base_model.proofs.Lists.{each-append}
 
 -- the subtrees of what is ahead
 abbrev pub still : List Node → List ℕ → List ℕ

@@ -2,10 +2,10 @@
 use Rattle.std.proofs.Common.{◌≡◌, ℕ, Bool, true, false, cond, ◌||◌, List, [], ◌∷◌, ◌++◌, codes, Option, Some, None, sym, ap, ◌∙◌, refl}
 use Rattle.std.specs.List.{list_any}
 use Rattle.std.specs.Option.{option_map_or}
-use Rattle.std.specs.Str.{bytes_eq, chars}
+use Rattle.std.specs.Str.{bytes_eq}
 use Rattle.std.proofs.lemmas.Slice.Eq.{bytes_eq-Decides}
+use Rattle.std.proofs.Math.Bool.{or-false}
 use Rattle.base_model.specs.Text.{same_text}
-use Rattle.stylo_base.proofs.TextLemmas.{chars-ascii}
 use Rattle.stylo_base.specs.NameList.{interned, is_among}
 use Rattle.scene_model.specs.Document.{Document}
 use Rattle.scene_model.specs.Element.{Characters}
@@ -18,12 +18,8 @@ or_same : (a b c : Bool) → ((a || b) || c) ≡ (a || (b || c))
 or_same true b c = refl
 or_same false b c = refl
 
-or_last : (a : Bool) → (a || false) ≡ a
-or_last true = refl
-or_last false = refl
-
 any-last : (p : Characters → Bool) (xs : List Characters) (x : Characters) → list_any p (xs ++ x ∷ []) ≡ (list_any p xs || p x)
-any-last p [] x = or_last (p x)
+any-last p [] x = or-false (p x)
 any-last p (y ∷ xs) x = ap (λ b. p y || b) (any-last p xs x) ∙ sym (or_same (p y) (list_any p xs) (p x))
 
 -- one that is among them changes nothing
@@ -48,7 +44,7 @@ any-interned p xs x = by (is_among x xs) refl
     by false h = any-last p xs x
 
 any-distinct : (p : Characters → Bool) (found rest : List Characters) → list_any p (distinct_from found rest) ≡ (list_any p found || list_any p rest)
-any-distinct p found [] = sym (or_last (list_any p found))
+any-distinct p found [] = sym (or-false (list_any p found))
 any-distinct p found (x ∷ rest) =
     any-distinct p (interned found x) rest ∙ (ap (λ b. b || list_any p rest) (any-interned p found x) ∙ or_same (list_any p found) (p x) (list_any p rest))
 
@@ -57,6 +53,5 @@ asked class None = refl
 asked class (Some value) = any-distinct (same_text class) [] (words value)
 
 -- a class among the words of `class`, each once
-pub class_asked : (now : Document) (x : ℕ) (class : Characters) → list_any (same_text class) (class_words (attribute_of now.elements x (chars (codes "class")))) ≡ has_class now.elements x class
-class_asked now x class =
-    asked class (attribute_of now.elements x (chars (codes "class"))) ∙ ap (λ t. option_map_or (has_word class) (attribute_of now.elements x t) false) (chars-ascii (codes "class") refl)
+pub class_asked : (now : Document) (x : ℕ) (class : Characters) → list_any (same_text class) (class_words (attribute_of now.elements x (codes "class"))) ≡ has_class now.elements x class
+class_asked now x class = asked class (attribute_of now.elements x (codes "class"))

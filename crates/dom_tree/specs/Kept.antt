@@ -31,6 +31,13 @@ part_of list span = take span.count (drop span.first list)
 abbrev pub named_pair : List Characters → AttrRow → Characters × Characters
 named_pair names row = (text_of names row.name, text_of names row.value)
 
+abbrev pub name_text : List Characters → AttrRow → Characters
+name_text names row = text_of names row.name
+
+-- the name of each row has a text
+abbrev pub HaveNames : List Characters → List AttrRow → Type 0
+HaveNames names rows = AllByRecursion (λ row. row.name < length names) rows
+
 -- the map of rows of attributes
 abbrev pub named_attributes : List Characters → List AttrRow → Attributes
 named_attributes names rows = finmap.from_entries (map (named_pair names) rows)

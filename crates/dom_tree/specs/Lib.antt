@@ -2,6 +2,7 @@ pub mod View
 pub mod Kept
 pub mod Classes
 pub mod Labels
+pub mod ElementNames
 pub mod NameBits
 pub mod Depths
 pub mod Links

@@ -1,6 +1,6 @@
 //! The class names of an element.
 
-ghost use Rattle.std.specs.Prelude.{◌≡◌, ◌<◌, IfSome, Some, encode_utf8_all, length, map, nat_eq, slice_get};
+ghost use Rattle.std.specs.Prelude.{◌≡◌, ◌<◌, ◌^◌, Some, encode_utf8_all, length, map, slice_get};
 ghost use Rattle.std.specs.List.{list_any};
 ghost use Rattle.std.specs.Str.{chars};
 ghost use Rattle.base_model.specs.Text.{same_text};
@@ -13,9 +13,45 @@ use crate::name_bits::bit_of;
 use std::marker::Model;
 use stylo_base::{Atom, Name, Names};
 
+/// A name, which is lent with the names that it is among.
+#[derive(Clone, Copy)]
+pub(crate) struct LentName<'a> {
+    pub names: &'a Names,
+    pub name: Name,
+}
+
+impl<'a> LentName<'a> {
+    /// This name, which is among these.
+    #[inline]
+    pub fn new(names: &'a Names, name: Name) -> LentName<'a>
+        ensures name { result.name ≡ name }
+        ensures names { result.names.now ≡ names.now }
+    {
+        LentName { names, name }
+    }
+
+    /// Its text.
+    #[inline]
+    pub fn text(self) -> &'a str
+        requires { self.name < length self.names.now }
+        ensures { chars result.now ≡ text_of self.entry.names.now self.entry.name }
+    {
+        self.names.text(self.name)
+    }
+
+    /// Its key.
+    #[inline]
+    pub fn key(self) -> u64
+        requires { self.name < length self.names.now }
+        ensures { result ≡ key_of (encode_utf8_all (text_of self.entry.names.now self.entry.name)) }
+    {
+        self.names.key(self.name)
+    }
+}
+
 /// The class names of an element, each once, which are lent. Contracts see the list of their texts.
 #[derive(Drop)]
-pub struct ClassNames<'a> {
+pub(crate) struct ClassNames<'a> {
     names: &'a Names,
     list: &'a [Name],
 }
@@ -36,7 +72,7 @@ impl<'a> Model for ClassNames<'a> {
 impl<'a> ClassNames<'a> {
     /// The names of a list.
     #[inline]
-    pub(crate) fn new(names: &'a Names, list: &'a [Name]) -> ClassNames<'a>
+    pub fn new(names: &'a Names, list: &'a [Name]) -> ClassNames<'a>
         requires { AreNames names.now list.now }
         ensures { result ≡ map (text_of names.now) list.now }
     {
@@ -44,38 +80,27 @@ impl<'a> ClassNames<'a> {
     }
 
     /// How many there are.
+    #[inline]
     pub fn len(&self) -> usize
-        ensures { result ≡ length self.now }
+        ensures len { result ≡ length self.now }
+        ensures bound { result < 2 ^ 63 }
     {
         self.list.len()
     }
 
-    /// Whether there are none.
-    pub fn is_empty(&self) -> bool
-        ensures { result ≡ nat_eq (length self.now) 0 }
-    {
-        self.list.is_empty()
-    }
-
-    /// The text of one of them, from 0.
-    pub fn text(&self, index: usize) -> &str
+    /// One of them, from 0.
+    #[inline]
+    pub fn at(&self, index: usize) -> LentName<'a>
         requires { index < length self.now }
-        ensures { slice_get self.now index ≡ Some (chars result.now) }
+        ensures name { slice_get self.now index ≡ Some (text_of result.names.now result.name) }
+        ensures within { result.name < length result.names.now }
     {
-        self.names.text(self.list[index])
-    }
-
-    /// The key of one of them, from 0: the number by which names are compared first.
-    pub fn key(&self, index: usize) -> u64
-        requires { index < length self.now }
-        ensures { IfSome (slice_get self.now index) (λ text. result ≡ key_of (encode_utf8_all text)) }
-    {
-        self.names.key(self.list[index])
+        LentName::new(self.names, self.list[index])
     }
 
     /// Their bits.
     #[inline]
-    pub(crate) fn bits(&self) -> u64
+    pub fn bits(&self) -> u64
         ensures { result ≡ bits_of_names self.now }
     {
         let mut bits = 0;

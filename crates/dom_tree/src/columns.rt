@@ -7,9 +7,11 @@ ghost use Rattle.std.specs.FinMap as finmap;
 ghost use Rattle.std.specs.Str.{chars};
 ghost use Rattle.scene_model.specs.Element.{Characters};
 ghost use Rattle.stylo_base.specs.NameList.{StandOnce};
+ghost use Rattle.dom_tree.specs.ElementNames.{AreNamesOf};
 ghost use Rattle.dom_tree.specs.View.{node_of, states_of};
 ghost use Rattle.dom_tree.specs.Kept.{AreAttrs, IsNameOf, named_pair, text_of};
 
+use crate::attribute_names::AttributeNames;
 use crate::naming::name_attrs;
 use crate::nodes::{NodeInput, States};
 use crate::span::Span;
@@ -122,6 +124,16 @@ impl Columns {
         ensures within { result < length self.now.names }
     {
         self.rows[index].tag
+    }
+
+    /// The names of the attributes of a node.
+    #[inline]
+    pub fn attribute_names(&self, index: usize) -> AttributeNames<'_>
+        requires index { index < length self.now.nodes }
+        requires once { StandOnce self.now.names }
+        ensures { IfSome (slice_get self.now.nodes index) (λ node. AreNamesOf (finmap.get node.attrs) result) }
+    {
+        AttributeNames::new(&self.names, self.rows[index].attrs.of(&self.attrs))
     }
 
     /// The value of the attribute of a node with that name, if it has one. A text without a name is

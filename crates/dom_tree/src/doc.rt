@@ -9,12 +9,15 @@ ghost use Rattle.scene_model.specs.Lookups.{IsElement, attribute_of, attributes_
 ghost use Rattle.scene_model.specs.Document.{document_of};
 ghost use Rattle.scene_model.specs.Valid.{IsValid};
 ghost use Rattle.stylo_base.specs.StateView.{state_seen};
+ghost use Rattle.dom_tree.specs.ElementNames.{AreNamesOf, names_of};
 ghost use Rattle.dom_tree.specs.Labels.{class_words};
 ghost use Rattle.dom_tree.specs.NameBits.{HasNameBits};
 
+use crate::attribute_names::AttributeNames;
 use crate::class_lists::ClassLists;
 use crate::class_names::ClassNames;
 use crate::columns::Columns;
+use crate::element_names::ElementNames;
 use crate::labels::{Label, label_nodes};
 use crate::links::Links;
 use crate::name_bits::{bit_if_some, bit_of};
@@ -210,15 +213,39 @@ impl Doc {
 
     /// The words of the `class` attribute of `x`, each once.
     #[inline]
-    pub fn class_names(&self, x: u32) -> ClassNames<'_>
+    fn class_names(&self, x: u32) -> ClassNames<'_>
         requires { IsElement self.now.elements x }
-        ensures { result ≡ class_words (attribute_of self.now.elements x (chars (codes "class"))) }
+        ensures { result ≡ class_words (attribute_of self.now.elements x (codes "class")) }
     {
         self.lists.of(self.labels[x as usize - 1].classes)
     }
 
-    /// The bits of the names of `x`: of its tag, of its id, if it has one, and of each of its classes. Where that
-    /// of a name is not set, it has no such tag, id or class.
+    /// The names of `x`: its tag, its id, if it has one that is not empty, and its classes, each once. It
+    /// takes no memory.
+    #[inline]
+    pub fn names(&self, x: u32) -> ElementNames<'_>
+        requires { IsElement self.now.elements x }
+        ensures { result ≡ names_of self.now.elements x }
+    {
+        ElementNames::new(
+            self.columns.names(),
+            self.columns.tag(x as usize - 1),
+            self.labels[x as usize - 1].id,
+            self.class_names(x),
+        )
+    }
+
+    /// The names of the attributes of `x`, each once. It takes no memory.
+    #[inline]
+    pub fn attribute_names(&self, x: u32) -> AttributeNames<'_>
+        requires { IsElement self.now.elements x }
+        ensures { AreNamesOf (attribute_of self.now.elements x) result }
+    {
+        self.columns.attribute_names(x as usize - 1)
+    }
+
+    /// The bits of the names of `x`: of its tag, of its id, if it has one, and of each of its classes, and no
+    /// others. Where that of a name is not set, it has no such tag, id or class.
     pub fn name_bits(&self, x: u32) -> u64
         requires { IsElement self.now.elements x }
         ensures { HasNameBits self.now.elements x result }
@@ -227,18 +254,6 @@ impl Doc {
         let tag = bit_of(names, self.columns.tag(x as usize - 1));
         let id = bit_if_some(names, self.labels[x as usize - 1].id);
         tag | id | self.class_names(x).bits()
-    }
-
-    /// Whether `x` has this id. An empty one is none.
-    pub fn has_id(&self, x: u32, id: &str) -> bool
-        requires { IsElement self.now.elements x }
-        ensures { result ≡ option_map_or (λ value. not (is_empty_text value) && same_text value (chars id.now))
-            (attribute_of self.now.elements x (codes "id")) false }
-    {
-        match self.labels[x as usize - 1].id {
-            Some(name) => self.columns.names().text(name) == id,
-            None => false,
-        }
     }
 
     /// Whether `x` has the id that this atom is. An empty one is none.

@@ -1,11 +1,13 @@
 //! The document: the list of nodes that it is made of, and its elements with their look-ups.
 #![tactic(auto)]
 
+mod attribute_names;
 mod class_lists;
 mod class_names;
 mod columns;
 mod depths;
 mod doc;
+mod element_names;
 mod labels;
 mod links;
 mod name_bits;
@@ -17,8 +19,9 @@ mod start;
 mod type_places;
 mod words;
 
-pub use class_names::ClassNames;
+pub use attribute_names::AttributeNames;
 pub use doc::Doc;
+pub use element_names::{ElementNames, NameKind};
 pub use name_bits::bit_of_key;
 pub use nodes::{Attr, NodeInput, NodeList, States};
 pub use words::has_word;

@@ -13,13 +13,6 @@ pub(crate) struct Span {
 }
 
 impl Span {
-    /// The part of no items.
-    pub fn empty() -> Span
-        ensures { result ≡ record { first = 0; count = 0 } }
-    {
-        Span { first: 0, count: 0 }
-    }
-
     /// The part that begins at `first`. There are fewer than 2^32 items in a list: more are
     /// refused as if out of memory.
     pub fn new(first: usize, count: usize) -> Result<Span, NoMemory>

@@ -3,6 +3,7 @@ use Rattle.std.proofs.Common.{◌≡◌, ◌≤◌, ◌&&◌, nat_le, List, leng
 use Rattle.std.proofs.lemmas.Bool.Decides.{nat_tests}
 use Rattle.std.proofs.lemmas.Option.{same_Some}
 use Rattle.std.specs.Prelude.{codes}
+use Rattle.std.proofs.lemmas.Bool.{and_parts}
 use Rattle.serde_json.specs.Data.{Data, null, boolean, number, string, array, object, Items, Members}
 use Rattle.serde_json.specs.Find.{get, get_member, as_array, as_object}
 use Rattle.base_model.specs.Limits.{element_limit, sheet_limit}
@@ -92,18 +93,14 @@ pub checked : {A : Type 0} (p : A → Bool) (o : Option A) (a : A) → option_an
 checked p None a e = absurd (cc)
 checked p (Some x) a e = passed (p x) p x a refl e
 
-pub both : (a b : Bool) → (a && b) ≡ true → (a ≡ true) × (b ≡ true)
-both true b e = (refl, e)
-both false b e = absurd (cc)
-
 pub job_fits : (d : Data) (job : Job) → job_within d ≡ Some job → length job.nodes ≤ element_limit
 job_fits d job e =
-    let within = both (are_nodes_within (node_items d) job.nodes) (are_sheets_within job.sheets) (checked (λ (j : Job). are_nodes_within (node_items d) j.nodes && are_sheets_within j.sheets) (job_from d) job e) in
-    let few = (both (nat_le (length job.nodes) element_limit) _ within.0).0 in
+    let within = and_parts (are_nodes_within (node_items d) job.nodes) (are_sheets_within job.sheets) (checked (λ (j : Job). are_nodes_within (node_items d) j.nodes && are_sheets_within j.sheets) (job_from d) job e) in
+    let few = (and_parts (nat_le (length job.nodes) element_limit) _ within.0).0 in
     grind (arith, nat_tests)
 
 pub job_few : (d : Data) (job : Job) → job_within d ≡ Some job → length job.sheets ≤ sheet_limit
 job_few d job e =
-    let within = both (are_nodes_within (node_items d) job.nodes) (are_sheets_within job.sheets) (checked (λ (j : Job). are_nodes_within (node_items d) j.nodes && are_sheets_within j.sheets) (job_from d) job e) in
-    let few = (both (nat_le (length job.sheets) sheet_limit) _ within.1).0 in
+    let within = and_parts (are_nodes_within (node_items d) job.nodes) (are_sheets_within job.sheets) (checked (λ (j : Job). are_nodes_within (node_items d) j.nodes && are_sheets_within j.sheets) (job_from d) job e) in
+    let few = (and_parts (nat_le (length job.sheets) sheet_limit) _ within.1).0 in
     grind (arith, nat_tests)

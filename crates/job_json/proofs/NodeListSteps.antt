@@ -3,6 +3,7 @@ use Rattle.std.proofs.Common.{◌≡◌, ℕ, ◌+◌, ◌<◌, ◌≤◌, nat_l
 use Rattle.std.proofs.lemmas.Bool.Decides.{nat_tests}
 use Rattle.std.proofs.lemmas.Option.{same_Some}
 use Rattle.std.specs.Prelude.{codes}
+use Rattle.std.proofs.lemmas.Bool.{and_right, and_left}
 use Rattle.serde_json.specs.Data.{Data}
 use Rattle.serde_json.specs.Find.{get, as_array}
 use Rattle.serde_json.specs.View.{items_of}
@@ -14,7 +15,7 @@ use Rattle.job_json.specs.Within.{nodes_within}
 use Rattle.job_json.specs.Within.{node_within, nodes_in}
 use Rattle.job_json.specs.declared.node_list.Nodes.{Nodes}
 use Rattle.job_json.specs.Kept.{AreNodesOf, AreGoodNodes, HasNodes, IsAppended, flat_nodes, nodes_or_none}
-use Rattle.job_json.proofs.SheetSteps.{none_kept, and_first, and_last}
+use Rattle.job_json.proofs.SheetSteps.{none_kept}
 
 abbrev cons_all : Option Node → Option (List Node) → Option (List Node)
 cons_all first rest = option_and_then (λ n. option_and_then (λ l. Some (n ∷ l)) rest) first
@@ -99,13 +100,13 @@ module _ (ds : List Data) (d : Data) (more : List Data) where
       let count : length l ≡ length (ds ++ d ∷ more) = length-nodes_from 0 (ds ++ d ∷ more) l (sym (few_some ds d more) ∙ e) in
       let long : length (ds ++ d ∷ more) ≡ length ds + (length more + 1) = length-append ds (d ∷ more) ∙ omega arith in
       let past : nat_le (length l) element_limit ≡ false = grind (arith, nat_tests) in
-      and_first (nat_le (length l) element_limit) _ past)
+      and_left (nat_le (length l) element_limit) _ past)
 
   no_node_there : node_at (length ds) d ≡ None ⊎ are_attrs_within (get (codes "attrs") d) ≡ false → nodes_within (items_of (ds ++ d ∷ more)) ≡ None
   no_node_there (inl none) =
       ap (option_and_then (λ l. cond (are_nodes_within (items_of (ds ++ d ∷ more)) l) (Some l) None)) (from_all ∙ (ap (λ o. join (nodes_from 0 (items_of ds)) (cons_all o (nodes_from (length ds + 1) (items_of more)))) none ∙ join_no_first (nodes_from 0 (items_of ds)) (nodes_from (length ds + 1) (items_of more))))
   no_node_there (inr wide) =
-      let past : are_items_within (items_of (ds ++ d ∷ more)) ≡ false = are_items_within-append ds (d ∷ more) ∙ and_last (are_items_within (items_of ds)) _ (and_first (are_attrs_within (get (codes "attrs") d)) (are_items_within (items_of more)) wide) in
+      let past : are_items_within (items_of (ds ++ d ∷ more)) ≡ false = are_items_within-append ds (d ∷ more) ∙ and_right (are_items_within (items_of ds)) _ (and_left (are_attrs_within (get (codes "attrs") d)) (are_items_within (items_of more)) wide) in
       none_kept (are_nodes_within (items_of (ds ++ d ∷ more))) (nodes_of (items_of (ds ++ d ∷ more))) (λ l e. middle (nat_le (length l) element_limit) (are_items_within (items_of (ds ++ d ∷ more))) (are_depths_within l) past)
 
 -- ---- a node after others

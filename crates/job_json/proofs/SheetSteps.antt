@@ -5,6 +5,7 @@ use Rattle.std.proofs.lemmas.List.{length_push}
 use Rattle.std.proofs.lemmas.Bool.Decides.{nat_tests}
 use Rattle.std.proofs.lemmas.Option.{same_Some}
 use Rattle.std.specs.List.{list_all}
+use Rattle.std.proofs.lemmas.Bool.{and_right, and_left, and_parts}
 use Rattle.serde_json.specs.Data.{Data, array}
 use Rattle.serde_json.specs.Find.{as_array}
 use Rattle.serde_json.specs.View.{items_of}
@@ -41,16 +42,8 @@ pub none_kept : {A : Type 0} (p : A → Bool) (o : Option A) → ((a : A) → o 
 none_kept p None h = refl
 none_kept p (Some a) h = rw (h a refl) refl
 
-pub and_last : (a b : Bool) → b ≡ false → (a && b) ≡ false
-and_last true b e = e
-and_last false b e = refl
-
-pub and_first : (a b : Bool) → a ≡ false → (a && b) ≡ false
-and_first true b e = absurd (cc)
-and_first false b e = refl
-
 not_all : (p : SheetInput → Bool) (l : List SheetInput) (s : SheetInput) (r : List SheetInput) → p s ≡ false → list_all p (l ++ s ∷ r) ≡ false
-not_all p l s r e = list_all-append p l (s ∷ r) ∙ and_last (list_all p l) (p s && list_all p r) (and_first (p s) (list_all p r) e)
+not_all p l s r e = list_all-append p l (s ∷ r) ∙ and_right (list_all p l) (p s && list_all p r) (and_left (p s) (list_all p r) e)
 
 -- the sheets of items after others, where there are any
 split_all : (a : List SheetInput) (s : SheetInput) (b : Option (List SheetInput)) (l : List SheetInput) → join (Some a) (cons_all (Some s) b) ≡ Some l → (r : List SheetInput) × (l ≡ a ++ s ∷ r)
@@ -63,27 +56,23 @@ too_many a (Some s) b l some e =
     let (r, is) = split_all a s b l e in
     let long : length l ≡ length a + (length r + 1) = ap length is ∙ (length-append a (s ∷ r) ∙ omega arith) in
     let past : nat_le (length l) sheet_limit ≡ false = grind (arith, nat_tests) in
-    and_first (nat_le (length l) sheet_limit) (list_all is_text_within l) past
+    and_left (nat_le (length l) sheet_limit) (list_all is_text_within l) past
 
 too_long : (a : List SheetInput) (s : SheetInput) (b : Option (List SheetInput)) (l : List SheetInput) → is_text_within s ≡ false → join (Some a) (cons_all (Some s) b) ≡ Some l → are_sheets_within l ≡ false
 too_long a s b l long e =
     let (r, is) = split_all a s b l e in
-    and_last (nat_le (length l) sheet_limit) (list_all is_text_within l) (ap (list_all is_text_within) is ∙ not_all is_text_within a s r long)
+    and_right (nat_le (length l) sheet_limit) (list_all is_text_within l) (ap (list_all is_text_within) is ∙ not_all is_text_within a s r long)
 
 join_no_first : (a b : Option (List SheetInput)) → join a (cons_all None b) ≡ None
 join_no_first None b = refl
 join_no_first (Some l) b = refl
-
-both_true : (a b : Bool) → (a && b) ≡ true → b ≡ true
-both_true true b e = e
-both_true false b e = absurd (cc)
 
 -- one more sheet within its limit, where there is room
 one_more : (a : List SheetInput) (s : SheetInput) → length a < sheet_limit → are_sheets_within a ≡ true → is_text_within s ≡ true → are_sheets_within (a ++ s ∷ []) ≡ true
 one_more a s few within fits =
     let count : length (a ++ s ∷ []) ≡ length a + 1 = length_push a s in
     let room : nat_le (length (a ++ s ∷ [])) sheet_limit ≡ true = grind (arith, nat_tests) in
-    let texts : list_all is_text_within a ≡ true = both_true (nat_le (length a) sheet_limit) _ within in
+    let texts : list_all is_text_within a ≡ true = (and_parts (nat_le (length a) sheet_limit) _ within).1 in
     rw (room, list_all-append is_text_within a (s ∷ []), texts, fits) refl
 
 -- ---- a sheet after others

@@ -3,6 +3,7 @@ use Rattle.std.proofs.Common.{◌≡◌, ℕ, ◌<◌, ◌^◌, ◌==◌, ◌&&�
 use Rattle.std.proofs.lemmas.Bool.Decides.{nat_tests}
 use Rattle.std.specs.Option.{SomeIff}
 use Rattle.std.specs.Float.{binary64, float_is_finite}
+use Rattle.std.proofs.lemmas.Bool.{not-true, and_parts}
 use Rattle.fast_float.specs.Text.{Parts, scan, digits_of, nearest, IsInteger}
 use Rattle.serde_json.specs.Data.{Num}
 use Rattle.serde_json.specs.Find.{as_u64}
@@ -24,20 +25,12 @@ no_whole s signed =
     let p = scan (drop 1 s) in
     rw signed (negative_no_whole p _ _ (float_of true p) refl (float_no_whole true p _ refl))
 
-both : (a b : Bool) → (a && b) ≡ true → (a ≡ true) × (b ≡ true)
-both true b e = (refl, e)
-both false b e = absurd (cc)
-
-not_true : (b : Bool) → not b ≡ true → b ≡ false
-not_true true e = absurd (cc)
-not_true false e = refl
-
 integer_fits : (p : Parts) → (is_integer p && nat_lt (digits_of p) (2 ^ 64)) ≡ true → IsInteger p × (digits_of p < 2 ^ 64)
 integer_fits p e =
-    let outer = both (is_integer p) (nat_lt (digits_of p) (2 ^ 64)) e in
-    let inner = both (nat_lt 0 (length p.whole) && not p.point) (length p.exponent == 0) outer.0 in
-    let first = both (nat_lt 0 (length p.whole)) (not p.point) inner.0 in
-    ((grind (arith, nat_tests), not_true p.point first.1, grind (arith, nat_tests)), grind (arith, nat_tests))
+    let outer = and_parts (is_integer p) (nat_lt (digits_of p) (2 ^ 64)) e in
+    let inner = and_parts (nat_lt 0 (length p.whole) && not p.point) (length p.exponent == 0) outer.0 in
+    let first = and_parts (nat_lt 0 (length p.whole)) (not p.point) inner.0 in
+    ((grind (arith, nat_tests), not-true p.point first.1, grind (arith, nat_tests)), grind (arith, nat_tests))
 
 fits_integer : (p : Parts) → IsInteger p → digits_of p < 2 ^ 64 → (is_integer p && nat_lt (digits_of p) (2 ^ 64)) ≡ true
 fits_integer p h less =

@@ -2,6 +2,7 @@
 use Rattle.std.proofs.Common.{◌≡◌, ℕ, ◌-◌, ◌<◌, List, ◌∷◌, length, Bool, true, false, ◌&&◌, nat_lt, Option, Some, None, refl, ap, ap₂, ◌∙◌, arith}
 use Rattle.std.proofs.lemmas.Bool.Decides.{nat_tests}
 use Rattle.std.specs.Prelude.{is_some}
+use Rattle.std.proofs.lemmas.Bool.{and_parts}
 use Rattle.json.specs.Token.{Token}
 use Rattle.json.specs.Json.{parse_map}
 use Rattle.serde_json.specs.Data.{Data, array, object, Items, Members, no_members}
@@ -11,10 +12,6 @@ use Rattle.json_reader.specs.Taken.{taken, items_taken, members_taken}
 use Rattle.json_reader.specs.Kept.{KeepsItems, KeepsMembers}
 use Rattle.json_reader.specs.Parts.{begins_array, begins_object, opens_array, opens_object}
 use Rattle.json_reader.proofs.First.{taken_array, taken_object, taken_array_too_deep, taken_object_too_deep, begins, never}
-
-and_true : (a b : Bool) → (a && b) ≡ true → (a ≡ true) × (b ≡ true)
-and_true true b e = (refl, e)
-and_true false b e = absurd (cc)
 
 -- ---- arrays
 
@@ -48,7 +45,7 @@ other_array keeps s depth t ts r d shut e =
     none_kept_array keeps s (as_array d) ((begins depth t ts r d e).array ∙ no_array depth t ts r d (begins_array t) refl shut e)
 
 open_array : (depth : ℕ) (t : Token) → opens_array depth t ≡ true → (t ≡ Token.begin_array) × (0 < depth)
-open_array depth t e = let both = and_true _ _ e in (is_begin_array t both.0, grind (arith, nat_tests))
+open_array depth t e = let both = and_parts _ _ e in (is_begin_array t both.0, grind (arith, nat_tests))
 
 module _ (depth : ℕ) (t : Token) (ts : List Token) (opens : opens_array depth t ≡ true) where
   taken_opened_array : taken depth (t ∷ ts) ≡ parse_map array (items_taken (depth - 1) (length ts) ts)
@@ -93,7 +90,7 @@ other_object keeps s depth t ts r d shut e =
     none_kept_object keeps s (as_object d) ((begins depth t ts r d e).object ∙ no_object depth t ts r d (begins_object t) refl shut e)
 
 open_object : (depth : ℕ) (t : Token) → opens_object depth t ≡ true → (t ≡ Token.begin_object) × (0 < depth)
-open_object depth t e = let both = and_true _ _ e in (is_begin_object t both.0, grind (arith, nat_tests))
+open_object depth t e = let both = and_parts _ _ e in (is_begin_object t both.0, grind (arith, nat_tests))
 
 module _ (depth : ℕ) (t : Token) (ts : List Token) (opens : opens_object depth t ≡ true) where
   taken_opened_object : taken depth (t ∷ ts) ≡ parse_map object (members_taken (depth - 1) no_members (length ts) ts)

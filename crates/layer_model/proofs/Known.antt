@@ -1,23 +1,12 @@
 -- Which names are in a list, and lists in which no name stands twice.
 use Rattle.std.proofs.Common.{◌≡◌, ℕ, zero, suc, ◌+◌, Bool, true, false, cond, ◌||◌, List, [], ◌∷◌, ◌++◌, ◌⊎◌, inl, inr, Some, None, not, nat_lt, filter, flat_map, length, slice_get, refl, sym, ap, ◌∙◌, subst, arith, append_assoc, append-nil}
-use Rattle.std.proofs.lemmas.Bool.{false≢true, false_from_ne_true, cond-true, cond-false}
+use Rattle.std.proofs.lemmas.Bool.{false≢true, false_from_ne_true, cond-true, cond-false, or_cases, or_right, or_left}
 use Rattle.std.proofs.lemmas.Bool.Decides.{nat_tests}
 use Rattle.std.specs.List.{position, prefix_len}
 use Rattle.std.proofs.lemmas.List.Folds.{list_any-append}
 use Rattle.layer_model.specs.Name.{LayerName, same_name}
 use Rattle.layer_model.specs.Order.{is_known, with_names, place_in, rank_in}
 use Rattle.layer_model.proofs.Names.{same_name-Decides, same_name-refl, same_name_equiv}
-
-either : (a b : Bool) → (a || b) ≡ true → (a ≡ true) ⊎ (b ≡ true)
-either true b h = inl refl
-either false b h = inr h
-
-or_right : (a b : Bool) → b ≡ true → (a || b) ≡ true
-or_right true b h = refl
-or_right false b h = h
-
-or_left : (a b : Bool) → a ≡ true → (a || b) ≡ true
-or_left a b h = ap (λ x. x || b) h
 
 -- the first of a list is in it
 pub known-first : (name : LayerName) (names : List LayerName) → is_known (name ∷ names) name ≡ true
@@ -29,7 +18,7 @@ known-later other name names h = or_right (same_name name other) (is_known names
 -- what is in a list is its first, or among the rest
 pub known-cases : (other name : LayerName) (names : List LayerName) → is_known (other ∷ names) name ≡ true → (name ≡ other) ⊎ (is_known names name ≡ true)
 known-cases other name names h =
-    elim (either (same_name name other) (is_known names name) h) [
+    elim (or_cases (same_name name other) (is_known names name) h) [
       | inl e ↦ inl ((same_name-Decides name other).0 e)
       | inr k ↦ inr k
     ]
@@ -47,7 +36,7 @@ pub known-right : (xs ys : List LayerName) (name : LayerName) → is_known ys na
 known-right xs ys name h = list_any-append (same_name name) xs ys ∙ or_right (is_known xs name) (is_known ys name) h
 
 pub known-either : (xs ys : List LayerName) (name : LayerName) → is_known (xs ++ ys) name ≡ true → (is_known xs name ≡ true) ⊎ (is_known ys name ≡ true)
-known-either xs ys name h = either (is_known xs name) (is_known ys name) (sym (list_any-append (same_name name) xs ys) ∙ h)
+known-either xs ys name h = or_cases (is_known xs name) (is_known ys name) (sym (list_any-append (same_name name) xs ys) ∙ h)
 
 -- in the lists of a list of names
 

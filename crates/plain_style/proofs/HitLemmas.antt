@@ -5,14 +5,10 @@ use Rattle.std.proofs.lemmas.Bool.Decides.{Decides-eqb, Decides-and, Decides-lik
 use Rattle.base_model.specs.Specificity.{Specificity}
 use Rattle.plain_style.specs.declared.hits.Hit.{Hit}
 use Rattle.plain_style.specs.contracts.hits.HitPartialEq.TheImpl.{ghosts}
+use Rattle.base_model.proofs.Specificities.{same_counts}
 
 abbrev counted : ℕ → ℕ → ℕ → Specificity
 counted ids classes types = record { ids = ids; classes = classes; types = types }
-
-specificities_same : (s t : Specificity) → s.ids ≡ t.ids → s.classes ≡ t.classes → s.types ≡ t.types → s ≡ t
-specificities_same s t ids classes types =
-    ap (λ x. counted x s.classes s.types) ids
-    ∙ (ap (λ x. counted t.ids x s.types) classes ∙ ap (λ x. counted t.ids t.classes x) types)
 
 abbrev hit_of : ℕ → Specificity → Hit
 hit_of rule specificity = record { rule = rule; specificity = specificity }
@@ -22,7 +18,7 @@ parts_same a b rule specificity = ap (λ x. hit_of x a.specificity) rule ∙ ap 
 
 pub hit_eq-Decides : (a b : Hit) → Decides (ghosts.eq a b) (a ≡ b)
 hit_eq-Decides a b =
-    Decides-like (ghosts.eq a b) (λ p. parts_same a b p.0 (specificities_same a.specificity b.specificity p.1.0 p.1.1.0 p.1.1.1)) (λ e. (
+    Decides-like (ghosts.eq a b) (λ p. parts_same a b p.0 (same_counts a.specificity b.specificity p.1.0 p.1.1.0 p.1.1.1)) (λ e. (
       ap (λ (h : Hit). h.rule) e,
       (
         ap (λ (h : Hit). h.specificity.ids) e,

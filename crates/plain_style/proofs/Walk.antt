@@ -1,13 +1,10 @@
 -- The style of an element over the one that is known of its parent.
-use Rattle.std.proofs.Common.{◌≡◌, ℕ, ℤ, ◌+◌, ◌<◌, ◌==◌, ◌||◌, Bool, true, false, List, [], ◌∷◌, ◌++◌, map, length, take, drop, get_or, Option, Some, None, Result, Ok, Err, IfOk, refl, sym, ap, ◌∙◌, take-append-drop, add-one}
+use Rattle.std.proofs.Common.{◌≡◌, ℕ, ℤ, ◌+◌, ◌<◌, Bool, true, false, List, [], ◌∷◌, ◌++◌, map, length, take, get_or, Option, Some, None, Result, Ok, Err, IfOk, refl, sym, ap, ◌∙◌, add-one}
 use Rattle.std.proofs.lemmas.List.{map-append}
-use Rattle.std.proofs.Math.Seq.{drop-cons, take-suc}
+use Rattle.std.proofs.Math.Seq.{take-suc}
 use Rattle.scene_model.specs.Element.{Element}
-use Rattle.scene_model.specs.Lookups.{parent_of, numbers, attribute_of, IsElement}
+use Rattle.scene_model.specs.Lookups.{parent_of, attribute_of}
 use Rattle.scene_model.specs.Valid.{IsValid}
-use Rattle.scene_model.proofs.Numbers.{is_in, same_number}
-use Rattle.scene_model.proofs.Found.{is_element-numbers}
-use Rattle.scene_model.proofs.ParentBefore.{parent_before}
 use Rattle.value_model.specs.Style.{Style, initial_size, initial_style}
 use Rattle.cascade_model.specs.Key.{Matched}
 use Rattle.sheet_model.specs.Sources.{Sources}
@@ -55,27 +52,6 @@ over_initial applied first size (Ok style) initial initially made =
 pub styled_by : {E : Type 0} (applied : List Matched) (doc : List Element) (sources : Sources) (x : ℕ) (is_root : Bool) (over : Style) (size : ℤ) (result : Result Style E) → applied ≡ matching doc sources x → IfOk result (λ style. style ≡ cascaded is_root over size applied) → IfOk result (λ style. style ≡ cascaded is_root over size (matching doc sources x))
 styled_by applied doc sources x is_root over size (Err e) is made = tt
 styled_by applied doc sources x is_root over size (Ok style) is made = made ∙ ap (cascaded is_root over size) is
-
--- the numbers in tree order, around the k-th
-split_order : (doc : List Element) (order : List ℕ) (k : ℕ) → order ≡ numbers doc → k < length order → numbers doc ≡ take k order ++ get_or order k 0 ∷ drop (k + 1) order
-split_order doc order k e below =
-    sym e ∙ sym (take-append-drop k order) ∙ ap (λ l. take k order ++ l) (drop-cons order k 0 below ∙ ap (λ m. get_or order k 0 ∷ drop m order) (sym (add-one k)))
-
-or_true : (b rest : Bool) → rest ≡ true → (b || rest) ≡ true
-or_true true rest h = refl
-or_true false rest h = h
-
-among_split : (x : ℕ) (before after : List ℕ) → is_in x (before ++ x ∷ after) ≡ true
-among_split x [] after = ap (λ b. b || is_in x after) (same_number x)
-among_split x (y ∷ before) after = or_true (y == x) (is_in x (before ++ x ∷ after)) (among_split x before after)
-
-pub element_in_order : (doc : List Element) (order : List ℕ) (k : ℕ) → order ≡ numbers doc → k < length order → IsElement doc (get_or order k 0)
-element_in_order doc order k e below =
-    is_element-numbers doc (get_or order k 0) ∙ ap (is_in (get_or order k 0)) (split_order doc order k e below) ∙ among_split (get_or order k 0) (take k order) (drop (k + 1) order)
-
-pub parent_in_order : (doc : List Element) (order : List ℕ) (k p : ℕ) → IsValid doc → order ≡ numbers doc → k < length order → parent_of doc (get_or order k 0) ≡ Some p → is_in p (take k order) ≡ true
-parent_in_order doc order k p valid e below parent =
-    parent_before doc (take k order) (get_or order k 0) (drop (k + 1) order) p valid (split_order doc order k e below) parent
 
 pub styled_more : {A : Type 0} (value : A → Style) (style : ℕ → Style) (items new : List A) (last : A) (order : List ℕ) (k : ℕ) → k < length order → new ≡ items ++ last ∷ []
     → map value items ≡ map style (take k order) → value last ≡ style (get_or order k 0) → map value new ≡ map style (take (k + 1) order)

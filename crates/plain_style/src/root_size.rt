@@ -12,6 +12,7 @@ ghost use Rattle.plain_style.specs.Filters.{AreFilters};
 use crate::hits::hits_into;
 use crate::inputs::Inputs;
 use crate::styled::styled;
+use property_table::initial_size;
 use style_value::{Style, StyleDraft};
 use stylo_base::{Fixed, NoMemory};
 
@@ -51,11 +52,4 @@ pub(crate) fn root_style(inputs: &Inputs<'_>, number: u32) -> Result<StyleDraft,
         initial_size(),
         true,
     )
-}
-
-/// The initial `font-size`: 16 pixels.
-fn initial_size() -> Fixed
-    ensures { result ≡ initial_size }
-{
-    Fixed::clamp(16_000)
 }

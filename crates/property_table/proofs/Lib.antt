@@ -4,4 +4,3 @@ pub mod ValueLemmas
 pub mod ColumnLemmas
 pub mod RowLemmas
 pub mod NameLemmas
-pub mod NumberLemmas

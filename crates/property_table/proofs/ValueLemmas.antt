@@ -2,7 +2,6 @@
 use Rattle.std.proofs.Common.{◌≡◌, ap}
 use Rattle.std.specs.Bool.{Decides}
 use Rattle.std.proofs.lemmas.Bool.Decides.{Decides-int_eq}
-use Rattle.std.proofs.lemmas.Slice.Eq.{bytes_eq-Decides}
 use denote.Enum.Bare.{same_true, true_same}
 use Rattle.value_model.specs.Value as model
 use Rattle.property_table.specs.View.{value_of}
@@ -10,26 +9,8 @@ use Rattle.property_table.specs.declared.value.Value.{Value}
 use Rattle.property_table.specs.declared.value.Value.TheVariants.{Keyword, Color, Pixels, Percent, Number, Em, Rem}
 use Rattle.property_table.specs.contracts.keyword.Keyword.{the_type}
 use Rattle.property_table.specs.contracts.value.ValuePartialEq.TheImpl.{ghosts}
-use Rattle.property_table.proofs.ColorLemmas.{same_color-Decides, color_of-same, color_eq-Decides}
+use Rattle.property_table.proofs.ColorLemmas.{color_of-same, color_eq-Decides}
 use Rattle.property_table.proofs.WordLemmas.{word_of-same}
-
--- the test decides whether two values of the model are equal
-pub same_value-Decides : (a b : model.Value) → Decides (model.same_value a b) (a ≡ b)
-same_value-Decides (model.keyword a) (model.keyword b) =
-    let same = bytes_eq-Decides a b in (λ e. ap model.keyword (same.0 e), λ e. same.1 cc)
-same_value-Decides (model.color a) (model.color b) =
-    let same = same_color-Decides a b in (λ e. ap model.color (same.0 e), λ e. same.1 cc)
-same_value-Decides (model.pixels a) (model.pixels b) =
-    let same = Decides-int_eq a b in (λ e. ap model.pixels (same.0 e), λ e. same.1 cc)
-same_value-Decides (model.percent a) (model.percent b) =
-    let same = Decides-int_eq a b in (λ e. ap model.percent (same.0 e), λ e. same.1 cc)
-same_value-Decides (model.number a) (model.number b) =
-    let same = Decides-int_eq a b in (λ e. ap model.number (same.0 e), λ e. same.1 cc)
-same_value-Decides (model.em a) (model.em b) =
-    let same = Decides-int_eq a b in (λ e. ap model.em (same.0 e), λ e. same.1 cc)
-same_value-Decides (model.rem a) (model.rem b) =
-    let same = Decides-int_eq a b in (λ e. ap model.rem (same.0 e), λ e. same.1 cc)
-same_value-Decides a b = (λ e. cc, λ e. cc)
 
 -- values that stand for one value of the model are the same
 pub value_of-same : (a b : Value) → value_of a ≡ value_of b → a ≡ b

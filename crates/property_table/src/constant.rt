@@ -1,10 +1,21 @@
 //! Values that stand in the table.
 
 ghost use Rattle.std.specs.Prelude.{◌≡◌};
+ghost use Rattle.value_model.specs.Style.{initial_size};
 ghost use Rattle.property_table.specs.View.{constant_of, value_of};
 
 use crate::{Color, Keyword, Value};
 use stylo_base::Fixed;
+
+/// The initial `font-size`, in thousandths of a pixel.
+pub const INITIAL_SIZE: i64 = 16_000;
+
+/// The initial `font-size`: 16 pixels.
+pub fn initial_size() -> Fixed
+    ensures { result ≡ initial_size }
+{
+    Fixed::clamp(i128::from(INITIAL_SIZE))
+}
 
 /// A value that the table names, with numbers in whole thousandths: a constant can't make a `Fixed`.
 #[derive(Clone, Copy, Debug)]

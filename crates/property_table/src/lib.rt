@@ -7,7 +7,6 @@ mod color;
 mod columns;
 mod constant;
 mod keyword;
-mod number;
 mod property;
 mod rows;
 mod value;
@@ -15,8 +14,8 @@ mod value_form;
 pub mod word;
 
 pub use color::Color;
-pub use constant::Constant;
+pub use constant::{Constant, INITIAL_SIZE, initial_size};
 pub use keyword::{KEYWORDS, Keyword};
-pub use property::{COUNT, PropId, Row, by_name, inherited, initial, label, name, standing};
+pub use property::{COUNT, PropId, Row, by_name, inherited, initial, label, standing};
 pub use value::Value;
 pub use value_form::{Rule, ValueForm};

@@ -160,13 +160,6 @@ pub fn inherited(id: PropId) -> bool
     Row::of(id).inherited
 }
 
-/// The name of the property.
-pub fn name(id: PropId) -> &'static str
-    ensures { chars result.now ≡ (row_of id).name }
-{
-    Row::of(id).name
-}
-
 /// What is printed before a value of the property: its name, a colon and a blank.
 pub fn label(id: PropId) -> &'static str
     ensures { chars result.now ≡ (row_of id).name ++ codes ": " }

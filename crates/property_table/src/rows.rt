@@ -1,6 +1,6 @@
 //! The rows of the table, in the order in which they are printed.
 
-use crate::{Color, Constant, Keyword, PropId, Row, Rule, ValueForm};
+use crate::{Color, Constant, INITIAL_SIZE, Keyword, PropId, Row, Rule, ValueForm};
 
 const BLACK: Constant = Constant::Color(Color {
     red: 0,
@@ -186,14 +186,14 @@ pub(crate) const ROWS: &[Row] = &[
         FontSize,
         "font-size",
         true,
-        Constant::Pixels(16_000),
-        Constant::Pixels(16_000),
+        Constant::Pixels(INITIAL_SIZE),
+        Constant::Pixels(INITIAL_SIZE),
         FontSize,
         &[
             ValueForm::Named("xx-small", Constant::Pixels(9_000)),
             ValueForm::Named("x-small", Constant::Pixels(10_000)),
             ValueForm::Named("small", Constant::Pixels(13_000)),
-            ValueForm::Named("medium", Constant::Pixels(16_000)),
+            ValueForm::Named("medium", Constant::Pixels(INITIAL_SIZE)),
             ValueForm::Named("large", Constant::Pixels(18_000)),
             ValueForm::Named("x-large", Constant::Pixels(24_000)),
             ValueForm::Named("xx-large", Constant::Pixels(32_000)),

@@ -5,7 +5,6 @@ use Rattle.std.specs.Ordering.{nat_cmp}
 use Rattle.std.specs.Cmp.Lexicographic.{slice_cmp}
 use Rattle.std.specs.FinMap as finmap
 use Rattle.std.specs.Fmt.{decimal}
-use Rattle.std.proofs.lemmas.Fmt.{decimal_digit}
 use Rattle.value_model.specs.Color.{opaque}
 use Rattle.value_model.specs.Value.{Value, color, pixels}
 use Rattle.value_model.specs.Table.{table, color_property}
@@ -18,6 +17,7 @@ use Rattle.custom_model.proofs.Maps.{texts-empty}
 use Rattle.value_model.specs.Printed.{declaration_texts}
 use Rattle.value_model.specs.Style.{Style, adjusted, initial_style, with_changed}
 use Rattle.report_text.specs.Lines.{element_line}
+use Rattle.base_model.proofs.Digits.{digit_1}
 
 -- a line by the texts of the properties and those of the custom ones
 abbrev line_with : ℕ → Characters → List Characters → List Characters → Characters
@@ -49,9 +49,6 @@ a_red_root : (n : ℕ) → element_line n (codes "a") (style_of (with_changed (�
 unfolding table
 a_red_root n =
     line_of n (codes "a") (with_changed (λ _. color (opaque 255 0 0)) color_property (values_at true)) (codes "color: #ff0000" ∷ codes "display: block" ∷ []) refl
-
-digit_1 : decimal 1 ≡ codes "1"
-digit_1 = decimal_digit 1 (lit< tt)
 
 a_length : (n : ℕ) → element_line n (codes "a") (style_of (with_changed (λ _. pixels (neg_ℤ (pos 1_500))) 15 (values_at false))) ≡ decimal n ++ codes " a{margin-top: -1.5px}\n"
 unfolding table

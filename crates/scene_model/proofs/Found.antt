@@ -10,6 +10,7 @@ use Rattle.scene_model.specs.Lookups.{has_number, numbers, element_at, is_elemen
 use Rattle.scene_model.specs.Ancestors.{position_of}
 use Rattle.scene_model.proofs.Lists.{filter-map, filter_same, filter_comm, each_passes}
 use Rattle.scene_model.proofs.Numbers.{is_in, copies, copies_distinct, same_number}
+use Rattle.base_model.proofs.Lists.{find_passes}
 
 -- tests over a mapped list
 
@@ -21,15 +22,7 @@ pub prefix_len-map : {X Y : Type 0} (p : Y → Bool) (f : X → Y) (xs : List X)
 prefix_len-map p f [] = refl
 prefix_len-map p f (x ∷ xs) = ap (λ n. cond (p (f x)) (1 + n) 0) (prefix_len-map p f xs)
 
-found_one : {X : Type 0} (p : X → Bool) (b : Bool) (y x : X) (o : Option X) → p y ≡ b → cond b (Some y) o ≡ Some x → (o ≡ Some x → p x ≡ true) → p x ≡ true
-found_one p true y x o e h r = cc
-found_one p false y x o e h r = r h
-
-pub find_passes : {X : Type 0} (p : X → Bool) (xs : List X) (x : X) → find p xs ≡ Some x → p x ≡ true
-find_passes p [] x h = cc
-find_passes p (y ∷ ys) x h = found_one p (p y) y x (find p ys) refl h (find_passes p ys x)
-
-found_any : {X : Type 0} (b : Bool) (x : X) (o : Option X) → (b || is_some o) ≡ is_some (cond b (Some x) o)
+pub found_any : {X : Type 0} (b : Bool) (x : X) (o : Option X) → (b || is_some o) ≡ is_some (cond b (Some x) o)
 found_any true x o = refl
 found_any false x o = refl
 

@@ -11,3 +11,4 @@ pub mod Depths
 pub mod ParentBefore
 pub mod Any
 pub mod Siblings
+pub mod InOrder

@@ -6,11 +6,8 @@ use Rattle.std.proofs.lemmas.Bool.{cond-true, eq-eqb, ne_eqb, eqb-true, false_fr
 use Rattle.std.proofs.lemmas.List.Folds.{list_any-append}
 use Rattle.std.proofs.lemmas.List.Filters.{length-filter_both}
 use Rattle.scene_model.specs.Lookups.{left_of}
+pub use Rattle.scene_model.specs.Numbers.{is_in}
 use Rattle.scene_model.proofs.Lists.{filter_nothing, filter-filter, each_weaker, each-filter}
-
--- whether a number is in a list
-abbrev pub is_in : ℕ → List ℕ → Bool
-is_in x xs = list_any (λ y. y == x) xs
 
 -- where a number is first, or the length
 abbrev pub index_in : List ℕ → ℕ → ℕ
@@ -172,9 +169,9 @@ length_from_copies (suc n) xs h c =
 
 -- what is left of a number
 
-left_more : (x y : ℕ) (xs : List ℕ) → (y == x) ≡ false → left_of x (y ∷ xs) ≡ y ∷ left_of x xs
-left_more x y xs h = rw h (ap (λ n. take n (y ∷ xs)) (one-add (prefix_len (λ z. not (z == x)) xs)))
+pub left_on : (x y : ℕ) (xs : List ℕ) → (y == x) ≡ false → left_of x (y ∷ xs) ≡ y ∷ left_of x xs
+left_on x y xs h = rw h (ap (λ n. take n (y ∷ xs)) (one-add (prefix_len (λ z. not (z == x)) xs)))
 
 pub left_of_split : (x : ℕ) (xs ys : List ℕ) → AllByRecursion (λ y. y ≢ x) xs → left_of x (xs ++ x ∷ ys) ≡ xs
 left_of_split x [] ys h = ap (λ b. take (cond (not b) (1 + prefix_len (λ y. not (y == x)) ys) 0) (x ∷ ys)) (same_number x)
-left_of_split x (y ∷ xs) ys h = left_more x y (xs ++ x ∷ ys) (differs y x h.0) ∙ ap (λ l. y ∷ l) (left_of_split x xs ys h.1)
+left_of_split x (y ∷ xs) ys h = left_on x y (xs ++ x ∷ ys) (differs y x h.0) ∙ ap (λ l. y ∷ l) (left_of_split x xs ys h.1)

@@ -1,5 +1,6 @@
 -- A parent is before its child.
-use Rattle.std.proofs.Common.{◌≡◌, ℕ, ◌+◌, ◌≤◌, ◌==◌, Bool, true, false, not, cond, ◌||◌, List, [], ◌∷◌, ◌++◌, length, Some, refl, sym, ap, ◌∙◌, arith, subst}
+use Rattle.std.proofs.Common.{◌≡◌, ℕ, ◌+◌, ◌≤◌, ◌==◌, Bool, true, false, not, cond, ◌||◌, List, [], ◌∷◌, ◌++◌, length, Some, sym, ap, ◌∙◌, arith, subst}
+use Rattle.std.proofs.lemmas.Bool.{true_from_ne_false}
 use Rattle.scene_model.specs.Element.{Element}
 use Rattle.scene_model.specs.Lookups.{numbers, parent_of}
 use Rattle.scene_model.specs.Valid.{IsValid}
@@ -26,14 +27,10 @@ index_in-ge x [] after none = omega arith
 index_in-ge x (y ∷ before) after none =
     let step = absent_bound (y == x) (is_in x before) (index_in (before ++ after) x) (length before) none (index_in-ge x before after) in omega arith
 
-known : (b : Bool) → (b ≡ false → ⊥) → b ≡ true
-known true h = refl
-known false h = absurd (h refl)
-
 -- in a document the parent of an element is one of the elements before it
 pub parent_before : (doc : List Element) (before : List ℕ) (x : ℕ) (after : List ℕ) (p : ℕ) → IsValid doc → numbers doc ≡ before ++ x ∷ after → parent_of doc x ≡ Some p → is_in p before ≡ true
 parent_before doc before x after p valid e parent =
-    known (is_in p before) (λ none.
+    true_from_ne_false (is_in p before) (λ none.
     let at_parent = position_of-numbers doc p ∙ ap (λ l. index_in l p) e in
     let at_child = position_of-numbers doc x ∙ ap (λ l. index_in l x) e in
     let far = index_in-ge p before (x ∷ after) none in

@@ -1,23 +1,21 @@
 -- The siblings of an element, and those before it.
-use Rattle.std.proofs.Common.{◌≡◌, ◌≢◌, ℕ, zero, suc, ◌+◌, ◌-◌, ◌<◌, ◌≤◌, ◌==◌, Bool, true, false, cond, not, ◌||◌, List, [], ◌∷◌, ◌++◌, length, take, Option, Some, None, slice_get, refl, sym, ap, ◌∙◌, arith, one-add, length-append, eq-eqb}
+use Rattle.std.proofs.Common.{◌≡◌, ◌≢◌, ℕ, suc, ◌+◌, ◌-◌, ◌<◌, ◌≤◌, ◌==◌, Bool, true, false, cond, not, ◌||◌, List, [], ◌∷◌, ◌++◌, length, take, Option, Some, None, slice_get, refl, sym, ap, ◌∙◌, arith, length-append, eq-eqb}
 use Rattle.std.specs.List.{AllByRecursion, prefix_len}
 use Rattle.std.proofs.lemmas.Bool.{cond-true, cond-false, false≢true}
 use Rattle.std.proofs.lemmas.List.{drop_all, nil_from_length}
 use Rattle.std.proofs.lemmas.List.Elements.{filter-append}
+use Rattle.base_model.proofs.Lists.{each-take}
 use Rattle.scene_model.specs.Element.{Element}
 use Rattle.scene_model.specs.Lookups.{is_element, IsElement, parent_of, children, beside, siblings, left_of, right_of, place_of}
 use Rattle.scene_model.specs.Valid.{IsValid}
 use Rattle.scene_model.proofs.Found.{copies-children, each_child-parent, parent_of-element}
 use Rattle.scene_model.proofs.Lists.{each_weaker, split_at}
-use Rattle.scene_model.proofs.Numbers.{is_in, in_copied, copies, same_number, differs, each_failed}
+use Rattle.scene_model.proofs.Numbers.{is_in, in_copied, copies, same_number, differs, each_failed, left_on}
 
 -- in any list
 
 pub left_here : (x y : ℕ) (xs : List ℕ) → (y == x) ≡ true → left_of x (y ∷ xs) ≡ []
 left_here x y xs h = ap (λ b. take (cond (not b) (1 + prefix_len (λ z. not (z == x)) xs) 0) (y ∷ xs)) h
-
-pub left_on : (x y : ℕ) (xs : List ℕ) → (y == x) ≡ false → left_of x (y ∷ xs) ≡ y ∷ left_of x xs
-left_on x y xs h = rw h (ap (λ n. take n (y ∷ xs)) (one-add (prefix_len (λ z. not (z == x)) xs)))
 
 left_step : (x y : ℕ) (xs : List ℕ) (b : Bool) → (y == x) ≡ b → (is_in x xs ≡ true → length (left_of x xs) < length xs) → (b || is_in x xs) ≡ true → length (left_of x (y ∷ xs)) < suc (length xs)
 left_step x y xs true e h k = omega (arith, ap length (left_here x y xs e))
@@ -26,11 +24,6 @@ left_step x y xs false e h k = omega (arith, h k, ap length (left_on x y xs e))
 left_of-shorter : (x : ℕ) (xs : List ℕ) → is_in x xs ≡ true → length (left_of x xs) < length xs
 left_of-shorter x [] h = cc
 left_of-shorter x (y ∷ xs) h = left_step x y xs (y == x) refl (left_of-shorter x xs) h
-
-each-take : (P : ℕ → Type 0) (n : ℕ) (xs : List ℕ) → AllByRecursion P xs → AllByRecursion P (take n xs)
-each-take P zero xs h = tt
-each-take P (suc n) [] h = tt
-each-take P (suc n) (x ∷ xs) h = (h.0, each-take P n xs h.1)
 
 pub each-left : (P : ℕ → Type 0) (x : ℕ) (xs : List ℕ) → AllByRecursion P xs → AllByRecursion P (left_of x xs)
 each-left P x xs h = each-take P (prefix_len (λ y. not (y == x)) xs) xs h

@@ -8,16 +8,12 @@ use Rattle.scene_model.specs.Lookups.{is_element, parent_of, children, beside, s
 use Rattle.scene_model.specs.Ancestors.{up, climb, ancestors, position_of}
 use Rattle.scene_model.specs.Valid.{IsValid}
 use Rattle.scene_model.proofs.Any.{in_start, in_middle, none-append}
-use Rattle.scene_model.proofs.Climbing.{ancestors_climb, ancestors-up, ancestors-child}
+use Rattle.scene_model.proofs.Climbing.{ancestors_climb, ancestors-up, ancestors-child, up_each}
 use Rattle.scene_model.proofs.Found.{copies-children, each_child-parent, parent_of-element}
 use Rattle.scene_model.proofs.Lists.{each_weaker}
 use Rattle.scene_model.proofs.Numbers.{is_in, copies, same_number, each_is_in, split_in, left_of_split}
 use Rattle.scene_model.proofs.Siblings.{left_here, once_before, siblings-children}
 use Rattle.selector_match.specs.Results.{before, IsUnder}
-
-up_each : (P : ℕ → Type 0) (f : ℕ → List ℕ) (o : Option ℕ) → ((p : ℕ) → o ≡ Some p → P p × AllByRecursion P (f p)) → AllByRecursion P (up f o)
-up_each P f None h = tt
-up_each P f (Some p) h = h p refl
 
 module _ (doc : List Element) (v : IsValid doc) where
   -- what has a sibling before it has a parent

@@ -3,6 +3,7 @@ use Rattle.std.proofs.Common.{◌≡◌, ℕ, zero, suc, ◌+◌, ◌<◌, Bool,
 use Rattle.std.specs.List.{list_any}
 use Rattle.std.specs.Prelude.{Box}
 use Rattle.std.specs.declared.alloc.Global.{Global}
+use Rattle.std.proofs.Math.Bool.{or-false}
 use Rattle.std.proofs.lemmas.Bool.{and_right, or_from, or_right}
 use Rattle.std.proofs.lemmas.List.{map-append, take-append-drop, take_more}
 use Rattle.std.proofs.lemmas.Option.{same_Some}
@@ -84,17 +85,13 @@ some_append doc (s ∷ xs) ys y = ap (λ b. holds doc s y || b) (some_append doc
     by true = refl
     by false = refl
 
-or_none : (b : Bool) → (b || false) ≡ b
-or_none true = refl
-or_none false = refl
-
 some_more : (doc : List Element) (list : List Complex) (i : ℕ) (complex : Complex) → i < length list → complex ≡ get_or list i complex → (y : ℕ) → (holds_some doc (complexes_of (take i list)) y || holds doc (complex_of complex) y) ≡ holds_some doc (complexes_of (take (i + 1) list)) y
 some_more doc list i complex l is y =
     let longer : take (i + 1) list ≡ take i list ++ complex ∷ [] = take_more list i complex l ∙ ap (λ c. take i list ++ c ∷ []) (sym is) in
     sym (ap (λ cs. holds_some doc (complexes_of cs) y) longer
     ∙ (ap (λ ss. holds_some doc (listed ss) y) (map-append complex_of (take i list) (complex ∷ []))
     ∙ (some_append doc (map complex_of (take i list)) (complex_of complex ∷ []) y
-    ∙ ap (λ b. holds_some doc (complexes_of (take i list)) y || b) (or_none (holds doc (complex_of complex) y)))))
+    ∙ ap (λ b. holds_some doc (complexes_of (take i list)) y || b) (or-false (holds doc (complex_of complex) y)))))
 
 pub some_next : (doc : List Element) (list : List Complex) (i : ℕ) (complex : Complex) (x : ℕ) (a b : MatchResult) → i < length list → complex ≡ get_or list i complex → Tells doc (holds_some doc (complexes_of (take i list))) x a → Tells doc (holds doc (complex_of complex)) x b → Tells doc (holds_some doc (complexes_of (take (i + 1) list))) x (weakest a b)
 some_next doc list i complex x a b l is h k =

@@ -1,15 +1,14 @@
 -- Beginnings, ends and parts of a text, as tests and as facts.
 use Rattle.std.proofs.Common.{◌≡◌, ◌≢◌, ℕ, ◌-◌, ◌<◌, ◌≤◌, ◌==◌, nat_le, Bool, true, false, ◌&&◌, ◌||◌, List, [], ◌∷◌, ◌++◌, length, take, drop, get_or, refl, sym, ap, ◌∙◌, subst, arith, le-leb, eq-eqb, append_assoc, append-nil, length-append}
 use Rattle.std.specs.Bool.{Decides}
+use Rattle.std.proofs.Math.Bool.{and-true}
 use Rattle.std.proofs.lemmas.Bool.{and_from, and_parts, or_right, or_from, false_from_ne_true, false≢true}
 use Rattle.std.proofs.lemmas.List.{take-append-drop, take_at, drop_at}
 use Rattle.std.proofs.lemmas.Slice.Eq.{bytes_eq-Decides}
 use Rattle.base_model.specs.Ascii.{hyphen}
 use Rattle.base_model.specs.Text.{same_text}
 use Rattle.selector_model.specs.Comparisons.{begins_with, ends_with, has_part}
-
-pub same_itself : (xs : List ℕ) → same_text xs xs ≡ true
-same_itself xs = (bytes_eq-Decides xs xs).1 refl
+use Rattle.base_model.proofs.Texts.{text_is_itself}
 
 -- the test of a beginning, an end or a part, as what it says
 
@@ -26,7 +25,7 @@ pub begins_with-Decides : (text part : List ℕ) → Decides (begins_with text p
 begins_with-Decides text part = (
   λ e. (let front : take (length part) text ≡ part = (bytes_eq-Decides (take (length part) text) part).0 e in
       (drop (length part) text, sym (take-append-drop (length part) text) ∙ ap (λ l. l ++ drop (length part) text) front)),
-  λ (rest, e). ap (λ t. same_text (take (length part) t) part) e ∙ (ap (λ t. same_text t part) (take_at part rest (length part) refl) ∙ same_itself part),
+  λ (rest, e). ap (λ t. same_text (take (length part) t) part) e ∙ (ap (λ t. same_text t part) (take_at part rest (length part) refl) ∙ text_is_itself part),
 )
 
 pub begins_with-fits : (text part : List ℕ) → begins_with text part ≡ true → length part ≤ length text
@@ -38,7 +37,7 @@ ends_with-append : (front part : List ℕ) → ends_with (front ++ part) part �
 ends_with-append front part =
     let n : ℕ = length (front ++ part) - length part in
     let cut : length front ≡ n = omega (arith, length-append front part) in
-    and_from (nat_le (length part) (length (front ++ part))) (same_text (drop n (front ++ part)) part) (le-leb (length part) (length (front ++ part)) (omega (arith, length-append front part))) (ap (λ t. same_text t part) (drop_at front part n cut) ∙ same_itself part)
+    and_from (nat_le (length part) (length (front ++ part))) (same_text (drop n (front ++ part)) part) (le-leb (length part) (length (front ++ part)) (omega (arith, length-append front part))) (ap (λ t. same_text t part) (drop_at front part n cut) ∙ text_is_itself part)
 
 pub ends_with-Decides : (text part : List ℕ) → Decides (ends_with text part) (EndsWith text part)
 ends_with-Decides text part = (
@@ -81,12 +80,8 @@ dash_missed text part e =
     let begins : BeginsWith text part → ⊥ = λ w. false≢true (sym e ∙ (begins_with-Decides text part).1 w) in
     neither _ _ (λ h. begins ([], (bytes_eq-Decides text part).0 h ∙ sym (append-nil part))) (λ h. let (rest, f) = (begins_with-Decides text (part ++ hyphen ∷ [])).0 h in begins (hyphen ∷ rest, f ∙ append_assoc part (hyphen ∷ []) rest))
 
-and_true : (b : Bool) → (b && true) ≡ b
-and_true true = refl
-and_true false = refl
-
 dash_at : (part rest : List ℕ) (c : ℕ) → (same_text (part ++ c ∷ rest) part || begins_with (part ++ c ∷ rest) (part ++ hyphen ∷ [])) ≡ (get_or (part ++ c ∷ rest) (length part) 0 == hyphen)
-dash_at [] rest c = and_true (c == hyphen)
+dash_at [] rest c = and-true (c == hyphen)
 dash_at (p ∷ part) rest c = let same : (p == p) ≡ true = eq-eqb p p refl in rw same (dash_at part rest c)
 
 dash_rest : (text part rest : List ℕ) → length part < length text → text ≡ part ++ rest → (get_or text (length part) 0 == hyphen) ≡ (same_text text part || begins_with text (part ++ hyphen ∷ []))

@@ -3,7 +3,8 @@ use Rattle.std.proofs.Common.{◌≡◌, ℕ, suc, ◌+◌, ◌==◌, Bool, true
 use Rattle.scene_model.specs.Element.{Element}
 use Rattle.scene_model.specs.Lookups.{IsElement, parent_of, children, siblings, siblings_beyond, left_of, right_of, place_of, place_by}
 use Rattle.scene_model.specs.Valid.{IsValid}
-use Rattle.scene_model.proofs.Siblings.{left_here, left_on, siblings-children}
+use Rattle.scene_model.proofs.Numbers.{left_on}
+use Rattle.scene_model.proofs.Siblings.{left_here, siblings-children}
 use Rattle.selector_model.specs.Holds.{counts}
 
 -- in any list

@@ -1,13 +1,11 @@
 -- The definitions computed on small documents.
 use Rattle.std.proofs.Common.{◌≡◌, ℕ, ℤ, pos, negsuc, Bool, true, false, List, [], ◌∷◌, ◌++◌, map, filter, flat_map, Option, Some, None, refl}
 use Rattle.std.specs.Prelude.{codes}
-use Rattle.std.specs.Cmp.Lexicographic.{slice_cmp, nat_list_cmp_total}
 use Rattle.std.specs.FinMap as maps
-use Rattle.std.specs.Ordering.{nat_cmp}
 use Rattle.base_model.specs.Ascii.{tab, line_feed, form_feed, carriage_return}
 use Rattle.base_model.specs.Specificity.{Specificity}
 use Rattle.base_model.specs.Text.{Characters}
-use Rattle.scene_model.specs.Element.{Element, Attributes, States, hover_state, active_state, focus_state}
+use Rattle.scene_model.specs.Element.{Element, States, hover_state, active_state, focus_state}
 use Rattle.scene_model.specs.Lookups.{numbers}
 use Rattle.scene_model.specs.Ancestors.{ancestors}
 use Rattle.selector_model.specs.Selector.{descendant, child, next_sibling, later_sibling}
@@ -20,16 +18,10 @@ use Rattle.selector_model.specs.Comparisons.{folded, compared}
 use Rattle.selector_model.specs.Holds.{holds}
 use Rattle.selector_model.specs.SpecificityOf.{specificity_of}
 use Rattle.selector_model.specs.Key.{Key, id_key, class_key, type_key, any_key, key_of}
+use Rattle.selector_model.proofs.AttributeCases.{get_pairs, attributes}
 
 abbrev quiet : States
 quiet = record { hover = false; active = false; focus = false }
-
-attributes : List (Characters × Characters) → Attributes
-attributes pairs = maps.from_entries pairs
-
-get_pairs : (pairs : List (Characters × Characters)) (name : Characters) → maps.get (attributes pairs) name ≡ maps.find (slice_cmp nat_cmp) name pairs
-unfolding attributes
-get_pairs pairs name = maps.get-from_entries nat_list_cmp_total pairs name
 
 abbrev with_attribute : ℕ → Option ℕ → Characters → Characters → Characters → Element
 with_attribute number parent tag name value = record {

@@ -1,2 +1,4 @@
 pub mod Leftwards
+pub mod KeyLemmas
+pub mod AttributeCases
 mod Examples

@@ -4,3 +4,5 @@ pub mod Holds
 pub mod SpecificityOf
 pub mod Key
 pub mod Compounds
+pub mod Parts
+pub mod Bears

@@ -5,7 +5,8 @@ use Rattle.std.proofs.lemmas.List.{drop-drop, drop_all, drop_more}
 use Rattle.base_model.specs.Lists.{is_nil}
 use Rattle.syntax_model.specs.Token.{Token, Kind, open_square, function}
 use Rattle.syntax_model.specs.Brackets.{Bracket, square, round, open_past}
-use Rattle.sheet_model.specs.SelectorTokens.{inside_len, is_open_square, is_function}
+use Rattle.sheet_model.specs.SelectorTokens.{inside_len, is_open_square}
+use Rattle.syntax_model.specs.Kinds.{is_function}
 
 -- so many are counted, and these brackets are open after them
 abbrev pub IsCounted : List Bracket → List Token → ℕ → List Bracket → Type 0

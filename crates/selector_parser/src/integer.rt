@@ -6,7 +6,9 @@ ghost use Rattle.base_model.specs.Ascii.{digit_zero};
 ghost use Rattle.sheet_model.specs.AnPlusB as model;
 ghost use Rattle.sheet_model.specs.AnPlusB.{greatest_index, size_of};
 ghost use Rattle.syntax_model.specs.Letters.{begins, is_digit, is_sign};
-ghost use Rattle.syntax_model.specs.Numbers.{after_sign, is_minus};
+ghost use Rattle.syntax_model.specs.Numbers.{after_sign};
+
+use css_tokens::letters::{is_digit, is_minus, is_sign};
 
 /// What digits say, at most 2,147,483,647.
 pub fn size(digits: &[char]) -> i32
@@ -43,17 +45,7 @@ pub fn is_signed(text: &[char]) -> bool
     ensures { result ≡ begins is_sign text.now }
 {
     match text.first() {
-        Some(c) => *c == '+' || *c == '-',
-        None => false,
-    }
-}
-
-// Whether a minus is first.
-fn is_minus(text: &[char]) -> bool
-    ensures { result ≡ is_minus text.now }
-{
-    match text.first() {
-        Some(c) => *c == '-',
+        Some(c) => is_sign(*c),
         None => false,
     }
 }
@@ -70,11 +62,4 @@ pub fn are_digits(text: &[char]) -> bool
     ensures { result ≡ list_all is_digit text.now }
 {
     text.iter().all(|c| is_digit(*c))
-}
-
-// Whether it is a digit.
-fn is_digit(c: char) -> bool
-    ensures { result ≡ is_digit c }
-{
-    '0' <= c && c <= '9'
 }

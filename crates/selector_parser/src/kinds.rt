@@ -22,13 +22,6 @@ pub fn is_open_square(token: &Token) -> bool
     matches!(token.kind(), Kind::OpenSquare)
 }
 
-/// Whether it is a function's name and `(`.
-pub fn is_function(token: &Token) -> bool
-    ensures { result ≡ model.is_function token.now.kind }
-{
-    matches!(token.kind(), Kind::Function)
-}
-
 /// Whether it is an identifier or a string.
 pub fn is_text(token: &Token) -> bool
     ensures { result ≡ model.is_text token.now.kind }

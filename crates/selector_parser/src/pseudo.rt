@@ -3,13 +3,12 @@
 ghost use Rattle.std.specs.Prelude.{◌≡◌, ◌≤◌, IfOk, IfSome, length, option_map, true};
 ghost use Rattle.selector_types.specs.ComplexView.{test_of};
 ghost use Rattle.selector_parser.specs.View.{function_of};
-ghost use Rattle.sheet_model.specs.SelectorTokens.{is_function};
+ghost use Rattle.syntax_model.specs.Kinds.{is_function};
 ghost use Rattle.sheet_model.specs.SelectorsIn.{complex_in, function_at, function_by, index_by, not_list, pseudo_class_at, reader_of};
 
 use crate::an_plus_b::an_plus_b;
 use crate::function::Function;
 use crate::inside::cut_bracket;
-use crate::kinds::is_function;
 use crate::nested::{forgiving, strict};
 use crate::pseudo_class::{function, indexed, pseudo_class};
 use css_tokens::{Token, name_of};
@@ -37,7 +36,7 @@ pub fn pseudo_class_test<'a>(
         };
         return Ok(Some((Test::Simple(test), rest)));
     }
-    if !is_function(first) {
+    if !first.is_function() {
         return Ok(None);
     }
     function_test(alloc, depth, first, rest)

@@ -50,20 +50,6 @@ fn three(rt: HostRuntime) -> Result<(), Fail> {
     Ok(())
 }
 
-#[test]
-fn a_type(rt: HostRuntime) -> Result<(), Fail> {
-    let text = all_told(rt.alloc(), "html")?;
-    assert_eq!(rt; text.as_str(), "0 0 1 html ");
-    Ok(())
-}
-
-#[test]
-fn no_list(rt: HostRuntime) -> Result<(), Fail> {
-    let text = all_told(rt.alloc(), "a,,b")?;
-    assert_eq!(rt; text.as_str(), "none");
-    Ok(())
-}
-
 /// A compound of one test.
 fn alone(alloc: Global, test: Test) -> Result<Complex, NoMemory> {
     Ok(Complex::alone(vec![in alloc; test]?))

@@ -1,12 +1,10 @@
 -- A selector counts no more than its tests.
-use Rattle.std.proofs.Common.{◌≡◌, ℕ, ◌+◌, ◌≤◌, ◌<◌, Bool, true, false, cond, sym, ap, ◌∙◌, arith}
+use Rattle.std.proofs.Common.{◌≡◌, ◌+◌, ◌≤◌, Bool, true, false, cond, arith}
 use Rattle.base_model.specs.Specificity.{Specificity, nothing, plus, is_less, greater}
-use Rattle.selector_model.specs.Selector.{Simple, type_selector, id_selector, class_selector, attribute_selector, attribute_compares, root, empty, nth, only, in_state, Combinator, Selector, subject, combined, Compound, any, with_test, Test, simple, is_some, where_some, not_some, Selectors, no_more, more}
+use Rattle.selector_model.specs.Selector.{Simple, type_selector, id_selector, class_selector, attribute_selector, attribute_compares, root, empty, nth, only, in_state, Selector, subject, combined, Compound, any, with_test, Test, simple, is_some, where_some, not_some, Selectors, no_more, more}
 use Rattle.selector_model.specs.SpecificityOf.{specificity_of_simple, specificity_of, specificity_of_compound, specificity_of_test, greatest}
 use Rattle.selector_types.specs.Counts.{total, test_count, tests_in, tests_of, tests_among}
-
-same_counts : (a b : Specificity) → a.ids ≡ b.ids → a.classes ≡ b.classes → a.types ≡ b.types → a ≡ b
-same_counts a b h k l = λ i. record { ids = h i; classes = k i; types = l i }
+use Rattle.base_model.proofs.Specificities.{same_counts}
 
 pub plus_assoc : (a b c : Specificity) → plus (plus a b) c ≡ plus a (plus b c)
 plus_assoc a b c =
@@ -50,23 +48,3 @@ mutual
   total_greatest best no_more = omega arith
   total_greatest best (more selector rest) =
       omega (arith, total_greatest (greater best (specificity_of selector)) rest, total_greater best (specificity_of selector), total_selector selector)
-
--- the steps of the code
-
-pub fits_combined : (whole : Selector) (compound : Compound) (combinator : Combinator) (rest : Selector) (a b : Specificity) (m : ℕ) → whole ≡ combined compound combinator rest → a ≡ specificity_of_compound compound → b ≡ specificity_of rest → test_count whole < m → total a + total b < m
-fits_combined whole compound combinator rest a b m e f g h =
-    omega (arith, ap test_count e, ap total f, ap total g, total_compound compound, total_selector rest)
-
-pub fits_test : (left rest : Compound) (test : Test) (sum a : Specificity) (m : ℕ) → left ≡ with_test test rest → a ≡ specificity_of_test test → total sum + tests_in left < m → total sum + total a < m
-fits_test left rest test sum a m e f h = omega (arith, ap tests_in e, ap total f, total_test test)
-
-pub record IsSumSoFar (sum : Specificity) (left whole : Compound) (m : ℕ) : Type 0 where
-  pub sum_is : plus sum (specificity_of_compound left) ≡ specificity_of_compound whole
-  pub fits : total sum + tests_in left < m
-
-pub sum_more : (whole left rest : Compound) (test : Test) (sum a new : Specificity) (m : ℕ) → left ≡ with_test test rest → a ≡ specificity_of_test test → new ≡ plus sum a → IsSumSoFar sum left whole m → IsSumSoFar new rest whole m
-sum_more whole left rest test sum a new m e f g h = record {
-  sum_is =
-      ap (λ n. plus n (specificity_of_compound rest)) g ∙ (plus_assoc sum a (specificity_of_compound rest) ∙ (ap (λ x. plus sum (plus x (specificity_of_compound rest))) f ∙ (ap (λ l. plus sum (specificity_of_compound l)) (sym e) ∙ h.sum_is)));
-  fits = omega (arith, h.fits, ap tests_in e, ap total f, ap total g, total_test test);
-}

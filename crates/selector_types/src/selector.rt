@@ -6,7 +6,7 @@ ghost use Rattle.selector_model.specs.SpecificityOf.{specificity_of};
 ghost use Rattle.selector_types.specs.ComplexView.{complex_of};
 ghost use Rattle.selector_types.specs.SimpleView.{key_seen};
 
-use crate::{Complex, Key, Specificity, count, weight};
+use crate::{Complex, Key, Specificity, measure};
 use std::alloc::Global;
 use stylo_base::NoMemory;
 
@@ -24,19 +24,19 @@ impl Selector {
     ghost use Rattle.std.specs.Prelude.{IfOk};
     ghost use Rattle.selector_types.specs.View.{selector_of};
 
-    /// The selector of these compounds. One of 2^64 tests or more is refused: no memory holds it.
+    /// The selector of these compounds. One of 2^64 - 1 tests or more is refused: no memory holds it.
     pub fn new(alloc: Global, complex: Complex) -> Result<Selector, NoMemory>
         ensures { IfOk result (λ selector. selector_of selector ≡ complex_of complex) }
     {
-        if count::of_complex(&complex).is_none() {
+        let measure = measure::of_complex(&complex);
+        if measure.tests == u64::MAX {
             return Err(NoMemory);
         }
         let key = Key::of_compound(alloc, &complex.subject)?;
-        let specificity = weight::of_complex(&complex);
         Ok(Selector {
             complex,
             key,
-            specificity,
+            specificity: measure.weight,
         })
     }
 

@@ -17,7 +17,7 @@ use Rattle.custom_model.specs.Value.{CustomValue, is_custom_name}
 use Rattle.custom_model.specs.Parts.{custom_value_in, referring_value_in}
 use Rattle.custom_model.proofs.WritableLemmas.{Writable, custom_value_writable, referring_value_writable, as_read}
 use Rattle.custom_model.proofs.CutLemmas.{OfText, of_text}
-use Rattle.custom_model.proofs.DeclarationCuts.{DeclarationOfText, block_declarations, each-append}
+use Rattle.custom_model.proofs.DeclarationCuts.{DeclarationOfText, block_declarations}
 use Rattle.value_model.specs.Value.{Value}
 use Rattle.selector_model.specs.Selector.{Selector}
 use Rattle.sheet_model.specs.SelectorsIn.{selectors_in}
@@ -25,6 +25,7 @@ use Rattle.sheet_model.specs.Shorthands.{Subject, subject_longhands, values_in}
 use Rattle.sheet_model.specs.Declared.{longhand, custom, Given, wide, exactly, referring, holding, Declared, wide_in, for_each, givens_in, custom_given_in, declared_with, declared_each, subject_named, declared_in, block_declared, style_declared}
 use Rattle.sheet_model.specs.StyleRules.{StyleRule, style_rule_in, style_rules_in}
 use Rattle.sheet_model.proofs.RuleCuts.{RuleOfText, sheet_rules_of_text}
+use Rattle.base_model.proofs.Lists.{each-append}
 
 -- what a property is given holds no value that can't be written
 abbrev pub GivenWritable : Given → Type 0

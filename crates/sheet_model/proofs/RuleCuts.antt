@@ -16,7 +16,7 @@ use Rattle.syntax_model.specs.SheetRules.{BlockReader, Found, block_within, coun
 use Rattle.syntax_model.specs.TokensIn.{tokens_in}
 use Rattle.syntax_model.proofs.UrlStrings.{is_quoted}
 use Rattle.custom_model.proofs.CutLemmas.{OfText, of_text, of_text_before, of_text-closed, other_first}
-use Rattle.custom_model.proofs.DeclarationCuts.{each-append}
+use Rattle.base_model.proofs.Lists.{each-append}
 
 -- a piece whose block, if it has one, is so
 abbrev PieceOfText : Piece → Type 0

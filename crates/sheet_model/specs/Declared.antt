@@ -5,18 +5,18 @@ use Rattle.std.specs.Prelude.{option_to_list, flat_map, unwrap_or}
 use Rattle.std.specs.Option.{option_or}
 use Rattle.base_model.specs.Options.{◌>>=◌}
 use Rattle.base_model.specs.Text.{Characters, same_text}
-use Rattle.syntax_model.specs.Token.{Token}
-use Rattle.syntax_model.specs.Wide.{Wide, wide_named}
+use Rattle.syntax_model.specs.Token.{Token, said}
+use Rattle.syntax_model.specs.Wide.{Wide}
 use Rattle.syntax_model.specs.Preprocess.{preprocessed}
 use Rattle.syntax_model.specs.TokensIn.{tokens_in}
 use Rattle.syntax_model.specs.Rules.{Declaration}
 use Rattle.syntax_model.specs.RulesIn.{declarations_in}
 use Rattle.custom_model.specs.Value.{CustomValue, is_custom_name}
+use Rattle.custom_model.specs.Computed.{wide_of}
 use Rattle.custom_model.specs.Parts.{custom_value_in, referring_value_in}
 use Rattle.value_model.specs.Value.{Value}
 use Rattle.value_model.specs.Table.{property_named}
 use Rattle.value_model.specs.Shorthand.{short_named}
-use Rattle.sheet_model.specs.ValueIn.{ident_in}
 use Rattle.sheet_model.specs.Shorthands.{Subject, single, shorthand, subject_longhands, values_in}
 
 -- what is declared
@@ -51,9 +51,7 @@ is_custom name (custom other) = same_text other name
 
 -- a CSS-wide keyword, where the tokens are one (css-cascade-5, section 7.3)
 abbrev pub wide_in : List Token → Option Wide
-wide_in tokens = do
-  name ← ident_in tokens
-  wide_named name
+wide_in tokens = wide_of (map said tokens)
 
 -- the same for each property that is set
 abbrev pub for_each : Subject → Given → List Given

@@ -2,7 +2,7 @@
 use Rattle.std.specs.Prelude.{ℕ, ◌+◌, List, [], ◌∷◌, take, drop, Bool, true, false, if◌then◌else◌, Option, Some, None}
 use Rattle.base_model.specs.Lists.{is_nil}
 use Rattle.base_model.specs.Text.{Characters, is_word}
-use Rattle.syntax_model.specs.Token.{Token, Kind, ident, function, hash, string, number, dimension, open_square}
+use Rattle.syntax_model.specs.Token.{Token, Kind, ident, hash, string, number, dimension, open_square}
 use Rattle.syntax_model.specs.Kinds.{is_ident}
 use Rattle.syntax_model.specs.Brackets.{Bracket, open_past}
 
@@ -14,10 +14,6 @@ is_id_hash kind = false
 abbrev pub is_open_square : Kind → Bool
 is_open_square open_square = true
 is_open_square kind = false
-
-abbrev pub is_function : Kind → Bool
-is_function function = true
-is_function kind = false
 
 -- an identifier or a string
 abbrev pub is_text : Kind → Bool

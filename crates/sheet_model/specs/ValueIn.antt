@@ -8,13 +8,13 @@ use Rattle.base_model.specs.Options.{◌>>=◌}
 use Rattle.base_model.specs.Lists.{first_some}
 use Rattle.base_model.specs.Text.{Characters, is_word}
 use Rattle.base_model.specs.Thousandths.{clamped, rounded}
-use Rattle.syntax_model.specs.Token.{Token, Kind, dimension, percentage, number, function, close_round}
-use Rattle.syntax_model.specs.Kinds.{is_ident, is_hash, is_comma, without_white}
+use Rattle.syntax_model.specs.Token.{Token, Kind, dimension, percentage, number}
+use Rattle.syntax_model.specs.Kinds.{is_ident, is_function, is_hash, is_comma, is_close_round, without_white}
 use Rattle.syntax_model.specs.Numbers.{thousandths}
 use Rattle.value_model.specs.Color.{Color, named_colors, opaque}
 use Rattle.value_model.specs.HexColor.{hex_color}
 use Rattle.value_model.specs.Value as value
-use Rattle.value_model.specs.Value.{Value, keyword, color, pixels, percent, em, rem}
+use Rattle.value_model.specs.Value.{Value, color, pixels, percent, em, rem}
 use Rattle.value_model.specs.Table.{ValueForm, named, any_color, length, number_within, table}
 use Rattle.value_model.specs.Table as form
 
@@ -75,10 +75,6 @@ next_channel_at tokens = do
   rest ← after_comma tokens
   channel_at rest
 
-abbrev pub is_close_round : Kind → Bool
-is_close_round close_round = true
-is_close_round kind = false
-
 -- the closing bracket, and nothing after it
 abbrev pub is_closed : List Token → Bool
 is_closed (token ∷ []) = is_close_round token.kind
@@ -93,7 +89,7 @@ channels_in tokens = do
   if is_closed blue.1 then Some (opaque red.0 green.0 blue.0) else None
 
 abbrev pub is_rgb : Token → Bool
-is_rgb token = elim token.kind [ function ↦ is_word (codes "rgb") token.name | _ ↦ false ]
+is_rgb token = is_function token.kind && is_word (codes "rgb") token.name
 
 -- <rgb()> with three integers
 abbrev pub rgb_in : List Token → Option Color

@@ -1,6 +1,7 @@
 -- One rule, one declaration and one sheet more.
 use Rattle.std.proofs.Common.{◌≡◌, ℕ, ◌+◌, List, [], ◌∷◌, ◌++◌, length, map, true, false, Option, Some, None, refl, sym, ap, ◌∙◌, arith, append_assoc, append-nil}
 use Rattle.std.specs.Prelude.{Vec, flat_map, filter_map, option_and_then, option_map, option_to_list}
+use Rattle.std.proofs.lemmas.List.{map-append}
 use Rattle.std.specs.List.{cons_option}
 use Rattle.std.specs.declared.alloc.Global.{Global}
 use Rattle.base_model.specs.Origin.{Origin}
@@ -17,7 +18,7 @@ use Rattle.layer_order.specs.View.{origin_of}
 use Rattle.selector_types.specs.declared.selector.Selector.{Selector}
 use Rattle.selector_types.specs.View.{selector_of}
 use Rattle.sheet_set.specs.declared.sheet_rule.SheetRule.{SheetRule}
-use Rattle.sheet_set.specs.View.{own_rules, rule_count, rule_of, rules_with}
+use Rattle.sheet_set.specs.View.{own_layers, own_rules, rule_count, rule_of, rules_with}
 use Rattle.shorthands.specs.View.{declared_of}
 
 -- what is kept so far, and what each item that is left gives, is the whole: one item more
@@ -133,3 +134,21 @@ own_enabled sheet on = rw on refl
 
 pub own_disabled : (sheet : Sheet) → sheet.enabled ≡ false → own_rules sheet ≡ all_placed sheet 0 0 (style_rules_in (edition_of sheet) sheet.text)
 own_disabled sheet off = rw off refl
+
+-- and the layers
+pub layers_with_all : (sheet : Sheet) → sheet.enabled ≡ true → own_layers sheet ≡ []
+layers_with_all sheet on = rw on refl
+
+pub layers_of_own : (sheet : Sheet) → sheet.enabled ≡ false → own_layers sheet ≡ sheet_layers sheet
+layers_of_own sheet off = rw off refl
+
+-- one item more of a list whose items stand for those of the whole
+pub one_placed : {A C : Type 0} (f : A → C) (items new : List A) (item : A) (left after : List C) (first : C) (whole : List C) → new ≡ items ++ item ∷ [] → left ≡ first ∷ after → f item ≡ first → map f items ++ left ≡ whole → map f new ++ after ≡ whole
+one_placed f items new item left after first whole added is same before =
+    ap (λ l. map f l ++ after) added
+    ∙ (ap (λ l. l ++ after) (map-append f items (item ∷ []))
+    ∙ (append_assoc (map f items) (f item ∷ []) after
+    ∙ (ap (λ c. map f items ++ c ∷ after) same ∙ (ap (λ l. map f items ++ l) (sym is) ∙ before))))
+
+pub none_placed : {A : Type 0} (found left whole : List A) → left ≡ [] → found ++ left ≡ whole → found ≡ whole
+none_placed found left whole none before = sym (append-nil found) ∙ ap (λ l. found ++ l) (sym none) ∙ before

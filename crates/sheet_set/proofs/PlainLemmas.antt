@@ -3,13 +3,14 @@ use Rattle.std.proofs.Common.{◌≡◌, ℕ, zero, suc, List, [], ◌∷◌, Bo
 use Rattle.std.specs.Prelude.{codes, option_and_then}
 use Rattle.std.specs.List.{list_any}
 use Rattle.std.specs.Option.{option_map_or}
+use Rattle.std.proofs.lemmas.Bool.{or_parts}
 use Rattle.base_model.specs.Lists.{is_nil}
 use Rattle.base_model.specs.Text.{Characters, is_word}
 use Rattle.syntax_model.specs.Token.{Token, Said, said}
-use Rattle.syntax_model.specs.Kinds.{is_white}
+use Rattle.syntax_model.specs.Kinds.{is_white, is_function, is_close_round}
 use Rattle.syntax_model.specs.Brackets.{Bracket}
 use Rattle.custom_model.specs.Value.{CustomValue, normal, spaced, white_space}
-use Rattle.custom_model.specs.Parts.{Parts, Reading, plain, after, is_function, is_unfit, is_var, is_close_round, open_beyond, parts, parts_within, references, references_in, refers, referring_value_in, kept_where_valid, is_valid}
+use Rattle.custom_model.specs.Parts.{Parts, Reading, plain, after, is_unfit, is_var, open_beyond, parts, parts_within, references, references_in, refers, referring_value_in, kept_where_valid, is_valid}
 use Rattle.sheet_set.specs.Parts.{has_function}
 
 -- whether some token is a function
@@ -33,15 +34,11 @@ at_end : (left : Bool) → found (if left then None else Some (Parts.done, [])) 
 at_end true = refl
 at_end false = refl
 
-neither : (b c : Bool) → (b || c) ≡ false → (b ≡ false) × (c ≡ false)
-neither true c h = cc
-neither false c h = (refl, h)
-
 parts_plain : (most : ℕ) (within : Bool) (pending : List Bracket) (tokens : List Said) → calls tokens ≡ false → found (parts_within most within pending tokens) ≡ []
 parts_plain zero within pending tokens h = refl
 parts_plain (suc most) within pending [] h = at_end (within || not (is_nil pending))
 parts_plain (suc most) within pending (token ∷ tokens) h =
-    let none = neither (is_function token.kind) (calls tokens) h in
+    let none = or_parts (is_function token.kind) (calls tokens) h in
     let not_var : is_var token ≡ false = ap (λ b. b && is_word (codes "var") token.name) none.0 in
     in_cases (within && (is_nil pending && is_close_round token.kind)) (is_unfit pending token.kind) (is_var token) tokens token _ _ not_var (parts_plain most within (open_beyond pending token.kind) tokens none.1)
 
@@ -49,7 +46,7 @@ parts_plain (suc most) within pending (token ∷ tokens) h =
 spaced_calls : (pending : Bool) (tokens : List Said) → calls tokens ≡ false → calls (spaced pending tokens) ≡ false
 spaced_calls pending [] h = refl
 spaced_calls pending (token ∷ tokens) h =
-    let none = neither (is_function token.kind) (calls tokens) h in
+    let none = or_parts (is_function token.kind) (calls tokens) h in
     by_white (is_white token.kind) pending none.0 (spaced_calls true tokens none.1) (spaced_calls false tokens none.1)
   where
     by_white : (white pending : Bool) → is_function token.kind ≡ false → calls (spaced true tokens) ≡ false → calls (spaced false tokens) ≡ false → calls (if white then spaced true tokens else if pending then white_space ∷ token ∷ spaced false tokens else token ∷ spaced false tokens) ≡ false
@@ -60,7 +57,7 @@ spaced_calls pending (token ∷ tokens) h =
 normal_calls : (tokens : List Said) → calls tokens ≡ false → calls (normal tokens) ≡ false
 normal_calls [] h = refl
 normal_calls (token ∷ tokens) h =
-    let none = neither (is_function token.kind) (calls tokens) h in
+    let none = or_parts (is_function token.kind) (calls tokens) h in
     by_white (is_white token.kind) none.0 (normal_calls tokens none.1) (spaced_calls false tokens none.1)
   where
     by_white : (white : Bool) → is_function token.kind ≡ false → calls (normal tokens) ≡ false → calls (spaced false tokens) ≡ false → calls (if white then normal tokens else token ∷ spaced false tokens) ≡ false

@@ -5,7 +5,8 @@ use Rattle.std.specs.Option.{option_or}
 use Rattle.base_model.specs.Lists.{every}
 use Rattle.syntax_model.specs.Token.{Token}
 use Rattle.syntax_model.specs.Rules.{Declaration}
-use Rattle.custom_model.specs.Parts.{is_function, referring_value_in}
+use Rattle.custom_model.specs.Parts.{referring_value_in}
+use Rattle.syntax_model.specs.Kinds.{is_function}
 use Rattle.value_model.specs.Value.{Value}
 use Rattle.sheet_model.specs.ValueIn.{value_in}
 use Rattle.sheet_model.specs.Shorthands.{Subject, values_in}

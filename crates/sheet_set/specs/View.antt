@@ -2,10 +2,12 @@
 use Rattle.std.specs.Prelude.{ℕ, if◌then◌else◌, List, [], ◌∷◌, length, flat_map, map, Vec, Option}
 use Rattle.std.specs.Option.{option_map_or}
 use Rattle.std.specs.declared.alloc.Global.{Global}
+use Rattle.base_model.specs.Origin.{Origin}
 use Rattle.base_model.specs.Sheet.{Sheet}
+use Rattle.layer_model.specs.Name.{LayerName}
 use Rattle.sheet_model.specs.StyleRules.{StyleRule, style_rules_in}
-use Rattle.sheet_model.specs.Sources.{PlacedRule, Sources, all_placed, edition_of}
-use Rattle.layer_order.specs.View.{origin_of}
+use Rattle.sheet_model.specs.Sources.{PlacedRule, Sources, all_placed, edition_of, sheet_layers}
+use Rattle.layer_order.specs.View.{declarations, origin_of}
 use Rattle.selector_types.specs.declared.selector.Selector.{Selector}
 use Rattle.selector_types.specs.View.{selector_of}
 use Rattle.shorthands.specs.View.{declared_of}
@@ -47,7 +49,13 @@ rules_with (rule ∷ rules) (list ∷ lists) = rule_of rule list.items ∷ rules
 -- the sheet that is kept, and the rules that it has of its own
 abbrev pub kept_seen : KeptSheet → Sheet
 kept_seen kept =
-    record { number = kept.number; origin = origin_of kept.origin; enabled = kept.enabled; text = kept.text }
+    record {
+      number = kept.number;
+      origin = origin_of kept.origin;
+      enabled = kept.enabled;
+      text = kept.text;
+      edition = 0;
+    }
 
 abbrev pub own_kept : KeptSheet → List PlacedRule
 own_kept kept = rules_with kept.own.rules.items kept.own.selectors.items
@@ -56,6 +64,13 @@ own_kept kept = rules_with kept.own.rules.items kept.own.selectors.items
 abbrev pub own_rules : Sheet → List PlacedRule
 own_rules sheet =
     if sheet.enabled then [] else all_placed sheet 0 0 (style_rules_in (edition_of sheet) sheet.text)
+
+-- the layers that it has of its own, and those that the text of a disabled sheet declares
+abbrev pub kept_layers : KeptSheet → List (Origin × LayerName)
+kept_layers kept = declarations kept.own.layers.items
+
+abbrev pub own_layers : Sheet → List (Origin × LayerName)
+own_layers sheet = if sheet.enabled then [] else sheet_layers sheet
 
 -- the rules of the enabled sheets
 abbrev pub rules_of : Sheets → List PlacedRule

@@ -1,14 +1,13 @@
 //! A sheet as it is kept.
 
-ghost use Rattle.std.specs.Prelude.{◌≡◌, IfOk};
+ghost use Rattle.std.specs.Prelude.{◌≡◌};
 ghost use Rattle.layer_order.specs.View.{origin_of, sheet_of};
 ghost use Rattle.sheet_set.specs.View.{kept_seen};
 
 use crate::SheetInput;
 use crate::rule_collector::RuleCollector;
 use layer_order::Origin;
-use std::alloc::Global;
-use stylo_base::{NoMemory, Text};
+use stylo_base::Text;
 
 /// A style sheet with its number and text. The rules of an enabled one are among those of all sheets;
 /// a disabled one has its own, which take part in nothing.
@@ -23,22 +22,22 @@ pub struct KeptSheet {
 
 impl KeptSheet {
     /// A sheet under this number, with the rules and layers of its own.
-    pub(crate) fn new(
-        alloc: Global,
-        number: u32,
-        sheet: &SheetInput,
-        own: RuleCollector,
-    ) -> Result<KeptSheet, NoMemory>
-        ensures sheet { IfOk result (λ kept. kept_seen kept ≡ sheet_of number sheet.now) }
-        ensures own { IfOk result (λ kept. kept.own ≡ own) }
+    pub(crate) fn new(number: u32, sheet: SheetInput, own: RuleCollector) -> KeptSheet
+        ensures sheet { kept_seen result ≡ sheet_of number sheet }
+        ensures own { result.own ≡ own }
     {
-        Ok(KeptSheet {
+        let SheetInput {
+            origin,
+            enabled,
+            text,
+        } = sheet;
+        KeptSheet {
             number,
-            origin: sheet.origin,
-            enabled: sheet.enabled,
-            text: sheet.text.copy(alloc)?,
+            origin,
+            enabled,
+            text,
             own,
-        })
+        }
     }
 
     /// Its number.

@@ -1,6 +1,7 @@
 //! The style sheets of a document: the rules, layers and declarations of them that are kept.
 #![tactic(auto)]
 
+mod copied;
 mod count;
 mod declared;
 mod keep;

@@ -1,10 +1,10 @@
 //! Values that refer to custom properties (css-variables-1, section 3).
 
 ghost use Rattle.std.specs.Prelude.{◌≡◌, IfOk};
-ghost use Rattle.custom_model.specs.Parts.{is_function, referring_value_in};
+ghost use Rattle.custom_model.specs.Parts.{referring_value_in};
 ghost use Rattle.sheet_set.specs.Parts.{has_function};
 
-use css_tokens::{CustomValue, Kind, Token};
+use css_tokens::{CustomValue, Token};
 use std::alloc::Global;
 use stylo_base::NoMemory;
 
@@ -23,12 +23,5 @@ pub fn referring_value(alloc: Global, tokens: &[Token]) -> Result<Option<CustomV
 fn has_function(tokens: &[Token]) -> bool
     ensures { result ≡ has_function tokens.now }
 {
-    tokens.iter().any(|token| is_function(token))
-}
-
-// Whether it is a function.
-fn is_function(token: &Token) -> bool
-    ensures { result ≡ is_function token.now.kind }
-{
-    matches!(token.kind(), Kind::Function)
+    tokens.iter().any(|token| token.is_function())
 }

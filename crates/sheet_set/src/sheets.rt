@@ -3,6 +3,7 @@
 ghost use Rattle.std.specs.Prelude.{◌≡◌, map, vec_len};
 ghost use Rattle.sheet_set.specs.Ranks.{rank_seen};
 
+use crate::copied::copied;
 use crate::ranks::ranks_of;
 use crate::rule_collector::{RuleCollector, SheetPosition};
 use crate::{KeptSheet, SheetInput, SheetRule};
@@ -30,11 +31,12 @@ impl Sheets {
     ghost use Rattle.layer_order.specs.View.{declarations, sheets_of};
     ghost use Rattle.sheet_model.specs.Sources.{layers_of_sheets, rules_of_sheets};
     ghost use Rattle.layer_model.specs.Order.{layers_of};
-    ghost use Rattle.sheet_set.specs.View.{kept_seen, own_kept, own_rules, rules_of, rules_with};
+    ghost use Rattle.sheet_set.specs.View.{kept_layers, kept_seen, own_kept, own_layers, own_rules, rules_of, rules_with};
 
     /// These sheets, which are numbered from 1; there may be none. A rule whose selectors can't be read
     /// is dropped, and so is a declaration of an unknown property, or of a value that the property does
-    /// not take. A sheet that is not enabled is kept, and has no part in the rules and layers.
+    /// not take. A sheet that is not enabled is kept with its own rules and layers, and has no part in
+    /// those of all.
     pub fn start(alloc: Global, sheets: &[SheetInput]) -> Result<Sheets, NoMemory>
         requires { length sheets.now ≤ sheet_limit }
         ensures rules { IfOk result (λ started. rules_of started ≡ rules_of_sheets (sheets_of sheets.now)) }
@@ -42,6 +44,22 @@ impl Sheets {
         ensures sheets { IfOk result (λ started. map kept_seen started.sheets.items ≡ sheets_of sheets.now) }
         ensures own { IfOk result (λ started.
             map own_kept started.sheets.items ≡ map own_rules (sheets_of sheets.now)) }
+        ensures disabled { IfOk result (λ started.
+            map kept_layers started.sheets.items ≡ map own_layers (sheets_of sheets.now)) }
+    {
+        Sheets::of_list(alloc, copied(alloc, sheets)?)
+    }
+
+    /// The same of a list of sheets that it takes over: no text is copied.
+    pub fn of_list(alloc: Global, sheets: Vec<SheetInput>) -> Result<Sheets, NoMemory>
+        requires { length sheets.items ≤ sheet_limit }
+        ensures rules { IfOk result (λ started. rules_of started ≡ rules_of_sheets (sheets_of sheets.items)) }
+        ensures layers { IfOk result (λ started. started.layers ≡ layers_of_sheets (sheets_of sheets.items)) }
+        ensures sheets { IfOk result (λ started. map kept_seen started.sheets.items ≡ sheets_of sheets.items) }
+        ensures own { IfOk result (λ started.
+            map own_kept started.sheets.items ≡ map own_rules (sheets_of sheets.items)) }
+        ensures disabled { IfOk result (λ started.
+            map kept_layers started.sheets.items ≡ map own_layers (sheets_of sheets.items)) }
     {
         let mut found = RuleCollector::new(alloc);
         let mut list = Vec::with_capacity(alloc, sheets.len())?;
@@ -52,12 +70,13 @@ impl Sheets {
         for sheet in sheets {
             let mut own = RuleCollector::new(alloc);
             if sheet.enabled {
-                found.add_sheet(alloc, at, sheet)?;
+                found.add_sheet(alloc, at, &sheet)?;
                 at.position += 1;
             } else {
-                own.add_sheet(alloc, SheetPosition { position: 0, ..at }, sheet)?;
+                own.add_sheet(alloc, SheetPosition { position: 0, ..at }, &sheet)?;
             }
-            list.push(KeptSheet::new(alloc, at.number, sheet, own)?)?;
+            let kept = KeptSheet::new(at.number, sheet, own);
+            list.push(kept)?;
             at.number += 1;
         }
         Sheets::of_collected(alloc, list, found)

@@ -4,7 +4,6 @@ use Rattle.std.specs.Prelude.{codes, decimal, encode_utf8_all, length, slice_get
 use Rattle.std.specs.List.{concat}
 use Rattle.std.specs.FinMap as finmap
 use Rattle.std.specs.Option.{option_map_or}
-use Rattle.std.proofs.lemmas.Fmt.{decimal_digit}
 use Rattle.base_model.specs.Origin.{author}
 use Rattle.base_model.specs.Specificity.{Specificity}
 use Rattle.base_model.specs.Text.{Characters}
@@ -34,6 +33,7 @@ use Rattle.layer_order.specs.declared.sheet_input.SheetInput.{SheetInput}
 use Rattle.report_text.specs.Lines.{batch_line, element_line}
 use Rattle.style_cli.specs.Text.{line_at, lines_of, text_by}
 use Rattle.style_cli.proofs.Printed.{encoded_lines}
+use Rattle.base_model.proofs.Digits.{digit_0}
 
 -- a node with these attributes, in no state
 abbrev pub node : Option ℕ → Characters → List (Characters × Characters) → Node
@@ -135,12 +135,9 @@ batch_with none count =
     codes "batch " ++ (none ++ (codes ": " ++ (none ++ (codes " accepted, " ++ (none
     ++ (codes " refused, " ++ (count ++ (codes " matched, " ++ (count ++ codes " cascaded\n")))))))))
 
-zero_digit : decimal 0 ≡ codes "0"
-zero_digit = decimal_digit 0 (lit< tt)
-
 batch_is : (n : ℕ) (count : Characters) → decimal n ≡ count → batch_line 0 0 0 n n ≡ batch_with (codes "0") count
 unfolding batch_line
-batch_is n count digits = ap (λ none. batch_with none (decimal n)) zero_digit ∙ ap (batch_with (codes "0")) digits
+batch_is n count digits = ap (λ none. batch_with none (decimal n)) digit_0 ∙ ap (batch_with (codes "0")) digits
 
 -- the text of a document whose lines were computed
 pub text_is : (doc : List Element) (sources : Sources) (order : List ℕ) (count : Characters) (lines : List Characters) → numbers doc ≡ order → decimal (length doc) ≡ count → AreLines (line_at doc sources) order lines → text_by doc sources ≡ encode_utf8_all (concat (batch_with (codes "0") count ∷ lines))

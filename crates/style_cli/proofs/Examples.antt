@@ -32,9 +32,7 @@ use Rattle.layer_order.specs.View.{sheets_of}
 use Rattle.job_json.specs.declared.Job.{Job}
 use Rattle.style_cli.specs.Text.{line_at, text_by, text_of}
 use Rattle.style_cli.proofs.ExampleCases.{IsBy, applied, child_along, line_along, node, over, root_along, root_size_is, rule, sheet, text_is}
-
-digit_1 : decimal 1 ≡ codes "1"
-digit_1 = decimal_digit 1 (lit< tt)
+use Rattle.base_model.proofs.Digits.{digit_1}
 
 digit_2 : decimal 2 ≡ codes "2"
 digit_2 = decimal_digit 2 (lit< tt)

@@ -1,5 +1,5 @@
 -- Pieces that are written one after another.
-use Rattle.std.proofs.Common.{◌≡◌, ℕ, ◌+◌, ◌<◌, List, [], ◌∷◌, ◌++◌, length, take, drop, Option, Some, None, Result, Ok, Err, OnErr, sym, ap, ◌∙◌, append-nil, arith, length-append, subst, take-append-drop, get_or, zero-add, add-one, suc}
+use Rattle.std.proofs.Common.{◌≡◌, ℕ, ◌+◌, ◌<◌, List, [], ◌∷◌, ◌++◌, length, take, drop, Option, Some, None, sym, ap, ◌∙◌, append-nil, arith, length-append, subst, take-append-drop, get_or, zero-add, add-one, suc}
 use Rattle.std.specs.List.{flat_map}
 use Rattle.std.proofs.lemmas.Grind.{flat_map-append}
 use Rattle.std.proofs.lemmas.List.{take-append-le}
@@ -55,7 +55,3 @@ next_begun f xs k d a b c piece below is first next =
 pub none_written : (a : Option (List ℕ)) (whole : List ℕ) → GrewByFront a a whole
 none_written None whole = (0, omega arith, tt)
 none_written (Some x) whole = (0, omega arith, sym (append-nil x))
-
-pub on_err : {X Y : Type 0} (r : Result X Y) (P : Type 0) → P → OnErr r P
-on_err (Ok x) P h = tt
-on_err (Err y) P h = h

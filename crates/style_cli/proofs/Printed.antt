@@ -19,10 +19,6 @@ use Rattle.style_cli.proofs.Fronts.{front_after}
 abbrev pub line_bytes : List Element → Sources → ℕ → List ℕ
 line_bytes doc sources x = encode_utf8_all (line_at doc sources x)
 
-pub on_err : {T E : Type 0} (r : Result T E) (P : Type 0) → P → OnErr r P
-on_err (Ok x) P p = tt
-on_err (Err e) P p = p
-
 -- two lists that are alike by place
 pub alike_at : {A : Type 0} (value : A → Style) (style : ℕ → Style) (items : List A) (order : List ℕ) (k : ℕ) (item : A) → map value items ≡ map style order → k < length order → item ≡ get_or items k item → value item ≡ style (get_or order k 0)
 alike_at value style [] [] k item e below is = absurd (omega arith)

@@ -29,7 +29,7 @@ use style_value::Style;
 use stylo_base::{NoMemory, Text};
 
 /// Writes the text of a job, each line as soon as it is made. The document takes the nodes over, and
-/// the sheets are dropped once their rules are made.
+/// what is kept of the sheets takes them over: no text is copied.
 pub fn print_job<K: Sink>(alloc: Global, job: Job, sink: &mut K) -> Result<(), SinkRefused>
     requires nodes { length job.nodes ≤ element_limit }
     requires sheets { length job.sheets ≤ sheet_limit }
@@ -54,13 +54,13 @@ fn grown(alloc: Global, nodes: NodeList) -> Result<Doc, NoMemory>
     Doc::of_list(alloc, nodes)
 }
 
-/// The rules of the sheets, which are dropped.
+/// The rules of the sheets, which it takes over.
 #[inline(never)]
 fn rules_of(alloc: Global, sheets: SheetList) -> Result<Sheets, NoMemory>
     requires { length sheets ≤ sheet_limit }
     ensures { IfOk result (λ rules. sources_seen rules ≡ sources_of (sheets_of sheets)) }
 {
-    Sheets::start(alloc, sheets.as_slice())
+    Sheets::of_list(alloc, sheets.into_vec())
 }
 
 /// Writes the text of a document by the rules of its sheets.

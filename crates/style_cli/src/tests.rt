@@ -31,11 +31,9 @@ const LINE: [&str; 2] = ["style", "run"];
 const JOB: &[u8] = b"{\"version\":1,\"nodes\":[{\"tag\":\"html\"},{\"tag\":\"p\",\"parent\":0}],\
     \"sheets\":[{\"origin\":\"author\",\"text\":\"p{clear:left}\"}]}";
 
-/// The text of that job, and what the sink holds where its second or third write fails.
+/// The text of that job, and what the sink holds where its third write fails.
 const TEXT: &str = "batch 0: 0 accepted, 0 refused, 2 matched, 2 cascaded\n\
     1 html{display: block}\n2 p{clear: left}\n";
-
-const ONE_LINE: &str = "batch 0: 0 accepted, 0 refused, 2 matched, 2 cascaded\n";
 
 const TWO_LINES: &str =
     "batch 0: 0 accepted, 0 refused, 2 matched, 2 cascaded\n1 html{display: block}\n";
@@ -44,20 +42,6 @@ const TWO_LINES: &str =
 fn a_job(rt: HostRuntime) -> Result<(), Fail> {
     let done = gives(&rt, &LINE, JOB, (&[], &[4]), (0, TEXT))?;
     assert!(rt; done);
-    Ok(())
-}
-
-#[test]
-fn the_first_write_fails(rt: HostRuntime) -> Result<(), Fail> {
-    let failed = gives(&rt, &LINE, JOB, (&[], &[1]), (6, ""))?;
-    assert!(rt; failed);
-    Ok(())
-}
-
-#[test]
-fn the_second_write_fails(rt: HostRuntime) -> Result<(), Fail> {
-    let failed = gives(&rt, &LINE, JOB, (&[], &[2]), (6, ONE_LINE))?;
-    assert!(rt; failed);
     Ok(())
 }
 
@@ -82,61 +66,11 @@ fn the_read_at_the_end_fails(rt: HostRuntime) -> Result<(), Fail> {
     Ok(())
 }
 
-#[test]
-fn nothing_is_read_after_the_end(rt: HostRuntime) -> Result<(), Fail> {
-    let done = gives(&rt, &LINE, JOB, (&[3], &[]), (0, TEXT))?;
-    assert!(rt; done);
-    Ok(())
-}
-
-#[test]
-fn words_that_are_no_line(rt: HostRuntime) -> Result<(), Fail> {
-    let refused = gives(&rt, &["style", "walk"], JOB, (&[1], &[1]), (2, ""))?;
-    assert!(rt; refused);
-    Ok(())
-}
-
-#[test]
-fn no_json(rt: HostRuntime) -> Result<(), Fail> {
-    let refused = gives(&rt, &LINE, b"{", (&[], &[1]), (3, ""))?;
-    assert!(rt; refused);
-    Ok(())
-}
-
-#[test]
-fn another_shape(rt: HostRuntime) -> Result<(), Fail> {
-    let refused = gives(
-        &rt,
-        &LINE,
-        b"{\"version\":1,\"nodes\":[]}",
-        (&[], &[1]),
-        (4, ""),
-    )?;
-    assert!(rt; refused);
-    Ok(())
-}
-
-/// Whether an input that is longer than the limit gives this exit status, where one read fails. A
-/// read takes 65,536 bytes at most: the first 1,024 take the limit, and the next one a byte past it.
-fn past_the_limit<R: Threads + Sync + AllocGlobal>(
-    rt: &R,
-    failing: u64,
-    status: u8,
-) -> Result<bool, Fail> {
-    let long = vec![in rt.alloc(); b' '; 67_108_870]?;
-    gives(rt, &LINE, &long, (&[failing], &[]), (status, ""))
-}
-
+// A read takes 65,536 bytes at most: the first 1,024 take the limit, and the next one a byte past it.
 #[test]
 fn nothing_is_read_past_the_limit(rt: HostRuntime) -> Result<(), Fail> {
-    let refused = past_the_limit(&rt, 1_026, 5)?;
+    let long = vec![in rt.alloc(); b' '; 67_108_870]?;
+    let refused = gives(&rt, &LINE, &long, (&[1_026], &[]), (5, ""))?;
     assert!(rt; refused);
-    Ok(())
-}
-
-#[test]
-fn the_read_at_the_limit_fails(rt: HostRuntime) -> Result<(), Fail> {
-    let failed = past_the_limit(&rt, 1_025, 1)?;
-    assert!(rt; failed);
     Ok(())
 }

@@ -12,7 +12,7 @@ ghost use Rattle.style_value.specs.ColumnView.{initial_values, with_value_in};
 ghost use Rattle.style_value.specs.StyleText.{printed_properties};
 
 use property_table::word::{COLOR, NUMBER, PIXELS};
-use property_table::{COUNT, Keyword, PropId, Row, Value};
+use property_table::{COUNT, INITIAL_SIZE, Keyword, PropId, Row, Value, initial_size};
 use std::marker::Model;
 use stylo_base::Fixed;
 
@@ -70,8 +70,46 @@ const WORDS: [u8; COUNT] = [
 
 /// The amount of the standing value of each property.
 const STANDING: [i64; COUNT] = [
-    255, 0, 0, 0, 0, 0, 0, 0, 0, 0, 0, 0, 0, 0, 0, 0, 0, 0, 0, 0, 0, 0, 0, 0, 0, 0, 0, 0, 0, 0, 0,
-    0, 0, 0, 0, 0, 16_000, 400_000, 0, 0,
+    255,
+    0,
+    0,
+    0,
+    0,
+    0,
+    0,
+    0,
+    0,
+    0,
+    0,
+    0,
+    0,
+    0,
+    0,
+    0,
+    0,
+    0,
+    0,
+    0,
+    0,
+    0,
+    0,
+    0,
+    0,
+    0,
+    0,
+    0,
+    0,
+    0,
+    0,
+    0,
+    0,
+    0,
+    0,
+    0,
+    INITIAL_SIZE,
+    400_000,
+    0,
+    0,
 ];
 
 /// A value for each property, in the order of the table, as its word and its amount. Contracts see
@@ -221,7 +259,7 @@ fn initial_amounts() -> [Fixed; COUNT]
     amounts[PropId::BorderRightWidth.row()] = width;
     amounts[PropId::BorderBottomWidth.row()] = width;
     amounts[PropId::BorderLeftWidth.row()] = width;
-    amounts[PropId::FontSize.row()] = Fixed::clamp(16_000);
+    amounts[PropId::FontSize.row()] = initial_size();
     amounts[PropId::FontWeight.row()] = Fixed::clamp(400_000);
     amounts
 }

@@ -101,10 +101,7 @@ impl Style {
     pub fn font_size(&self) -> Fixed
         ensures { result ≡ font_size_of self.now.values }
     {
-        match self.value(PropId::FontSize) {
-            Value::Pixels(size) => size,
-            _ => Fixed::clamp(16_000),
-        }
+        self.value(PropId::FontSize).font_size()
     }
 
     /// The font weight.

@@ -1,6 +1,6 @@
 //! The styles of a document, each kept once, with a number.
 
-ghost use Rattle.std.specs.Prelude.{◌≡◌, ◌<◌, IfOk, IfSome, Some, [], length, slice_get, take};
+ghost use Rattle.std.specs.Prelude.{◌≡◌, ◌<◌, ◌⊎◌, ◌++◌, ◌∷◌, [], IfOk, IfSome, OnErr, OnOk, Some, length, slice_get, take};
 ghost use Rattle.std.specs.Arc.{arc_value};
 
 use crate::{Style, StyleDraft};
@@ -45,11 +45,13 @@ impl StyleTable {
         })
     }
 
-    /// The number of the style with the values of a draft, which is added unless an equal one is
-    /// found. It takes memory only where it is added.
+    /// The number of the style with the values of a draft, which is added behind the others unless an
+    /// equal one is found. It takes memory only where it is added. Out of memory, the table is as before.
     pub fn add(&mut self, alloc: Global, draft: StyleDraft) -> Result<usize, NoMemory>
         ensures added { IfOk result (λ number. slice_get self.new number ≡ Some draft) }
         ensures kept { take (length self.old) self.new ≡ self.old }
+        ensures grown { OnOk result ((self.new ≡ self.old) ⊎ (self.new ≡ self.old ++ draft ∷ [])) }
+        ensures refused { OnErr result (self.new ≡ self.old) }
     {
         let slot = draft.slot() % SLOTS;
         if let Some(number) = self.find(slot, &draft) {

@@ -1,5 +1,5 @@
 pub mod CaseLemmas
-pub mod FixedLemmas
 pub mod NameLemmas
+pub mod NumberLemmas
 pub mod RoundingLemmas
 pub mod TextLemmas

@@ -1,4 +1,5 @@
 pub mod Ascii
+pub mod DeviceView
 pub mod KindName
 pub mod NameKey
 pub mod NameList

@@ -4,7 +4,7 @@ ghost use Rattle.std.specs.Prelude.{◌≡◌, IfOk, encode_utf8_all};
 ghost use Rattle.std.specs.Str.{chars};
 ghost use Rattle.stylo_base.specs.NameKey.{key_of};
 
-use crate::{NoMemory, Text, name_key};
+use crate::{NoMemory, Text, key_of_text};
 use std::alloc::Global;
 use std::marker::Model;
 
@@ -32,7 +32,7 @@ impl Atom {
     pub fn of_text(text: Text) -> Atom
         ensures { result ≡ text }
     {
-        let key = name_key::key_of(text.as_str().as_bytes());
+        let key = key_of_text(text.as_str());
         Atom { key, text }
     }
 

@@ -1,8 +1,9 @@
 //! Fixed-point numbers: whole thousandths within a range.
 
-ghost use Rattle.std.specs.Prelude.{◌≡◌, ◌*◌, ◌/◌, ◌%◌, ◌^◌, ◌<◌, ◌∷◌, [], ◌+ℤ◌, ◌*ℤ◌, ◌<ℤ◌, pos, unsigned_abs, IfOk};
-ghost use Rattle.base_model.specs.Thousandths.{IsInRange, clamped, pointed, rounded, without_zeros, written};
+ghost use Rattle.std.specs.Prelude.{◌≡◌, ◌^◌, ◌<◌, ◌+ℤ◌, ◌*ℤ◌, ◌<ℤ◌, pos, unsigned_abs, IfOk};
+ghost use Rattle.base_model.specs.Thousandths.{IsInRange, clamped, rounded, written};
 
+use crate::number_text::NUMBER_ROOM;
 use crate::{NoMemory, Text};
 use std::alloc::Global;
 use std::marker::Model;
@@ -78,13 +79,8 @@ impl Fixed {
     pub fn write(self, alloc: Global) -> Result<Text, NoMemory>
         ensures { IfOk result (λ t. t ≡ written self) }
     {
-        let size = self.thousandths.unsigned_abs();
         let mut text = Text::new(alloc);
-        if self.thousandths < 0 {
-            text.push_str("-")?;
-        }
-        text.push_number(size / 1000)?;
-        text.push_text(&fraction(alloc, size)?)?;
+        text.push_fixed(self, [b' '; NUMBER_ROOM], NUMBER_ROOM)?;
         Ok(text)
     }
 }
@@ -98,25 +94,4 @@ fn divide(z: i128, d: u64) -> i128
     let d = u128::from(d);
     let size = ((2 * z.unsigned_abs() + d) / (2 * d)) as i128;
     if z < 0 { -size } else { size }
-}
-
-// The point and the digits after it of `n` thousandths, with no zeros at the end.
-fn fraction(alloc: Global, n: u64) -> Result<Text, NoMemory>
-    ensures { IfOk result (λ t. t ≡ pointed (without_zeros (n / 100 % 10 ∷ n / 10 % 10 ∷ n % 10 ∷ []))) }
-{
-    let mut text = Text::new(alloc);
-    if n % 1000 == 0 {
-        return Ok(text);
-    }
-    text.push_str(".")?;
-    text.push_number(n / 100 % 10)?;
-    if n % 100 == 0 {
-        return Ok(text);
-    }
-    text.push_number(n / 10 % 10)?;
-    if n % 10 == 0 {
-        return Ok(text);
-    }
-    text.push_number(n % 10)?;
-    Ok(text)
 }

@@ -23,3 +23,12 @@ pub const SHEET_LIMIT: usize = 256;
 
 /// The most bytes of a sheet's text.
 pub const TEXT_LIMIT: usize = 4_194_304;
+
+/// The most numbers that are ever given to elements, or to sheets.
+pub const NUMBER_LIMIT: usize = 4_000_000;
+
+/// The most batches of a job.
+pub const BATCH_LIMIT: usize = 10_000;
+
+/// The most pixels of the width of a device, and of its height.
+pub const DEVICE_LIMIT: u32 = 1_000_000;

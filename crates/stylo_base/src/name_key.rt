@@ -1,6 +1,7 @@
 //! The keys of names.
 
-ghost use Rattle.std.specs.Prelude.{◌≡◌};
+ghost use Rattle.std.specs.Prelude.{◌≡◌, encode_utf8_all};
+ghost use Rattle.std.specs.Str.{chars};
 ghost use Rattle.stylo_base.specs.NameKey.{key_of, with_byte};
 
 // The key once a byte is read.
@@ -10,10 +11,14 @@ fn with_byte(key: u64, byte: u8) -> u64
     key.wrapping_mul(31).wrapping_add(u64::from(byte))
 }
 
-/// The key of a text in UTF-8.
+/// The key of a text: the number by which names are compared first. Two texts with one key are mostly
+/// one text, and two texts with two keys never are.
 #[tactic(auto, unfolding(crate::specs::NameKey::key_of))]
-pub(crate) fn key_of(text: &[u8]) -> u64
-    ensures { result ≡ key_of text.now }
+pub fn key_of_text(text: &str) -> u64
+    ensures bytes { result ≡ key_of text.now }
+    ensures characters { result ≡ key_of (encode_utf8_all (chars text.now)) }
 {
-    text.iter().fold(0, |key, byte| with_byte(key, *byte))
+    text.as_bytes()
+        .iter()
+        .fold(0, |key, byte| with_byte(key, *byte))
 }

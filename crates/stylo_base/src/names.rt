@@ -6,7 +6,7 @@ ghost use Rattle.base_model.specs.Text.{same_text};
 ghost use Rattle.stylo_base.specs.NameKey.{key_of};
 ghost use Rattle.stylo_base.specs.NameList.{StandOnce, interned, is_among};
 
-use crate::{Atom, NoMemory, name_key};
+use crate::{Atom, NoMemory, key_of_text};
 use indexmap::IndexSet;
 use std::alloc::Global;
 use std::marker::Model;
@@ -120,7 +120,7 @@ impl Names {
         let kept = String::from_str(*self.texts.allocator(), text)?;
         self.keys.reserve(1)?;
         self.texts.insert(kept)?;
-        self.keys.push(name_key::key_of(text.as_bytes()))?;
+        self.keys.push(key_of_text(text))?;
         Ok(Name {
             index: index as u32,
         })

@@ -1,10 +1,9 @@
 //! The JSON pointer at which a job is at fault.
 
-ghost use Rattle.std.specs.Prelude.{◌≡◌, [], encode_utf8_all};
+ghost use Rattle.std.specs.Prelude.{◌≡◌, encode_utf8_all};
 ghost use Rattle.std.specs.Str.{chars};
 
 use crate::Text;
-use std::alloc::Global;
 use std::fmt;
 use std::marker::Model;
 
@@ -29,15 +28,6 @@ impl fmt::Display for PathText {
 }
 
 impl PathText {
-    /// The pointer to the whole job. It takes no memory.
-    pub fn empty(alloc: Global) -> PathText
-        ensures { result ≡ [] }
-    {
-        PathText {
-            text: Text::new(alloc),
-        }
-    }
-
     /// The pointer that `text` spells.
     pub fn of_text(text: Text) -> PathText
         ensures { result ≡ text }

@@ -28,6 +28,8 @@ pub enum Kind {
     Text,
     /// The batches of a job.
     Batches,
+    /// The pixels of the width of a device, or of its height.
+    Device,
 }
 
 impl Kind {
@@ -45,6 +47,7 @@ impl Kind {
             Kind::Sheets => "sheets",
             Kind::Text => "text",
             Kind::Batches => "batches",
+            Kind::Device => "device",
         }
     }
 }

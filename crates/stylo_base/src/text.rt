@@ -116,13 +116,6 @@ impl Text {
         self.as_str() == other.as_str()
     }
 
-    /// Whether the text has the characters of `text`.
-    pub fn is_str(&self, text: &str) -> bool
-        ensures { IsTrue result ↔ (self.now ≡ chars text.now) }
-    {
-        self.as_str() == text
-    }
-
     /// The length of the text in UTF-8, in bytes.
     pub fn byte_len(&self) -> usize
         ensures { result ≡ length (encode_utf8_all self.now) }

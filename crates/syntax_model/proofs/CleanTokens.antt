@@ -151,7 +151,7 @@ unfolding tokens_in
 clean_tokens text h = tokens_clean (length text) 0 text h
 
 -- what is preprocessed is so
-after_clean : (is_after_cr : Bool) (text : Characters) → is_preprocessed (preprocessed_after is_after_cr text) ≡ true
+pub after_clean : (is_after_cr : Bool) (text : Characters) → is_preprocessed (preprocessed_after is_after_cr text) ≡ true
 after_clean is_after_cr [] = refl
 after_clean is_after_cr (c ∷ cs) =
     let P : Characters → Type 0 = λ w. is_preprocessed w ≡ true in

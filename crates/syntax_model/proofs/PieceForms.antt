@@ -1,8 +1,8 @@
 -- The piece of each row takes as many characters as its row says.
-use Rattle.std.proofs.Common.{◌≡◌, ℕ, ◌+◌, ◌<◌, Bool, true, false, cond, eqb, ◌&&◌, ◌||◌, [], ◌∷◌, ◌++◌, drop, refl, sym, ap, ◌∙◌, arith, inl, inr, append_assoc}
+use Rattle.std.proofs.Common.{◌≡◌, ℕ, ◌+◌, ◌<◌, true, false, cond, eqb, ◌&&◌, ◌||◌, [], ◌∷◌, ◌++◌, drop, refl, sym, ap, ◌∙◌, arith, inl, inr, append_assoc}
 use Rattle.std.specs.Prelude.{not}
 use Rattle.std.specs.List.{prefix_len}
-use Rattle.std.proofs.lemmas.Bool.{cond_both, cond-true, and_parts, or_cases, or_right, eqb-true}
+use Rattle.std.proofs.lemmas.Bool.{cond_both, cond-true, and_parts, or_cases, or_right, eqb-true, not-true, not-false}
 use Rattle.std.proofs.lemmas.List.{drop-drop}
 use Rattle.base_model.specs.Lists.{is_nil}
 use Rattle.base_model.specs.Text.{Characters}
@@ -12,7 +12,7 @@ use Rattle.syntax_model.specs.Numbers.{after_fraction, after_sign, after_whole, 
 use Rattle.syntax_model.specs.Pieces.{Piece, comment_len, ident_piece, is_closing, is_line_feed, name_in, name_len, number_piece, row_at, row_len, starts_cdc, starts_cdo, starts_comment, starts_ident, string_piece, url_piece}
 use Rattle.syntax_model.specs.Reading.{begins_url, ends_unclosed, ends_well, is_opening, is_percent, starts_exponent, Either, Form, IsAfterName, IsClosedBy, IsClosing, IsComment, IsExponent, IsFraction, IsIdentLike, IsNameAfter, IsNamed, IsNothing, IsNumber, IsOne, IsOpened, IsOptional, IsPiece, IsQuoted, IsRemnant, IsRun, IsSpan, IsString, IsStringEnd, IsSuffix, IsText, IsUnitName, IsUnits, IsUrl, IsUrlEnd, Then}
 use Rattle.syntax_model.proofs.UnitLemmas.{comment_fits, name_fits, remnant_fits, string_fits, url_fits}
-use Rattle.syntax_model.proofs.PieceLemmas.{escape_some, not_false, one_commented, row_any, run_stops}
+use Rattle.syntax_model.proofs.PieceLemmas.{escape_some, one_commented, row_any, run_stops}
 use Rattle.syntax_model.proofs.FormLemmas.{Takes, run_says, takes_as, takes_either, takes_no, takes_nothing, takes_one, takes_optional, takes_run, takes_some, takes_span, takes_text, takes_then, takes_units, takes_yes}
 
 -- What follows the run of a comment, a string, a url or a bad url.
@@ -53,10 +53,6 @@ remnant_end [] stops = refl
 remnant_end (c ∷ cs) stops =
     let P : Unit → Type 0 = λ u. u.taken ≡ 0 → is_closing c ≡ true in
     cond_both (starts_escape (c ∷ cs)) _ _ P (λ _ none. absurd (omega (arith, none, escape_some cs))) (λ _. cond_both (eqb c 41) _ _ P (λ e _. e) (λ _ none. absurd (omega (arith, none)))) stops
-
-not_true : (b : Bool) → not b ≡ true → b ≡ false
-not_true false e = refl
-not_true true e = cc
 
 -- one character, by its number
 takes_sign : (sign c : ℕ) (cs : Characters) → eqb c sign ≡ true → Takes (IsText (sign ∷ [])) (c ∷ cs) 1
@@ -190,12 +186,12 @@ takes_ident text =
     named_so =
         let P : Piece → Type 0 = λ piece. Takes (IsNamed name) text piece.length in
         cond_both (not (begins is_opening rest)) _ _ P
-        (λ e. to_end 0 _ (omega arith) (takes_no (begins is_opening) (Then (IsOne is_opening) (IsOpened name)) IsNothing rest 0 (not_true _ e) (takes_nothing rest)))
+        (λ e. to_end 0 _ (omega arith) (takes_no (begins is_opening) (Then (IsOne is_opening) (IsOpened name)) IsNothing rest 0 (not-true _ e) (takes_nothing rest)))
         (λ e. cond_both (begins_url name (drop 1 rest)) _ _ P
         (λ is_url.
         let url : (n : ℕ) × Takes IsUrl (drop 1 rest) n × ((url_piece (taken + 1) (drop 1 rest)).length ≡ taken + 1 + n) = takes_url (taken + 1) (drop 1 rest) in
-        past_open url.0 _ (omega (arith, url.2)) (not_false _ e) (takes_yes (begins_url name) IsUrl IsNothing (drop 1 rest) url.0 is_url url.1))
-        (λ no_url. past_open 0 _ (omega arith) (not_false _ e) (takes_no (begins_url name) IsUrl IsNothing (drop 1 rest) 0 no_url (takes_nothing (drop 1 rest)))))
+        past_open url.0 _ (omega (arith, url.2)) (not-false _ e) (takes_yes (begins_url name) IsUrl IsNothing (drop 1 rest) url.0 is_url url.1))
+        (λ no_url. past_open 0 _ (omega arith) (not-false _ e) (takes_no (begins_url name) IsUrl IsNothing (drop 1 rest) 0 no_url (takes_nothing (drop 1 rest)))))
 
 takes_cdc : (text : Characters) → starts_cdc text ≡ true → Takes (IsText (45 ∷ 45 ∷ 62 ∷ [])) text 3
 takes_cdc (a ∷ b ∷ c ∷ cs) starts =

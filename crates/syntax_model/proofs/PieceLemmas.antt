@@ -3,7 +3,7 @@ use Rattle.std.proofs.Common.{◌≡◌, ℕ, zero, suc, ◌+◌, ◌<◌, ◌�
 use Rattle.syntax_model.specs.Token.{url, bad_url}
 use Rattle.std.specs.Prelude.{codes, not, if◌then◌else◌}
 use Rattle.std.specs.List.{prefix_len}
-use Rattle.std.proofs.lemmas.Bool.{cond_both, cond-true, cond-false, and_parts, and_right, or_cases, or_left, or_right, eqb-true}
+use Rattle.std.proofs.lemmas.Bool.{cond_both, cond-true, cond-false, and_parts, and_right, or_cases, or_left, or_right, eqb-true, not-false}
 use Rattle.std.proofs.lemmas.List.{drop-drop}
 use Rattle.base_model.specs.Lists.{is_nil}
 use Rattle.base_model.specs.Text.{Characters, is_word}
@@ -183,10 +183,6 @@ url_part before text =
     (λ _. omega (arith, one, two, three, one_inside is_closing rest))
     (λ _. omega (arith, one, two, three, one_after is_closing bad rest (run_inside remnant_unit remnant_fits (length rest) rest)))
 
-pub not_false : (b : Bool) → not b ≡ false → b ≡ true
-not_false true e = refl
-not_false false e = cc
-
 -- what is left after a url and the whitespace around it
 abbrev pub url_rest : Characters → Characters
 url_rest text =
@@ -214,7 +210,7 @@ ident_part text starts =
     cond_both (not (begins (λ c. eqb c 40) rest)) _ _ P
     (λ _. record { some = some; inside = inside })
     (λ opens.
-    let more : 0 < length rest = begins_some (λ c. eqb c 40) rest (not_false _ opens) in
+    let more : 0 < length rest = begins_some (λ c. eqb c 40) rest (not-false _ opens) in
     cond_both (is_word (codes "url") (name_in text) && not (quote_follows (drop 1 rest))) _ _ P
     (λ _. record { some = url_some taken (drop 1 rest); inside = omega (arith, inside, size, more, url_part (taken + 1) (drop 1 rest), length-drop 1 rest) })
     (λ _. record { some = omega arith; inside = omega (arith, inside, size, more) }))

@@ -2,7 +2,7 @@
 use Rattle.std.proofs.Common.{◌≡◌, ℕ, zero, suc, ◌+◌, ◌<◌, ◌≤◌, Bool, true, false, cond, eqb, ◌&&◌, ◌||◌, List, [], ◌∷◌, ◌++◌, length, drop, refl, sym, ap, ◌∙◌, arith, inl, inr, length-drop}
 use Rattle.std.specs.Prelude.{codes, not}
 use Rattle.std.specs.List.{list_all, prefix_len}
-use Rattle.std.proofs.lemmas.Bool.{cond_both, cond-false, cond-true, and_from, and_parts, cases_Bool, eqb-true, false≢true, or_cases}
+use Rattle.std.proofs.lemmas.Bool.{cond_both, cond-false, cond-true, and_from, and_parts, cases_Bool, eqb-true, false≢true, or_cases, not-false}
 use Rattle.std.proofs.lemmas.List.{drop-drop}
 use Rattle.base_model.specs.Text.{Characters, is_word}
 use Rattle.syntax_model.specs.Letters.{begins, is_blank, is_quote}
@@ -13,7 +13,7 @@ use Rattle.syntax_model.specs.Kinds.{begins_with, is_white, without_white}
 use Rattle.syntax_model.specs.Pieces.{Piece, Row, comment_row, ident_piece, is_line_feed, mark_kind, name_in, name_len, number_piece, piece_of, plain, quote_follows, row_at, row_len, row_tokens, starts_ident, string_piece, string_row, token_of, url_piece, white_row}
 use Rattle.syntax_model.specs.TokensIn.{tokens_from, tokens_in}
 use Rattle.syntax_model.specs.Written.{is_bad_string, is_string, is_url_function, urls_go_on}
-use Rattle.syntax_model.proofs.PieceLemmas.{first_is, not_false, row_any, url_any}
+use Rattle.syntax_model.proofs.PieceLemmas.{first_is, row_any, url_any}
 
 abbrev NoBad : List Token → Type 0
 NoBad tokens = list_all (λ token. not (is_bad_string token.kind)) tokens ≡ true
@@ -112,7 +112,7 @@ ident_goes_on text =
     (λ none url. by (is_word (codes "url") (name_in text)) none url))
   where
     by : (b : Bool) → (b && not (quote_follows (drop 1 (drop (name_len text) text)))) ≡ false → b ≡ true → quote_follows (drop (name_len text + 1) text) ≡ true
-    by true none url = rw (← drop-drop 1 (name_len text) text) (not_false _ none)
+    by true none url = rw (← drop-drop 1 (name_len text) text) (not-false _ none)
     by false none url = absurd (false≢true url)
 
 piece_goes_on : (c : ℕ) (cs : Characters) → GoesOn (c ∷ cs) (piece_of (row_at (c ∷ cs)) c cs)

@@ -1,7 +1,7 @@
 -- What readers of tokens ask of a token's kind, and whitespace at the ends of token lists.
 use Rattle.std.specs.Prelude.{ℕ, ◌==◌, List, [], ◌∷◌, reverse, Bool, true, false, ◌||◌, if◌then◌else◌}
-use Rattle.syntax_model.specs.Token.{Token, Kind, ident, at_keyword, hash, delim, whitespace, cdo, cdc, colon, semicolon}
-use Rattle.syntax_model.specs.Token.{comma, open_curly, close_curly}
+use Rattle.syntax_model.specs.Token.{Token, Kind, ident, function, at_keyword, hash, delim, whitespace, cdo, cdc, colon}
+use Rattle.syntax_model.specs.Token.{semicolon, comma, close_round, open_curly, close_curly}
 
 abbrev pub is_white : Kind → Bool
 is_white whitespace = true
@@ -10,6 +10,10 @@ is_white kind = false
 abbrev pub is_ident : Kind → Bool
 is_ident ident = true
 is_ident kind = false
+
+abbrev pub is_function : Kind → Bool
+is_function function = true
+is_function kind = false
 
 abbrev pub is_at_keyword : Kind → Bool
 is_at_keyword at_keyword = true
@@ -43,6 +47,10 @@ is_colon kind = false
 abbrev pub is_semicolon : Kind → Bool
 is_semicolon semicolon = true
 is_semicolon kind = false
+
+abbrev pub is_close_round : Kind → Bool
+is_close_round close_round = true
+is_close_round kind = false
 
 abbrev pub is_open_curly : Kind → Bool
 is_open_curly open_curly = true

@@ -1,6 +1,4 @@
-use css_tokens::{
-    Cursor, OpenBrackets, Part, Separator, Token, name_of, preprocess, tokens, trimmed,
-};
+use css_tokens::{Cursor, OpenBrackets, Part, Separator, Token, preprocess, tokens};
 use std::alloc::Global;
 use std::test::Fail;
 use stylo_base::NoMemory;
@@ -28,13 +26,6 @@ fn steps(rt: HostRuntime) -> Result<(), Fail> {
     Ok(())
 }
 
-#[test]
-fn no_steps(rt: HostRuntime) -> Result<(), Fail> {
-    let all = takes_all(rt.alloc(), "p  .;;")?;
-    assert!(rt; !all);
-    Ok(())
-}
-
 // How many tokens come before the first comma outside brackets, how many are left from there, and
 // whether brackets are open.
 fn first_part(alloc: Global, text: &str) -> Result<(usize, usize, bool), NoMemory> {
@@ -48,13 +39,6 @@ fn first_part(alloc: Global, text: &str) -> Result<(usize, usize, bool), NoMemor
 fn parts(rt: HostRuntime) -> Result<(), Fail> {
     let seen = first_part(rt.alloc(), "a(,)b,c")?;
     assert_eq!(rt; seen, (4, 2, false));
-    Ok(())
-}
-
-#[test]
-fn open_part(rt: HostRuntime) -> Result<(), Fail> {
-    let seen = first_part(rt.alloc(), "a(,c")?;
-    assert_eq!(rt; seen, (3, 0, true));
     Ok(())
 }
 
@@ -80,21 +64,5 @@ fn open_brackets(rt: HostRuntime) -> Result<(), Fail> {
         text.as_str(),
         "OpenRound;OpenSquare;CloseRound;CloseSquare;CloseRound;"
     );
-    Ok(())
-}
-
-// The name of the one token between whitespace.
-fn is_named(alloc: Global, text: &str, name: &str) -> Result<bool, NoMemory> {
-    let list = tokens_of(alloc, text)?;
-    match trimmed(list.as_slice()) {
-        [token] => Ok(name_of(token).as_str() == name),
-        _ => Ok(false),
-    }
-}
-
-#[test]
-fn trimmed_tokens(rt: HostRuntime) -> Result<(), Fail> {
-    let named = is_named(rt.alloc(), " p ", "p")?;
-    assert!(rt; named);
     Ok(())
 }

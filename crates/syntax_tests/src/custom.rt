@@ -37,19 +37,6 @@ fn value_in_normal_form(rt: HostRuntime) -> Result<(), Fail> {
     Ok(())
 }
 
-fn is_valid(alloc: Global, text: &str) -> Result<bool, NoMemory> {
-    let list = tokens_of(alloc, text)?;
-    let value = CustomValue::read(alloc, list.as_slice())?;
-    Ok(value.is_some())
-}
-
-#[test]
-fn invalid_value(rt: HostRuntime) -> Result<(), Fail> {
-    let valid = is_valid(rt.alloc(), "a ([)]")?;
-    assert!(rt; !valid);
-    Ok(())
-}
-
 fn refers(alloc: Global, text: &str) -> Result<bool, NoMemory> {
     let list = tokens_of(alloc, text)?;
     let value = CustomValue::read_referring(alloc, list.as_slice())?;

@@ -19,10 +19,3 @@ fn values(rt: HostRuntime) -> Result<(), Fail> {
     assert_eq!(rt; half, Some(-1235));
     Ok(())
 }
-
-#[test]
-fn far_exponents(rt: HostRuntime) -> Result<(), Fail> {
-    let most = value(rt.alloc(), "1e99999999999999999999999999")?;
-    assert_eq!(rt; most, Some(2_000_000_000_000));
-    Ok(())
-}

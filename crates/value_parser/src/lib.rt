@@ -15,9 +15,8 @@ mod property_value;
 mod rgb;
 mod taken;
 mod unit;
-mod wide;
 mod word;
 
+pub use css_tokens::wide_keyword;
 pub use property_value::value;
 pub use taken::are_taken;
-pub use wide::wide_keyword;

@@ -25,7 +25,7 @@ pub fn rgb_of(tokens: &[Token]) -> Option<Color>
 fn is_rgb(token: &Token) -> bool
     ensures { result ≡ is_rgb token.now }
 {
-    matches!(token.kind(), Kind::Function) && eq_ascii_case(name_of(token).as_str(), "rgb")
+    token.is_function() && eq_ascii_case(name_of(token).as_str(), "rgb")
 }
 
 // The colour of three integers, and after them the closing bracket alone.
@@ -85,7 +85,7 @@ fn is_closed(cursor: &mut Cursor) -> bool
     ensures { result ≡ is_closed cursor.old }
 {
     match cursor.next() {
-        Some(token) => matches!(token.kind(), Kind::CloseRound) && cursor.is_at_end(),
+        Some(token) => token.kind().is_close_round() && cursor.is_at_end(),
         None => false,
     }
 }

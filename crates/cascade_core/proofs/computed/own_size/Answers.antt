@@ -15,6 +15,6 @@ font_row = refl
 
 pub returns : goal.returns
 returns c =
-    c.size_in.ensures
+    c.font_size.ensures
     ∙ ap size_in (c.value_at.ensures
     ∙ ap (λ (row : Row). value_at row (pixels c.args.size) c.args.size c.args.weight (sizes c.args.size c.args.root_size) (ending_seen value_of c.args.ending)) (c.of.ensures.row ∙ font_row))

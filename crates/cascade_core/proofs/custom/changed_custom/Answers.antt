@@ -10,12 +10,12 @@ pub returns-in-None : goal.returns-in-None
 returns-in-None c =
     sym c.map.ensures
     ∙ (ap (λ o. unwrap_or o c.map.result.now) (sym c.in-None.is)
-    ∙ (c.in_ok-changed.ensures
+    ∙ (c.in_ok-changed.ensures.map
     ∙ resolved_all (flat_map matched_of (c.args.matched.now ++ c.args.attached.now)) _ (map head_of c.deref.result.now) (map declared_entry c.in_ok-declared_entries.field-0.items) _ c.args.parent.now _ c.in_ok-list.ensures (ap (map head_of) c.deref.ensures.value) c.in_ok-declared_entries.ensures.sorted c.in_ok-declared_entries.ensures.each c.of_entries-declared.ensures c.map.ensures))
 
 pub returns : goal.returns
 returns c =
     c.in_ok-printed-in-Some.ensures
     ∙ (ap (λ o. unwrap_or o c.map.result.now) (sym c.in-Some.is)
-    ∙ (c.in_ok-changed.ensures
+    ∙ (c.in_ok-changed.ensures.map
     ∙ resolved_all (flat_map matched_of (c.args.matched.now ++ c.args.attached.now)) _ (map head_of c.deref.result.now) (map declared_entry c.in_ok-declared_entries.field-0.items) _ c.args.parent.now _ c.in_ok-list.ensures (ap (map head_of) c.deref.ensures.value) c.in_ok-declared_entries.ensures.sorted c.in_ok-declared_entries.ensures.each c.of_entries-declared.ensures c.map.ensures))

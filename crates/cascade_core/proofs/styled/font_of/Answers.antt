@@ -5,4 +5,4 @@ use Rattle.cascade_core.proofs.styled.font_of.Goals as goal
 
 pub returns-clause-size : goal.returns-clause-size
 returns-clause-size c =
-    c.size_in-size.ensures ∙ sym (ap (λ o. option_map_or size_in o initial_size) c.value.ensures.value)
+    c.font_size-size.ensures ∙ sym (ap (λ o. option_map_or size_in o initial_size) c.value.ensures.value)

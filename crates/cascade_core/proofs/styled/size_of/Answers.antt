@@ -8,8 +8,8 @@ use Rattle.value_model.specs.Style.{size_in}
 use Rattle.cascade_model.specs.Ending.{Ending, ending}
 use Rattle.cascade_model.specs.Cascade.{sizes, value_at}
 use Rattle.cascade_core.specs.CameView.{Reading}
-use Rattle.cascade_core.proofs.FilledLemmas.{size_within}
 use Rattle.cascade_core.proofs.styled.size_of.Goals as goal
+use Rattle.cascade_model.proofs.ValuesLemmas.{size_within}
 
 pub returns-then-declared-row-eq0 : goal.returns-then-declared-row-eq0
 returns-then-declared-row-eq0 c =

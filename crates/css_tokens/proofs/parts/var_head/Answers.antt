@@ -1,7 +1,7 @@
 use Rattle.std.proofs.Common.{Bool, ◌∷◌, None, map, length, sym, ap, ◌∙◌, arith}
 use Rattle.std.specs.Prelude.{if◌then◌else◌}
 use Rattle.syntax_model.specs.Token.{said}
-use Rattle.custom_model.specs.Parts.{is_close_round}
+use Rattle.syntax_model.specs.Kinds.{is_close_round}
 use Rattle.custom_model.specs.Steps.{alone, begins}
 use Rattle.css_tokens.specs.Opened.{anywhere, first_then, steps_from}
 use Rattle.css_tokens.specs.Steps.{steps_behind}

@@ -11,7 +11,7 @@ returns-in-Some g c =
     let values = g.V.Values.lookup c.args.known.now in
     let kept = finmap.get c.args.inherited.now c.args.name.now in
     subst (λ x. IfOk c.by_keyword.result (λ v. v ≡ x))
-    (off_plain values kept c.args.value.now c.tokens.result.now c.tokens.ensures (c.is_plain.ensures c.if-is_plain.true values) (Some (keyword_of c.in-Some.wide)) c.in-Some.ensures)
+    (off_plain values kept c.args.value.now c.tokens.result.now c.tokens.ensures (c.is_plain.ensures.0 c.if-is_plain.true values) (Some (keyword_of c.in-Some.wide)) c.in-Some.ensures)
     (c.by_keyword.ensures c.args.value.now)
 
 pub returns-in_default : goal.returns-in_default
@@ -26,19 +26,19 @@ of_tokens-requires g c =
     let kept = finmap.get c.args.inherited.now c.args.name.now in
     off_unplaced values kept c.args.value.now c.tokens-2.result.now c.tokens-2.ensures c.in-Some-2.tokens.items (ap (option_map (λ l. l.items)) (sym c.in-Some-2.is) ∙ c.in_ok-tokens.ensures)
 
-pub returns-in_ok-value-in-None-keyword : goal.returns-in_ok-value-in-None-keyword
-returns-in_ok-value-in-None-keyword g c =
+pub returns-in_ok-value-in-None-wide_keyword : goal.returns-in_ok-value-in-None-wide_keyword
+returns-in_ok-value-in-None-wide_keyword g c =
     let values = g.V.Values.lookup c.args.known.now in
     let kept = finmap.get c.args.inherited.now c.args.name.now in
-    ap Some c.in_ok-value-in-None-keyword.ensures
+    ap Some c.in_ok-value-in-None-wide_keyword.ensures
     ∙ off_expanded values kept c.args.value.now c.tokens-2.result.now c.tokens-2.ensures c.in-Some-2.tokens.items (ap (option_map (λ l. l.items)) (sym c.in-Some-2.is) ∙ c.in_ok-tokens.ensures) None
-    (c.in-None-keyword.ensures ∙ ap (λ l. wide_of (map said l)) c.deref.ensures.value)
+    (c.in-None-wide_keyword.ensures ∙ ap (λ l. wide_of (map said l)) c.deref.ensures.value)
 
-pub returns-in-Some-keyword : goal.returns-in-Some-keyword
-returns-in-Some-keyword g c =
+pub returns-in-Some-wide_keyword : goal.returns-in-Some-wide_keyword
+returns-in-Some-wide_keyword g c =
     let values = g.V.Values.lookup c.args.known.now in
     let kept = finmap.get c.args.inherited.now c.args.name.now in
-    subst (λ x. IfOk c.by_keyword-in-Some-keyword.result (λ v. v ≡ x))
-    (off_expanded values kept c.args.value.now c.tokens-2.result.now c.tokens-2.ensures c.in-Some-2.tokens.items (ap (option_map (λ l. l.items)) (sym c.in-Some-2.is) ∙ c.in_ok-tokens.ensures) (Some (keyword_of c.in-Some-keyword.wide))
-    (c.in-Some-keyword.ensures ∙ ap (λ l. wide_of (map said l)) c.deref.ensures.value))
-    (c.by_keyword-in-Some-keyword.ensures (map said c.in-Some-2.tokens.items))
+    subst (λ x. IfOk c.by_keyword-in-Some-wide_keyword.result (λ v. v ≡ x))
+    (off_expanded values kept c.args.value.now c.tokens-2.result.now c.tokens-2.ensures c.in-Some-2.tokens.items (ap (option_map (λ l. l.items)) (sym c.in-Some-2.is) ∙ c.in_ok-tokens.ensures) (Some (keyword_of c.in-Some-wide_keyword.wide))
+    (c.in-Some-wide_keyword.ensures ∙ ap (λ l. wide_of (map said l)) c.deref.ensures.value))
+    (c.by_keyword-in-Some-wide_keyword.ensures (map said c.in-Some-2.tokens.items))

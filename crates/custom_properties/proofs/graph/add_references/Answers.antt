@@ -8,7 +8,7 @@ pub returns-then-is_plain : goal.returns-then-is_plain
 returns-then-is_plain c =
     let all = finmap.entries c.args.declared.now in
     of_entry all c.args.from c.args.edges.now.items c.args.edges.now.items c.args.entry.now c.in-Some.value c.in-Some.is
-    (none_to_add all c.args.from c.in-Some.value.now c.args.edges.now.items c.args.edges.now.items (plain_refers_to_none c.in-Some.value.now (c.is_plain.ensures c.if-is_plain.true)))
+    (none_to_add all c.args.from c.in-Some.value.now c.args.edges.now.items c.args.edges.now.items (plain_refers_to_none c.in-Some.value.now (c.is_plain.ensures.0 c.if-is_plain.true)))
 
 pub returns-then-not-branch : goal.returns-then-not-branch
 returns-then-not-branch c =

@@ -1,10 +1,10 @@
-use Rattle.std.proofs.Common.{map, ap, refl, ◌∙◌, arith}
+use Rattle.std.proofs.Common.{map, ap, ◌∙◌, arith}
 use Rattle.std.specs.FinMap as finmap
 use Rattle.std.proofs.lemmas.List.{take_all}
 use Rattle.syntax_model.specs.Token.{said}
 use Rattle.custom_model.specs.Steps.{steps_in}
 use Rattle.custom_properties.specs.Added.{with_steps}
-use Rattle.custom_properties.proofs.AddedLemmas.{said_unplaced}
+use Rattle.custom_model.proofs.Said.{said_unplaced}
 use Rattle.custom_properties.proofs.graph.add_steps.Goals as goal
 
 pub loop-reader-init : goal.loop-reader-init

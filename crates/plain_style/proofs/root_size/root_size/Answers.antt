@@ -1,7 +1,7 @@
 use Rattle.std.proofs.Common.{◌≡◌, ◌<◌, ◌≤◌, ◌∙◌, get_or, length, subst, sym, rules as the_rules}
 use Rattle.scene_model.specs.Lookups.{IsElement}
 use Rattle.sheet_set.specs.View.{sources_seen}
-use Rattle.plain_style.proofs.Walk.{element_in_order}
+use Rattle.scene_model.proofs.InOrder.{element_in_order}
 use Rattle.plain_style.proofs.RootLemmas.{no_root_size, root_nowhere, root_size_is, root_there}
 use Rattle.plain_style.proofs.root_size.root_size.Goals as goal
 

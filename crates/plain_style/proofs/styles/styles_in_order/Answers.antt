@@ -4,7 +4,8 @@ use Rattle.std.specs.Arc.{arc_value}
 use Rattle.cascade_model.specs.StyleOf.{style_of}
 use Rattle.sheet_set.specs.View.{sources_seen}
 use Rattle.plain_style.specs.Known.{style_at}
-use Rattle.plain_style.proofs.Walk.{element_in_order, parent_in_order, styled_more}
+use Rattle.scene_model.proofs.InOrder.{element_in_order, parent_in_order}
+use Rattle.plain_style.proofs.Walk.{styled_more}
 use Rattle.plain_style.proofs.Places.{known_more}
 use Rattle.plain_style.proofs.styles.styles_in_order.Goals as goal
 

@@ -1,13 +1,8 @@
-use Rattle.std.proofs.Common.{◌≡◌, Bool, true, false, not, refl}
 use Rattle.std.specs.Int.RustNames.{bit_and}
-use Rattle.std.proofs.lemmas.Bool.{eqb-true}
+use Rattle.std.proofs.lemmas.Bool.{eqb-true, not-false}
 use Rattle.selector_match.proofs.FilterLemmas.{none_passes}
 use Rattle.selector_match.proofs.filter.may_hold.Goals as goal
 
-turned : (b : Bool) → not b ≡ false → b ≡ true
-turned true h = refl
-turned false h = absurd (cc)
-
 pub returns-clause-none : goal.returns-clause-none
 returns-clause-none c = λ selectors doc x is has none.
-    none_passes doc x c.args.names has selectors c.args.filter is (eqb-true (bit_and c.args.filter c.args.names) 0 (turned _ none))
+    none_passes doc x c.args.names has selectors c.args.filter is (eqb-true (bit_and c.args.filter c.args.names) 0 (not-false _ none))

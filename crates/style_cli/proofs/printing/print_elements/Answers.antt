@@ -1,9 +1,10 @@
 use Rattle.std.proofs.Common.{rules}
 use Rattle.std.specs.Arc.{arc_value}
-use Rattle.plain_style.proofs.Walk.{element_in_order}
+use Rattle.scene_model.proofs.InOrder.{element_in_order}
 use Rattle.style_cli.proofs.Fronts.{next_begun, next_written}
-use Rattle.style_cli.proofs.Printed.{line_bytes, line_in_order, on_err}
+use Rattle.style_cli.proofs.Printed.{line_bytes, line_in_order}
 use Rattle.style_cli.proofs.printing.print_elements.Goals as goal
+use Rattle.base_model.proofs.Results.{on_err}
 
 pub print_element-requires : goal.print_element-requires
 print_element-requires g c = element_in_order c.args.doc.now.elements c.args.order.now c.loop-index.index c.requires.order (search rules)

@@ -3,8 +3,9 @@ use Rattle.scene_model.specs.Document.{Document}
 use Rattle.sheet_set.specs.View.{sources_seen}
 use Rattle.style_cli.specs.Loops.{GrewByFront}
 use Rattle.style_cli.specs.Text.{text_by, text_of}
-use Rattle.style_cli.proofs.Fronts.{none_written, on_err}
+use Rattle.style_cli.proofs.Fronts.{none_written}
 use Rattle.style_cli.proofs.printing.print_job.Goals as goal
+use Rattle.base_model.proofs.Results.{on_err}
 
 pub returns-clause-err : goal.returns-clause-err
 returns-clause-err g c =

@@ -5,8 +5,9 @@ use Rattle.std.specs.Arc.{arc_value}
 use Rattle.cascade_model.specs.StyleOf.{style_of}
 use Rattle.sheet_set.specs.View.{sources_seen}
 use Rattle.style_cli.specs.Text.{text_by}
-use Rattle.style_cli.proofs.Printed.{on_err, line_bytes, text_is, front_first, whole_last, front_of_last}
+use Rattle.style_cli.proofs.Printed.{line_bytes, text_is, front_first, whole_last, front_of_last}
 use Rattle.style_cli.proofs.printing.print_styled.Goals as goal
+use Rattle.base_model.proofs.Results.{on_err}
 
 pub returns-in_err-write_line-clause-err : goal.returns-in_err-write_line-clause-err
 returns-in_err-write_line-clause-err g c =

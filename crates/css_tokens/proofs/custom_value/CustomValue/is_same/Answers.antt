@@ -1,7 +1,7 @@
 use Rattle.std.proofs.Common.{map, sym, ap, ◌∙◌}
 use Rattle.syntax_model.specs.Token.{said}
 use Rattle.custom_model.specs.Value.{unplaced}
-use Rattle.css_tokens.proofs.ListLemmas.{said_unplaced}
+use Rattle.custom_model.proofs.Said.{said_unplaced}
 use Rattle.css_tokens.proofs.custom_value.CustomValue.is_same.Goals as goal
 
 pub returns : goal.returns

@@ -2,7 +2,7 @@ use Rattle.std.proofs.Common.{List, false, map, sym, ap, ◌∙◌}
 use Rattle.syntax_model.specs.Token.{Token, said}
 use Rattle.custom_model.specs.Steps.{steps_in}
 use Rattle.css_tokens.specs.Found.{found_after}
-use Rattle.css_tokens.proofs.FoundLemmas.{stays_normal, not_referring, is_referring}
+use Rattle.css_tokens.proofs.FoundLemmas.{stays_unplaced, not_referring, is_referring}
 use Rattle.css_tokens.proofs.custom_value.CustomValue.read_referring.Goals as goal
 
 pub returns-then-not-is_referring : goal.returns-then-not-is_referring
@@ -10,8 +10,8 @@ returns-then-not-is_referring c =
     not_referring c.args.tokens.now c.in_ok-list.list.items c.in_ok-found.found c.in_ok-list.ensures
     (c.in_ok-found.ensures ∙ ap (λ (l : List Token). found_after false (steps_in (map said l))) c.deref.ensures.value) (sym c.is_referring.ensures ∙ c.if-not-is_referring.true)
 
-pub kept-requires-clause-normal : goal.kept-requires-clause-normal
-kept-requires-clause-normal c = stays_normal c.args.tokens.now c.in_ok-list.list.items c.in_ok-found.found c.in_ok-list.ensures
+pub kept-requires-clause-unplaced : goal.kept-requires-clause-unplaced
+kept-requires-clause-unplaced c = stays_unplaced c.args.tokens.now c.in_ok-list.list.items c.in_ok-found.found c.in_ok-list.ensures
 
 pub returns : goal.returns
 returns c =

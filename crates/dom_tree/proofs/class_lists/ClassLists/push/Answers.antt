@@ -1,8 +1,8 @@
 use Rattle.std.proofs.Common.{rules, subst, ap, sym, ◌∙◌, append-nil, map, ◌++◌, ◌∷◌, []}
 use Rattle.dom_tree.specs.Classes.{AreLists, list_seen}
-use Rattle.dom_tree.proofs.ColumnLemmas.{on_err}
 use Rattle.dom_tree.proofs.ClassLemmas.{lists_kept, AreLists-kept, AreLists-push, lists_pushed}
 use Rattle.dom_tree.proofs.class_lists.ClassLists.push.Goals as goal
+use Rattle.base_model.proofs.Results.{on_err}
 
 pub returns-in_err-name_words-clause-err : goal.returns-in_err-name_words-clause-err
 returns-in_err-name_words-clause-err c = on_err _ _ (lists_kept _ _ c.self.inside.list.items [] _ c.name_words.ensures.kept (sym (append-nil c.self.inside.list.items)) c.self.inside.spans.items c.self.invariant ∙ c.self.view_is)

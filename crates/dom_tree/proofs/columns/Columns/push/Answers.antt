@@ -3,8 +3,9 @@ use Rattle.dom_tree.specs.Kept.{Table, node_seen, AreRows}
 use Rattle.dom_tree.specs.View.{node_of}
 use Rattle.dom_tree.proofs.NameLemmas.{KeepsTexts-more}
 use Rattle.dom_tree.proofs.AttrLemmas.{AreAttrs-more, attributes_kept}
-use Rattle.dom_tree.proofs.ColumnLemmas.{rows_kept, nodes_kept, rows_pushed, nodes_pushed, on_err}
+use Rattle.dom_tree.proofs.ColumnLemmas.{rows_kept, nodes_kept, rows_pushed, nodes_pushed}
 use Rattle.dom_tree.proofs.columns.Columns.push.Goals as goal
+use Rattle.base_model.proofs.Results.{on_err}
 
 pub invariant_of-self : goal.invariant_of-self
 invariant_of-self c = rows_kept _ _ c.self.inside.attrs.items [] _ c.name_attrs.ensures.kept (sym (append-nil c.self.inside.attrs.items)) c.self.inside.rows.items c.self.invariant

@@ -24,7 +24,7 @@ pub invariant_of-self-2 : goal.invariant_of-self-2
 invariant_of-self-2 c =
     let few : length c.args.self.now < 2 ^ 32 = omega (arith, at_end c) in
     let kept = subst (λ ts. AreKeyed ts c.self.inside.keys.items) c.self.view_is c.self.invariant in
-    let keys = rw (c.in_ok-reserve.ensures.items, c.key_of.ensures, c.as_bytes.ensures.value) at c.in_ok-push.ensures.items in
+    let keys = rw (c.in_ok-reserve.ensures.items, c.key_of_text.ensures.bytes) at c.in_ok-push.ensures.items in
     AreKeyed-push c.args.text.now c.utf8.text c.args.self.now _ c.self.inside.keys.items _ (longer c) keys (absent c) few kept
 
 pub returns-clause-index : goal.returns-clause-index

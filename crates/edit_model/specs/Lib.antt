@@ -1,0 +1,11 @@
+pub mod Touched
+pub mod Dependencies
+pub mod Marked
+pub mod Steady
+pub mod MarkedAfter
+pub mod Edit
+pub mod Refusal
+pub mod Apply
+pub mod SheetApply
+pub mod TouchedBy
+pub mod TouchedPairs
