@@ -3,7 +3,7 @@ use Rattle.std.specs.Prelude.{◌≡◌, ℕ, List, [], ◌∷◌, ◌++◌, ℤ
 use Rattle.std.proofs.Common.{refl, arith}
 use Rattle.std.proofs.lemmas.Fmt.{decimal-digits_of}
 use Rattle.base_model.specs.Text.{ascii_lower, same_text, is_word}
-use Rattle.base_model.specs.Thousandths.{clamped, rounded, written}
+use Rattle.base_model.specs.Thousandths.{clamped, rounded, printed_number}
 use Rattle.base_model.specs.Specificity.{Specificity, greater, is_less}
 
 -- numbers of thousandths; the digits of a whole part do not compute, so they are written as such
@@ -13,7 +13,7 @@ two_digits = decimal-digits_of 37 (omega arith) (omega arith)
 
 -- n parts of d of a number of thousandths, within the range, as it is printed
 abbrev parts : ℤ → ℤ → ℕ → List ℕ
-parts z n d = written (clamped (rounded (z *ℤ n) d))
+parts z n d = printed_number (clamped (rounded (z *ℤ n) d))
 
 parts_are : parts (pos 1000) (pos 4800) 127 ∷ parts (pos 1000) (neg_ℤ (pos 4)) 3 ∷ [] ≡ (decimal 37 ++ codes ".795") ∷ (codes "-" ++ decimal 1 ++ codes ".333") ∷ []
 parts_are = refl
@@ -24,10 +24,10 @@ halves_away_from_zero = refl
 within_range : clamped (pos 9_000_000_000_000) ∷ clamped (neg_ℤ (pos 9_000_000_000_000)) ∷ clamped (pos 7) ∷ [] ≡ pos 2_000_000_000_000 ∷ neg_ℤ (pos 2_000_000_000_000) ∷ pos 7 ∷ []
 within_range = refl
 
-whole : map written (pos 0 ∷ pos 1000 ∷ []) ≡ (decimal 0 ++ []) ∷ (decimal 1 ++ []) ∷ []
+whole : map printed_number (pos 0 ∷ pos 1000 ∷ []) ≡ (decimal 0 ++ []) ∷ (decimal 1 ++ []) ∷ []
 whole = refl
 
-printed : map written (neg_ℤ (pos 50) ∷ pos 37_795 ∷ pos 10 ∷ pos 1_999_999_998_500 ∷ []) ≡ (codes "-" ++ decimal 0 ++ codes ".05") ∷ (decimal 37 ++ codes ".795") ∷ (decimal 0 ++ codes ".01") ∷ (decimal 1_999_999_998 ++ codes ".5") ∷ []
+printed : map printed_number (neg_ℤ (pos 50) ∷ pos 37_795 ∷ pos 10 ∷ pos 1_999_999_998_500 ∷ []) ≡ (codes "-" ++ decimal 0 ++ codes ".05") ∷ (decimal 37 ++ codes ".795") ∷ (decimal 0 ++ codes ".01") ∷ (decimal 1_999_999_998 ++ codes ".5") ∷ []
 printed = refl
 
 sum_ends_at_most : clamped (pos 2_000_000_000_000 +ℤ pos 1000) ≡ pos 2_000_000_000_000

@@ -50,6 +50,6 @@ abbrev pub spelled : ℕ → List ℕ
 spelled n = decimal (n / 1000) ++ pointed (without_zeros (n / 100 % 10 ∷ n / 10 % 10 ∷ n % 10 ∷ []))
 
 -- z thousandths as they are printed
-abbrev pub written : ℤ → List ℕ
-written (pos n) = spelled n
-written (negsuc n) = codes "-" ++ spelled (suc n)
+abbrev pub printed_number : ℤ → List ℕ
+printed_number (pos n) = spelled n
+printed_number (negsuc n) = codes "-" ++ spelled (suc n)

@@ -7,21 +7,21 @@ use Rattle.syntax_model.specs.Wide.{inherit, initial, unset, revert, revert_laye
 use Rattle.sheet_model.specs.Declared.{Given}
 use Rattle.cascade_model.specs.Key.{Matched}
 use Rattle.cascade_model.specs.Ending.{Ending, Meaning, keyword, value}
-use Rattle.cascade_core.specs.Rollback.{Level, level_of, compare_level, Limit, no_limit, below_origin, below_level, keeps, settled, limit_by, walked}
+use Rattle.cascade_core.specs.Rollback.{Level, level_of, compare_level, Bound, unbounded, below_origin, below_level, keeps, settled, bound_by, walked}
 
 module _ {K A : Type 0} (means : Given → Meaning A) (f g : K → Matched) (given : (x : K) → (f x).given ≡ (g x).given) (origin : (x : K) → (f x).origin ≡ (g x).origin) (level : (x : K) → level_of (f x) ≡ level_of (g x)) where
-  same_keeps : (limit : Limit) (x : K) → keeps limit (f x) ≡ keeps limit (g x)
-  same_keeps no_limit x = refl
+  same_keeps : (bound : Bound) (x : K) → keeps bound (f x) ≡ keeps bound (g x)
+  same_keeps unbounded x = refl
   same_keeps (below_origin rank) x = ap (λ (o : Origin). nat_lt (origin_rank o) rank) (origin x)
   same_keeps (below_level l) x = ap (λ (m : Level). is_lt (compare_level m l)) (level x)
 
-  same_limit : (x : K) (meaning : Meaning A) → limit_by (f x) meaning ≡ limit_by (g x) meaning
-  same_limit x (keyword inherit) = ap (λ (o : Origin). below_origin (origin_rank o)) (origin x)
-  same_limit x (keyword initial) = ap (λ (o : Origin). below_origin (origin_rank o)) (origin x)
-  same_limit x (keyword unset) = ap (λ (o : Origin). below_origin (origin_rank o)) (origin x)
-  same_limit x (keyword revert) = ap (λ (o : Origin). below_origin (origin_rank o)) (origin x)
-  same_limit x (keyword revert_layer) = ap below_level (level x)
-  same_limit x (value v) = ap (λ (o : Origin). below_origin (origin_rank o)) (origin x)
+  same_bound : (x : K) (meaning : Meaning A) → bound_by (f x) meaning ≡ bound_by (g x) meaning
+  same_bound x (keyword inherit) = ap (λ (o : Origin). below_origin (origin_rank o)) (origin x)
+  same_bound x (keyword initial) = ap (λ (o : Origin). below_origin (origin_rank o)) (origin x)
+  same_bound x (keyword unset) = ap (λ (o : Origin). below_origin (origin_rank o)) (origin x)
+  same_bound x (keyword revert) = ap (λ (o : Origin). below_origin (origin_rank o)) (origin x)
+  same_bound x (keyword revert_layer) = ap below_level (level x)
+  same_bound x (value v) = ap (λ (o : Origin). below_origin (origin_rank o)) (origin x)
 
   abbrev step : Bool → Option (Ending A) → Ending A → Ending A → Ending A
   step b o again next =
@@ -31,8 +31,8 @@ module _ {K A : Type 0} (means : Given → Meaning A) (f g : K → Matched) (giv
       ]
       else next
 
-  pub walked_alike : (limit : Limit) (xs : List K) → walked means limit (map f xs) ≡ walked means limit (map g xs)
-  walked_alike limit [] = refl
-  walked_alike limit (x ∷ xs) =
-      let again : walked means (limit_by (f x) (means (f x).given)) (map f xs) ≡ walked means (limit_by (g x) (means (g x).given)) (map g xs) = walked_alike (limit_by (f x) (means (f x).given)) xs ∙ ap (λ l. walked means l (map g xs)) (same_limit x (means (f x).given) ∙ ap (λ m. limit_by (g x) (means m)) (given x)) in
-      λ i. step (same_keeps limit x i) (settled (means (given x i))) (again i) (walked_alike limit xs i)
+  pub walked_alike : (bound : Bound) (xs : List K) → walked means bound (map f xs) ≡ walked means bound (map g xs)
+  walked_alike bound [] = refl
+  walked_alike bound (x ∷ xs) =
+      let again : walked means (bound_by (f x) (means (f x).given)) (map f xs) ≡ walked means (bound_by (g x) (means (g x).given)) (map g xs) = walked_alike (bound_by (f x) (means (f x).given)) xs ∙ ap (λ l. walked means l (map g xs)) (same_bound x (means (f x).given) ∙ ap (λ m. bound_by (g x) (means m)) (given x)) in
+      λ i. step (same_keeps bound x i) (settled (means (given x i))) (again i) (walked_alike bound xs i)

@@ -1,4 +1,4 @@
--- What the winners of each property come to.
+-- The cascaded value of each property, by its winner.
 use Rattle.std.proofs.Common.{◌≡◌, Bool, true, false, ◌||◌, is_some, refl, ℕ, List, [], ◌∷◌, ◌++◌, Option, Some, None, filter, sym, ap, ◌∙◌}
 use Rattle.std.proofs.lemmas.List.Folds.{list_any-append}
 use Rattle.std.proofs.lemmas.Option.{none-some, same_Some}
@@ -16,7 +16,7 @@ use Rattle.sheet_model.specs.Declared.{Given, longhand}
 use Rattle.cascade_core.specs.Names.{name_of}
 use Rattle.cascade_core.specs.Won.{won, have_custom}
 
--- A property comes to what its winner means.
+-- The cascaded value of a property is the value of its winner.
 module _ (means : Given → Meaning Value) where
   abbrev ended : List Matched → ℕ → Ending Value
   ended ds p = ending_of means (filter (declares_longhand p) ds)

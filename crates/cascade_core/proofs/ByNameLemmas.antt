@@ -138,7 +138,7 @@ without_others ds others sorted are down = record {
   each = λ name. subst (λ l. Descends l (filter (declares_custom name) sorted)) (ap (filter (declares_custom name)) are ∙ stricter (λ d. is_some (name_of d)) (declares_custom name) (λ d h. of_target name d.target h) ds) (down.each name);
 }
 
--- what the declarations of a name come to in this order
+-- the cascaded value of a name, by its declarations in this order
 along_declared : (ds sorted : List Matched) → AreByName ds sorted → (name : Characters) → declared_of sorted name ≡ declared_by ds name
 along_declared ds sorted are name =
     ap declared_value (walked_down custom_meaning (filter (declares_custom name) ds) (filter (declares_custom name) sorted) (are.each name))

@@ -10,7 +10,7 @@ use Rattle.std.proofs.lemmas.Nat.Bits.{bit_at_and, bit_at_clear_same, bit_at_cle
 use Rattle.base_model.proofs.Lists.{slice_get_some}
 use Rattle.custom_model.specs.Expand.{Lookup}
 use Rattle.value_model.specs.Value.{Value, pixels}
-use Rattle.value_model.specs.Table.{Row, table, font_size_property}
+use Rattle.value_model.specs.Table.{PropertyRow, table, font_size_property}
 use Rattle.value_model.specs.Style.{inherited_values, font_size_of, font_weight_of}
 use Rattle.value_model.proofs.ByRow.{inherited-at, length-inherited}
 use Rattle.value_model.proofs.ByRow as rows_model
@@ -37,7 +37,7 @@ cleared_less n q within is =
     let same : next ≡ n = omega (arith, and_le_l n (bit_not w64 (1 * 2 ^ q % 2 ^ 64))) in
     absurd (omega (arith, bit_at_clear_same w64 n q within, ap (λ m. bit_at m q) same, is))) (cases_lt next n)
 
-row_of : (p : ℕ) → p < length table → (row : Row) × (slice_get table p ≡ Some row)
+row_of : (p : ℕ) → p < length table → (row : PropertyRow) × (slice_get table p ≡ Some row)
 row_of p within = slice_get_some table p within
 
 -- a set bit is one of the numbers that it is a bit of both
@@ -51,7 +51,7 @@ module _ (custom : Lookup) (is_root : Bool) (parents : List Value) (root_size : 
   abbrev pub the_sizes : Sizes
   the_sizes = sizes own (if is_root then own else root_size)
 
-  abbrev value_by : ℕ → Row → Value → Value
+  abbrev value_by : ℕ → PropertyRow → Value → Value
   value_by = property_value custom parents the_sizes ds
 
   abbrev done : List Value
@@ -67,13 +67,13 @@ module _ (custom : Lookup) (is_root : Bool) (parents : List Value) (root_size : 
     pub rows : (p : ℕ) → bit_at rest p ≡ 1 → p < length table
     pub other_rows : bit_at rest font_size_property ≡ 0
 
-  done-at : (p : ℕ) (row : Row) (v : Value) → slice_get table p ≡ Some row → slice_get parents p ≡ Some v → slice_get done p ≡ Some (value_by p row v)
+  done-at : (p : ℕ) (row : PropertyRow) (v : Value) → slice_get table p ≡ Some row → slice_get parents p ≡ Some v → slice_get done p ≡ Some (value_by p row v)
   done-at p row v at here = values_from-at value_by table parents p row at ∙ ap (option_map (value_by p row)) here
 
-  of_font : (row : Row) (v : Value) → value_by font_size_property row v ≡ pixels own
+  of_font : (row : PropertyRow) (v : Value) → value_by font_size_property row v ≡ pixels own
   of_font row v = refl
 
-  of_other : (p : ℕ) (row : Row) (v : Value) → p ≢ font_size_property → value_by p row v ≡ value_at row v (font_size_of parents) (font_weight_of parents) the_sizes (ending custom p ds)
+  of_other : (p : ℕ) (row : PropertyRow) (v : Value) → p ≢ font_size_property → value_by p row v ≡ value_at row v (font_size_of parents) (font_weight_of parents) the_sizes (ending custom p ds)
   of_other p row v other =
       ap (λ b. if b then pixels own else value_at row v (font_size_of parents) (font_weight_of parents) the_sizes (ending custom p ds)) (false_from_ne_true _ (λ e. other (eqb-true p font_size_property e)))
 
@@ -119,7 +119,7 @@ module _ (custom : Lookup) (is_root : Bool) (parents : List Value) (root_size : 
             ∙ sym (done-at p row v at here))))) (cases_eq p font_size_property)
 
     -- then one more
-    pub partly_next : (values : List Value) (rest q : ℕ) (row : Row) (x v : Value) → bit_at rest q ≡ 1 → slice_get table q ≡ Some row → slice_get parents q ≡ Some v → x ≡ value_at row v (font_size_of parents) (font_weight_of parents) the_sizes (ending custom q ds) → IsPartly values rest → IsPartly (set values q x) (bit_and rest (bit_not w64 (1 * 2 ^ q % 2 ^ 64)))
+    pub partly_next : (values : List Value) (rest q : ℕ) (row : PropertyRow) (x v : Value) → bit_at rest q ≡ 1 → slice_get table q ≡ Some row → slice_get parents q ≡ Some v → x ≡ value_at row v (font_size_of parents) (font_weight_of parents) the_sizes (ending custom q ds) → IsPartly values rest → IsPartly (set values q x) (bit_and rest (bit_not w64 (1 * 2 ^ q % 2 ^ 64)))
     partly_next values rest q row x v is_set at here is partly = record {
       long = length-set values q x ∙ partly.long;
       each = λ p within. by_bit (bit_at next p) (slice_get before p) (slice_get done p) (slice_get (set values q x) p) (bit_at-lt next p) (λ one. still p within one) (λ none. now p within none);

@@ -1,4 +1,4 @@
--- Along declarations from the greatest down, the last limit is all that is to be kept of the way.
+-- Along declarations from the greatest down, the last bound is all that is to be kept of the way.
 use Rattle.std.proofs.Common.{◌≡◌, ◌<◌, ◌≤◌, Bool, true, false, cond, List, [], ◌∷◌, find, filter, Option, Some, None, refl, sym, ap, ◌∙◌, arith}
 use Rattle.std.proofs.lemmas.Bool.{true≢false, ltb-true, lt-ltb, le-ltb, false_from_ne_true}
 use Rattle.std.proofs.lemmas.Cmp.{nat_cmp_total, on_total, then_total, tied_itself, ranked, by_ranked}
@@ -12,7 +12,7 @@ use Rattle.cascade_model.specs.Key.{Matched}
 use Rattle.cascade_model.specs.Winner.{greatest_of}
 use Rattle.cascade_model.specs.Ending.{Ending, unsets, Meaning, keyword, value, ending_of, ending_on}
 use Rattle.cascade_model.proofs.EndingLemmas.{ending_of-step}
-use Rattle.cascade_core.specs.Rollback.{Descends, Level, level_of, compare_level, Limit, no_limit, below_origin, below_level, keeps, settled, limit_by, walked}
+use Rattle.cascade_core.specs.Rollback.{Descends, Level, level_of, compare_level, Bound, unbounded, below_origin, below_level, keeps, settled, bound_by, walked}
 use Rattle.base_model.proofs.Orderings.{is_less}
 
 compare_level-total : IsTotalOrder compare_level
@@ -32,9 +32,9 @@ rank-lower : (a b : Level) → a.rank < b.rank → is_lt (compare_level a b) ≡
 rank-lower a b lt =
     by_ranked _ _ _ (nat_cmp a.rank b.rank) (ranked a.rank b.rank (nat_cmp a.rank b.rank) refl) (λ e _. ap (λ o. is_lt (ordering_then o (ordering_then (bool_cmp a.attached b.attached) (nat_cmp a.layer b.layer)))) e) (λ _ same. absurd (omega arith)) (λ _ gt. absurd (omega arith))
 
--- a later limit keeps no more than the one before it
-by_origin : (limit : Limit) (d e : Matched) → keeps limit d ≡ true → keeps (below_origin (origin_rank d.origin)) e ≡ true → keeps limit e ≡ true
-by_origin no_limit d e kept lower = refl
+-- a later bound keeps no more than the one before it
+by_origin : (bound : Bound) (d e : Matched) → keeps bound d ≡ true → keeps (below_origin (origin_rank d.origin)) e ≡ true → keeps bound e ≡ true
+by_origin unbounded d e kept lower = refl
 by_origin (below_origin rank) d e kept lower =
     let h : origin_rank d.origin < rank = ltb-true _ _ kept in
     let k : origin_rank e.origin < origin_rank d.origin = ltb-true _ _ lower in
@@ -44,8 +44,8 @@ by_origin (below_level level) d e kept lower =
     let k : origin_rank e.origin < origin_rank d.origin = ltb-true _ _ lower in
     rank-lower (level_of e) level (omega arith)
 
-by_level : (limit : Limit) (d e : Matched) → keeps limit d ≡ true → keeps (below_level (level_of d)) e ≡ true → keeps limit e ≡ true
-by_level no_limit d e kept lower = refl
+by_level : (bound : Bound) (d e : Matched) → keeps bound d ≡ true → keeps (below_level (level_of d)) e ≡ true → keeps bound e ≡ true
+by_level unbounded d e kept lower = refl
 by_level (below_origin rank) d e kept lower =
     let h : origin_rank d.origin < rank = ltb-true _ _ kept in
     let k : origin_rank e.origin ≤ origin_rank d.origin = lower-rank (level_of e) (level_of d) lower in
@@ -74,76 +74,76 @@ module _ {X : Type 0} where
 
 module _ {A : Type 0} (means : Given → Meaning A) (ds ss : List Matched) (descends : Descends ds ss) where
   -- what is asked still is found in the rest
-  abbrev IsAhead : Limit → List Matched → Type 0
-  IsAhead limit rest = (q : Matched → Bool) → ((d : Matched) → q d ≡ true → keeps limit d ≡ true) → find q ss ≡ find q rest
+  abbrev IsAhead : Bound → List Matched → Type 0
+  IsAhead bound rest = (q : Matched → Bool) → ((d : Matched) → q d ≡ true → keeps bound d ≡ true) → find q ss ≡ find q rest
 
-  abbrev asked : Limit → List Matched
-  asked limit = filter (keeps limit) ds
+  abbrev asked : Bound → List Matched
+  asked bound = filter (keeps bound) ds
 
-  abbrev Comes : Limit → List Matched → Type 0
-  Comes limit rest = walked means limit rest ≡ ending_of means (asked limit)
+  abbrev Comes : Bound → List Matched → Type 0
+  Comes bound rest = walked means bound rest ≡ ending_of means (asked bound)
 
-  found_first : (limit : Limit) (rest : List Matched) (o : Option Matched) → IsAhead limit rest → find (keeps limit) rest ≡ o → greatest_of (asked limit) ≡ o
-  found_first limit rest o ahead is = sym (descends (keeps limit)) ∙ (ahead (keeps limit) (λ d k. k) ∙ is)
+  found_first : (bound : Bound) (rest : List Matched) (o : Option Matched) → IsAhead bound rest → find (keeps bound) rest ≡ o → greatest_of (asked bound) ≡ o
+  found_first bound rest o ahead is = sym (descends (keeps bound)) ∙ (ahead (keeps bound) (λ d k. k) ∙ is)
 
-  at_end : (limit : Limit) → IsAhead limit [] → Comes limit []
-  at_end limit ahead =
-      sym (ending_of-step means (asked limit)
-      ∙ ap (λ (o : Option Matched). option_map_or (λ w. ending_on (ending_of means) (asked limit) w (means w.given)) o unsets) (found_first limit [] None ahead refl))
+  at_end : (bound : Bound) → IsAhead bound [] → Comes bound []
+  at_end bound ahead =
+      sym (ending_of-step means (asked bound)
+      ∙ ap (λ (o : Option Matched). option_map_or (λ w. ending_on (ending_of means) (asked bound) w (means w.given)) o unsets) (found_first bound [] None ahead refl))
 
   passed : (q : Matched → Bool) (d : Matched) (rest : List Matched) → q d ≡ false → find q (d ∷ rest) ≡ find q rest
   passed q d rest fails = rw fails refl
 
   -- a declaration that is not asked
-  not_asked : (limit : Limit) (d : Matched) (rest : List Matched) → keeps limit d ≡ false → IsAhead limit (d ∷ rest) → IsAhead limit rest
-  not_asked limit d rest fails ahead = λ q within.
+  not_asked : (bound : Bound) (d : Matched) (rest : List Matched) → keeps bound d ≡ false → IsAhead bound (d ∷ rest) → IsAhead bound rest
+  not_asked bound d rest fails ahead = λ q within.
       ahead q within
       ∙ passed q d rest (false_from_ne_true (q d) (λ e. true≢false (sym (within d e) ∙ fails)))
 
   -- one that takes the cascade back
-  taken_back : (limit next : Limit) (d : Matched) (rest : List Matched) → ((e : Matched) → keeps next e ≡ true → keeps limit e ≡ true) → keeps next d ≡ false → IsAhead limit (d ∷ rest) → IsAhead next rest
-  taken_back limit next d rest fewer fails ahead = λ q within.
+  taken_back : (bound next : Bound) (d : Matched) (rest : List Matched) → ((e : Matched) → keeps next e ≡ true → keeps bound e ≡ true) → keeps next d ≡ false → IsAhead bound (d ∷ rest) → IsAhead next rest
+  taken_back bound next d rest fewer fails ahead = λ q within.
       ahead q (λ e h. fewer e (within e h))
       ∙ passed q d rest (false_from_ne_true (q d) (λ e. true≢false (sym (within d e) ∙ fails)))
 
   abbrev Goes : List Matched → Type 0
-  Goes rest = (limit : Limit) → IsAhead limit rest → Comes limit rest
+  Goes rest = (bound : Bound) → IsAhead bound rest → Comes bound rest
 
   abbrev after : Matched → List Matched → Meaning A → Ending A
   after d rest meaning = elim (settled meaning) [
     | Some end ↦ end
-    | None ↦ walked means (limit_by d meaning) rest
+    | None ↦ walked means (bound_by d meaning) rest
   ]
 
-  by_meaning : (limit : Limit) (d : Matched) (rest : List Matched) → Goes rest → keeps limit d ≡ true → IsAhead limit (d ∷ rest) → (meaning : Meaning A) → after d rest meaning ≡ ending_on (ending_of means) (asked limit) d meaning
-  by_meaning limit d rest goes kept ahead (keyword inherit) = refl
-  by_meaning limit d rest goes kept ahead (keyword initial) = refl
-  by_meaning limit d rest goes kept ahead (keyword unset) = refl
-  by_meaning limit d rest goes kept ahead (keyword revert) =
-      let next : Limit = below_origin (origin_rank d.origin) in
-      goes next (taken_back limit next d rest (λ e. by_origin limit d e kept) (not_origin d) ahead)
-      ∙ ap (ending_of means) (sym (stricter (keeps limit) (keeps next) (λ e. by_origin limit d e kept) ds))
-  by_meaning limit d rest goes kept ahead (keyword revert_layer) =
-      let next : Limit = below_level (level_of d) in
-      goes next (taken_back limit next d rest (λ e. by_level limit d e kept) (not_level d) ahead)
-      ∙ ap (ending_of means) (sym (stricter (keeps limit) (keeps next) (λ e. by_level limit d e kept) ds))
-  by_meaning limit d rest goes kept ahead (value given) = refl
+  by_meaning : (bound : Bound) (d : Matched) (rest : List Matched) → Goes rest → keeps bound d ≡ true → IsAhead bound (d ∷ rest) → (meaning : Meaning A) → after d rest meaning ≡ ending_on (ending_of means) (asked bound) d meaning
+  by_meaning bound d rest goes kept ahead (keyword inherit) = refl
+  by_meaning bound d rest goes kept ahead (keyword initial) = refl
+  by_meaning bound d rest goes kept ahead (keyword unset) = refl
+  by_meaning bound d rest goes kept ahead (keyword revert) =
+      let next : Bound = below_origin (origin_rank d.origin) in
+      goes next (taken_back bound next d rest (λ e. by_origin bound d e kept) (not_origin d) ahead)
+      ∙ ap (ending_of means) (sym (stricter (keeps bound) (keeps next) (λ e. by_origin bound d e kept) ds))
+  by_meaning bound d rest goes kept ahead (keyword revert_layer) =
+      let next : Bound = below_level (level_of d) in
+      goes next (taken_back bound next d rest (λ e. by_level bound d e kept) (not_level d) ahead)
+      ∙ ap (ending_of means) (sym (stricter (keeps bound) (keeps next) (λ e. by_level bound d e kept) ds))
+  by_meaning bound d rest goes kept ahead (value given) = refl
 
-  by_kept : (limit : Limit) (d : Matched) (rest : List Matched) → Goes rest → IsAhead limit (d ∷ rest) → (b : Bool) → keeps limit d ≡ b → cond b (after d rest (means d.given)) (walked means limit rest) ≡ ending_of means (asked limit)
-  by_kept limit d rest goes ahead true kept =
-      by_meaning limit d rest goes kept ahead (means d.given)
-      ∙ sym (ending_of-step means (asked limit)
-      ∙ ap (λ (o : Option Matched). option_map_or (λ w. ending_on (ending_of means) (asked limit) w (means w.given)) o unsets) (found_first limit (d ∷ rest) (Some d) ahead (ap (λ b. cond b (Some d) (find (keeps limit) rest)) kept)))
-  by_kept limit d rest goes ahead false fails = goes limit (not_asked limit d rest fails ahead)
+  by_kept : (bound : Bound) (d : Matched) (rest : List Matched) → Goes rest → IsAhead bound (d ∷ rest) → (b : Bool) → keeps bound d ≡ b → cond b (after d rest (means d.given)) (walked means bound rest) ≡ ending_of means (asked bound)
+  by_kept bound d rest goes ahead true kept =
+      by_meaning bound d rest goes kept ahead (means d.given)
+      ∙ sym (ending_of-step means (asked bound)
+      ∙ ap (λ (o : Option Matched). option_map_or (λ w. ending_on (ending_of means) (asked bound) w (means w.given)) o unsets) (found_first bound (d ∷ rest) (Some d) ahead (ap (λ b. cond b (Some d) (find (keeps bound) rest)) kept)))
+  by_kept bound d rest goes ahead false fails = goes bound (not_asked bound d rest fails ahead)
 
   goes_on : (rest : List Matched) → Goes rest
   goes_on [] = at_end
-  goes_on (d ∷ rest) = λ limit ahead. by_kept limit d rest (goes_on rest) ahead (keeps limit d) refl
+  goes_on (d ∷ rest) = λ bound ahead. by_kept bound d rest (goes_on rest) ahead (keeps bound d) refl
 
-  all_kept : (xs : List Matched) → filter (keeps no_limit) xs ≡ xs
+  all_kept : (xs : List Matched) → filter (keeps unbounded) xs ≡ xs
   all_kept [] = refl
   all_kept (x ∷ xs) = ap (λ l. x ∷ l) (all_kept xs)
 
-  -- what the declarations come to, from the greatest down
-  pub walked_down : walked means no_limit ss ≡ ending_of means ds
-  walked_down = goes_on ss no_limit (λ q within. refl) ∙ ap (ending_of means) (all_kept ds)
+  -- the cascaded value by the declarations, from the greatest down
+  pub walked_down : walked means unbounded ss ≡ ending_of means ds
+  walked_down = goes_on ss unbounded (λ q within. refl) ∙ ap (ending_of means) (all_kept ds)

@@ -1,5 +1,5 @@
 -- The winner of each property, as declarations come one by one.
-use Rattle.std.proofs.Common.{is_none, lit<, true, is_some, append-nil, append_assoc, get_or, take, length-set, ◌≡◌, ◌≢◌, ◌==◌, ℕ, zero, suc, ◌+◌, ◌<◌, ◌^◌, ◌*◌, ◌%◌, false, List, [], ◌∷◌, ◌++◌, Option, Some, None, slice_get, length, set, option_map, refl, sym, ap, ◌∙◌, ⊎_elim, arith, subst}
+use Rattle.std.proofs.Common.{lit<, true, is_some, append-nil, append_assoc, get_or, take, length-set, ◌≡◌, ◌≢◌, ◌==◌, ℕ, zero, suc, ◌+◌, ◌<◌, ◌^◌, ◌*◌, ◌%◌, false, List, [], ◌∷◌, ◌++◌, Option, Some, None, slice_get, length, set, option_map, refl, sym, ap, ◌∙◌, ⊎_elim, arith, subst}
 use Rattle.std.specs.Int.{bit_at, w64}
 use Rattle.std.specs.List.{flat_map, list_all}
 use Rattle.std.proofs.Math.Seq.{take-suc}
@@ -18,8 +18,10 @@ use Rattle.cascade_model.specs.Custom.{custom_name}
 use Rattle.shorthands.specs.declared.declared.Target.{Target}
 use Rattle.shorthands.specs.declared.declared.Target.TheVariants.{Longhand, Shorthand, Custom}
 use Rattle.cascade_core.specs.View.{entry_of, head_of, is_custom_target, is_of_custom, matched_of, name_seen}
-use Rattle.cascade_core.specs.Won.{Won, won, at_place, AreWinners}
+use Rattle.cascade_core.specs.Declarations.{at_place}
+use Rattle.cascade_core.specs.Won.{won, AreWinners}
 use Rattle.cascade_core.specs.declared.matched.Matched as code
+use Rattle.cascade_core.specs.declared.places.Places.{Places}
 use Rattle.cascade_core.proofs.BestLemmas.{still_custom, custom_added}
 use Rattle.cascade_core.proofs.EntryLemmas.{matched_custom}
 
@@ -47,16 +49,16 @@ declares_other p k other = false_from_ne_true _ (λ e. other (sym (eqb-true p k 
 pub won_other : (ds : List Matched) (d : Matched) (q p : ℕ) → d.target ≡ longhand q → p ≢ q → won (ds ++ d ∷ []) p ≡ won ds p
 won_other ds d q p target other = winner_other (declares_longhand p) ds d (ap (is_longhand p) target ∙ declares_other q p other)
 
-module _ {A : Type 0} (seen : ℕ → A → Matched) (ds : List Matched) (d : Matched) (q : ℕ) (target : d.target ≡ longhand q) where
-  abbrev AreBest : List Matched → List (Option A) → Type 0
-  AreBest es best = (p : ℕ) (o : Option A) → slice_get best p ≡ Some o → won es p ≡ option_map (seen p) o
+module _ {X : Type 0} (seen : ℕ → X → Option Matched) (ds : List Matched) (d : Matched) (q : ℕ) (target : d.target ≡ longhand q) where
+  abbrev AreBest : List Matched → List X → Type 0
+  AreBest es best = (p : ℕ) (x : X) → slice_get best p ≡ Some x → won es p ≡ seen p x
 
   -- what wins once a declaration is added is kept at the row of its property
-  pub best_put : (best : List (Option A)) (old new : Option A) → AreBest ds best → slice_get best q ≡ Some old → (won ds q ≡ option_map (seen q) old → won (ds ++ d ∷ []) q ≡ option_map (seen q) new) → AreBest (ds ++ d ∷ []) (set best q new)
+  pub best_put : (best : List X) (old new : X) → AreBest ds best → slice_get best q ≡ Some old → won (ds ++ d ∷ []) q ≡ seen q new → AreBest (ds ++ d ∷ []) (set best q new)
   best_put best old new are at wins = λ p o found.
-      ⊎_elim (λ (e : p ≡ q). ap (won (ds ++ d ∷ [])) e ∙ (wins (are q old at)
-      ∙ (ap (option_map (seen q)) (same_Some new o (sym (get-set_same best q new (slice_get_within best q old at)) ∙ (ap (slice_get (set best q new)) (sym e) ∙ found)))
-      ∙ ap (λ k. option_map (seen k) o) (sym e)))) (λ (ne : p ≢ q). won_other ds d q p target ne ∙ are p o (sym (get-set_other best q p new ne) ∙ found)) (cases_eq p q)
+      ⊎_elim (λ (e : p ≡ q). ap (won (ds ++ d ∷ [])) e ∙ (wins
+      ∙ (ap (seen q) (same_Some new o (sym (get-set_same best q new (slice_get_within best q old at)) ∙ (ap (slice_get (set best q new)) (sym e) ∙ found)))
+      ∙ ap (λ k. seen k o) (sym e)))) (λ (ne : p ≢ q). won_other ds d q p target ne ∙ are p o (sym (get-set_other best q p new ne) ∙ found)) (cases_eq p q)
 
   module _ (declared : ℕ) (within : q < 64) where
     abbrev marked : ℕ
@@ -71,17 +73,18 @@ module _ {A : Type 0} (seen : ℕ → A → Matched) (ds : List Matched) (d : Ma
         ⊎_elim (λ (e : p ≡ q). absurd (omega (arith, sym (bit_at_set_same w64 declared q within) ∙ (ap (bit_at marked) (sym e) ∙ is)))) (λ (ne : p ≢ q). won_other ds d q p target ne ∙ others p (sym (bit_at_set_other w64 declared q within p ne) ∙ is) in_table) (cases_eq p q)
 
 -- a declaration of a property is put among the winners
-pub put_one : (w : Won) (ds : List Matched) (q : ℕ) (d : code.Matched) (new : Option code.Matched) → q < length table → won (ds ++ entry_of q d ∷ []) q ≡ option_map (entry_of q) new → AreWinners w ds → AreWinners (record w { best = set w.best q new; declared = bit_or w.declared (1 * 2 ^ q % 2 ^ 64) }) (ds ++ entry_of q d ∷ [])
-put_one w ds q d new within wins are =
-    let (old, at) = slice_get_some w.best q (omega (arith, within, are.long)) in record {
-      long = length-set w.best q new ∙ are.long;
-      best = best_put entry_of ds (entry_of q d) q refl w.best old new are.best at (λ _. wins);
-      rows = rows_put entry_of ds (entry_of q d) q refl w.declared (omega (arith, within, short_table)) within are.rows;
-      others = others_put entry_of ds (entry_of q d) q refl w.declared (omega (arith, within, short_table)) are.others;
+pub put_one : (list : List code.Matched) (w : Places) (ds : List Matched) (q : ℕ) (d : code.Matched) (new : ℕ) → q < length table → won (ds ++ entry_of q d ∷ []) q ≡ option_map (entry_of q) (at_place list new) → AreWinners list w ds → AreWinners list (record w { rows = set w.rows q new; declared = bit_or w.declared (1 * 2 ^ q % 2 ^ 64) }) (ds ++ entry_of q d ∷ [])
+put_one list w ds q d new within wins are =
+    let (old, at) = slice_get_some w.rows q (omega (arith, within, are.long)) in
+    let seen : ℕ → ℕ → Option Matched = λ p place. option_map (entry_of p) (at_place list place) in record {
+      long = length-set w.rows q new ∙ are.long;
+      best = best_put seen ds (entry_of q d) q refl w.rows old new are.best at wins;
+      rows = rows_put seen ds (entry_of q d) q refl w.declared (omega (arith, within, short_table)) within are.rows;
+      others = others_put seen ds (entry_of q d) q refl w.declared (omega (arith, within, short_table)) are.others;
       have_custom = are.have_custom ∙ sym (still_custom ds (entry_of q d) q refl);
     }
 
--- what the first of a list come to, after others, with one more of them
+-- what the first of a list give, after others, with one more of them
 pub one_more : {X A : Type 0} (f : X → List A) (others list : List X) (i : ℕ) (x : X) → i < length list → x ≡ get_or list i x → flat_map f (others ++ take i list) ++ f x ≡ flat_map f (others ++ take (i + 1) list)
 one_more f others list i x within at =
     let next : suc i ≡ i + 1 = omega arith in
@@ -91,8 +94,16 @@ one_more f others list i x within at =
     ∙ ap (λ l. others ++ l) (ap (λ y. take i list ++ y ∷ []) at
     ∙ (sym (take-suc list i x within) ∙ ap (λ k. take k list) next))))
 
--- the declaration at a place, of which those before it are in the first list
+-- the declaration at a place, in the first of two lists or in the second
 module _ (first second : List code.Matched) where
+  get_in_first : (first : List code.Matched) (k : ℕ) → k < length first → slice_get (first ++ second) k ≡ slice_get first k
+  get_in_first [] k within = absurd (omega arith)
+  get_in_first (x ∷ xs) zero within = refl
+  get_in_first (x ∷ xs) (suc k) within = get_in_first xs k (omega arith)
+
+  pub at_first : (place k : ℕ) → place ≡ suc k → k < length first → at_place (first ++ second) place ≡ slice_get first k
+  at_first place k is within = ap (at_place (first ++ second)) is ∙ get_in_first first k within
+
   get_in_second : (first : List code.Matched) (n k : ℕ) → n ≡ length first + k → slice_get (first ++ second) n ≡ slice_get second k
   get_in_second [] n k is = ap (slice_get second) (omega (arith, is))
   get_in_second (x ∷ xs) zero k is = absurd (omega (arith, is))
@@ -112,10 +123,10 @@ is_named (Shorthand short) h = absurd (true≢false (sym h))
 is_named (Custom name) h = refl
 
 -- one of a custom property changes nothing for the others
-pub put_custom : (w : Won) (ds : List Matched) (d : code.Matched) → is_of_custom d ≡ true → AreWinners w ds → AreWinners (record w { have_custom = true }) (ds ++ matched_of d)
-put_custom w ds d h are =
+pub put_custom : (list : List code.Matched) (w : Places) (ds : List Matched) (d : code.Matched) → is_of_custom d ≡ true → AreWinners list w ds → AreWinners list (record w { have_custom = true }) (ds ++ matched_of d)
+put_custom list w ds d h are =
     let same : (p : ℕ) → won (ds ++ head_of d ∷ []) p ≡ won ds p = λ p. winner_other (declares_longhand p) ds (head_of d) (not_longhand p d.declared.now.target h) in
-    subst (λ es. AreWinners (record w { have_custom = true }) (ds ++ es)) (sym (matched_custom d h)) (record {
+    subst (λ es. AreWinners list (record w { have_custom = true }) (ds ++ es)) (sym (matched_custom d h)) (record {
       long = are.long;
       best = λ p o at. same p ∙ are.best p o at;
       rows = are.rows;
@@ -123,26 +134,23 @@ put_custom w ds d h are =
       have_custom = sym (custom_added ds (head_of d) (is_named d.declared.now.target h));
     })
 
-is_nothing : {X : Type 0} (o : Option X) → is_none o ≡ true → o ≡ None
-is_nothing None h = refl
-is_nothing (Some x) h = absurd (true≢false (sym h))
-
--- where nothing wins, nothing is at an index
-none_at : {X : Type 0} (list : List (Option X)) (p : ℕ) (o : Option X) → list_all (λ o. is_none o) list ≡ true → slice_get list p ≡ Some o → o ≡ None
-none_at [] p o all at = absurd (none-some o at)
-none_at (x ∷ xs) zero o all at =
-    sym (same_Some x o at) ∙ is_nothing x (and_parts (is_none x) (list_all (λ o. is_none o) xs) all).0
-none_at (x ∷ xs) (suc p) o all at = none_at xs p o (and_parts (is_none x) (list_all (λ o. is_none o) xs) all).1 at
+-- where all places are 0, each is
+zero_at : (places : List ℕ) (p place : ℕ) → list_all (λ k. k == 0) places ≡ true → slice_get places p ≡ Some place → place ≡ 0
+zero_at [] p place all at = absurd (none-some place at)
+zero_at (x ∷ xs) zero place all at =
+    sym (same_Some x place at) ∙ eqb-true x 0 (and_parts (x == 0) (list_all (λ k. k == 0) xs) all).0
+zero_at (x ∷ xs) (suc p) place all at =
+    zero_at xs p place (and_parts (x == 0) (list_all (λ k. k == 0) xs) all).1 at
 
 nothing_won : (p : ℕ) → won [] p ≡ None
 unfolding winner
 nothing_won p = refl
 
 -- of no declarations none wins
-pub none_wins : (w : Won) → length w.best ≡ length table → list_all (λ o. is_none o) w.best ≡ true → w.declared ≡ 0 → w.have_custom ≡ false → AreWinners w []
-none_wins w long none unset absent = record {
+pub none_wins : (list : List code.Matched) (w : Places) → length w.rows ≡ length table → list_all (λ k. k == 0) w.rows ≡ true → w.declared ≡ 0 → w.have_custom ≡ false → AreWinners list w []
+none_wins list w long none unset absent = record {
   long = long;
-  best = λ p o at. nothing_won p ∙ ap (option_map (entry_of p)) (sym (none_at w.best p o none at));
+  best = λ p place at. nothing_won p ∙ ap (λ k. option_map (entry_of p) (at_place list k)) (sym (zero_at w.rows p place none at));
   rows = λ p is. absurd (omega (arith, bit_at-zero p, ap (λ n. bit_at n p) unset, is));
   others = λ p is within. nothing_won p;
   have_custom = absent;

@@ -1,8 +1,10 @@
-pub mod CameView
-pub mod EndingView
+pub mod CascadedValue
+pub mod Declarations
 pub mod Names
 pub mod Rollback
 pub mod Sizes
+pub mod SubstitutedShorthand
+pub mod SubstitutedValue
 pub mod Tokens
 pub mod View
 pub mod Wanted

@@ -12,7 +12,7 @@ use Rattle.cascade_model.specs.Key.{Matched, key_cmp}
 use Rattle.cascade_model.specs.Winner.{declares_custom}
 use Rattle.cascade_model.specs.Ending.{custom_meaning}
 use Rattle.cascade_model.specs.Custom.{custom_name, declared_value}
-use Rattle.cascade_core.specs.Rollback.{Descends, no_limit, walked}
+use Rattle.cascade_core.specs.Rollback.{Descends, unbounded, walked}
 
 -- the name, where a custom property is declared
 abbrev pub name_of : Matched → Option Characters
@@ -49,7 +49,7 @@ pub record AreByName (ds sorted : List Matched) : Type 0 where
 
 -- what a custom property is declared to be by declarations in this order
 abbrev pub declared_along : List Matched → Option (Option CustomValue)
-declared_along run = declared_value (walked custom_meaning no_limit run)
+declared_along run = declared_value (walked custom_meaning unbounded run)
 
 -- and with its name, where the first of them is of one
 abbrev pub named_entry : Option Characters → List Matched → Option (Characters × Option CustomValue)

@@ -1,5 +1,6 @@
 -- How the cascade is taken back along declarations of one property, from the greatest down.
-use Rattle.std.specs.Prelude.{◌≡◌, ℕ, nat_lt, find, filter, List, [], ◌∷◌, Bool, true, if◌then◌else◌, Option, Some, None}
+use Rattle.std.specs.Prelude.{◌≡◌, ℕ, nat_lt, find, filter, List, [], ◌∷◌, Bool, true, if◌then◌else◌}
+use Rattle.std.specs.Prelude.{Option, Some, None}
 use Rattle.std.specs.declared.cmp.Ordering.{Ordering}
 use Rattle.std.specs.Ordering.{is_lt, ordering_then, nat_cmp, bool_cmp}
 use Rattle.base_model.specs.Origin.{origin_rank}
@@ -28,18 +29,18 @@ compare_level a b =
     ordering_then (nat_cmp a.rank b.rank) (ordering_then (bool_cmp a.attached b.attached) (nat_cmp a.layer b.layer))
 
 -- how far the cascade was taken back
-pub data Limit : Type 0 where
-  no_limit : Limit
-  below_origin : ℕ → Limit
-  below_level : Level → Limit
+pub data Bound : Type 0 where
+  unbounded : Bound
+  below_origin : ℕ → Bound
+  below_level : Level → Bound
 
--- whether a declaration is asked still
-abbrev pub keeps : Limit → Matched → Bool
-keeps no_limit d = true
+-- whether a declaration is left
+abbrev pub keeps : Bound → Matched → Bool
+keeps unbounded d = true
 keeps (below_origin rank) d = nat_lt (origin_rank d.origin) rank
 keeps (below_level level) d = is_lt (compare_level (level_of d) level)
 
--- what the declaration that wins comes to, unless it takes the cascade back
+-- the cascaded value, where this is the winner's substituted value, unless it takes the cascade back
 abbrev pub settled : {A : Type 0} → Meaning A → Option (Ending A)
 settled (keyword inherit) = Some inherits
 settled (keyword initial) = Some initially
@@ -48,16 +49,16 @@ settled (keyword revert) = None
 settled (keyword revert_layer) = None
 settled (value given) = Some (ends_at given)
 
--- and where it takes it then
-abbrev pub limit_by : {A : Type 0} → Matched → Meaning A → Limit
-limit_by winning (keyword revert_layer) = below_level (level_of winning)
-limit_by winning meaning = below_origin (origin_rank winning.origin)
+-- and how far it takes it then
+abbrev pub bound_by : {A : Type 0} → Matched → Meaning A → Bound
+bound_by winning (keyword revert_layer) = below_level (level_of winning)
+bound_by winning meaning = below_origin (origin_rank winning.origin)
 
-abbrev pub walked : {A : Type 0} → (Given → Meaning A) → Limit → List Matched → Ending A
-walked means limit [] = unsets
-walked means limit (d ∷ ds) =
-    if keeps limit d then elim (settled (means d.given)) [
+abbrev pub walked : {A : Type 0} → (Given → Meaning A) → Bound → List Matched → Ending A
+walked means bound [] = unsets
+walked means bound (d ∷ ds) =
+    if keeps bound d then elim (settled (means d.given)) [
       | Some end ↦ end
-      | None ↦ walked means (limit_by d (means d.given)) ds
+      | None ↦ walked means (bound_by d (means d.given)) ds
     ]
-    else walked means limit ds
+    else walked means bound ds

@@ -6,7 +6,7 @@ use Rattle.syntax_model.specs.Wide.{Wide}
 use Rattle.value_model.specs.Value.{Value}
 use Rattle.sheet_model.specs.ValueIn.{value_in}
 use Rattle.sheet_model.specs.Declared.{wide_in}
-use Rattle.sheet_model.specs.Shorthands.{Subject, value_for}
+use Rattle.sheet_model.specs.Shorthands.{PropertyName, value_for}
 use Rattle.cascade_model.specs.Ending.{Meaning, keyword, value_or_unset}
 
 -- the keyword that they are, else the value that the property takes
@@ -14,8 +14,9 @@ abbrev pub keyword_or_value : Option Wide → Option Value → Meaning Value
 keyword_or_value (Some word) value = keyword word
 keyword_or_value None value = value_or_unset value
 
-abbrev pub token_meaning : ℕ → Subject → List Token → Meaning Value
-token_meaning property subject tokens = keyword_or_value (wide_in tokens) (value_for subject property tokens)
+abbrev pub token_meaning : ℕ → PropertyName → List Token → Meaning Value
+token_meaning property property_name tokens =
+    keyword_or_value (wide_in tokens) (value_for property_name property tokens)
 
 -- the value of a property in its part, where each of these properties has one
 abbrev pub value_among : ℕ → List ℕ → List (List Token) → Option Value

@@ -14,8 +14,8 @@ use Rattle.shorthands.specs.declared.declared.Target.TheVariants.{Longhand, Shor
 use Rattle.cascade_core.specs.declared.matched.Matched.{Matched}
 use Rattle.cascade_core.specs.Rollback as rollback
 use Rattle.cascade_core.specs.declared.level.Level.{Level}
-use Rattle.cascade_core.specs.declared.rollback.Limit.{Limit}
-use Rattle.cascade_core.specs.declared.rollback.Limit.TheVariants.{All, BelowOrigin, BelowLevel}
+use Rattle.cascade_core.specs.declared.rollback.RollbackBound.{RollbackBound}
+use Rattle.cascade_core.specs.declared.rollback.RollbackBound.TheVariants.{Unbounded, BelowOrigin, BelowLevel}
 
 -- a declaration of a longhand or a custom property, as it applies at this place of its sheet's text
 abbrev pub applied : Matched → ℕ → said.Declared → model.Matched
@@ -40,7 +40,7 @@ all_applied d index (declared ∷ others) = applied d index declared ∷ all_app
 abbrev pub matched_of : Matched → List model.Matched
 matched_of d = all_applied d d.index (declared_of d.declared.now)
 
--- what each of them is declared to be
+-- the declared value of each of them
 abbrev pub given_in : Declared → said.Given
 given_in declared = given_of (taker_of declared.target) declared.given
 
@@ -58,11 +58,11 @@ name_seen (Longhand id) = longhand (property_of id)
 name_seen (Shorthand short) = longhand 0
 name_seen (Custom name) = custom name
 
-abbrev pub placed : ℕ → Matched → model.Matched
-placed index d = for_target (name_seen d.declared.now.target) index d
+abbrev pub matched_placed : ℕ → Matched → model.Matched
+matched_placed index d = for_target (name_seen d.declared.now.target) index d
 
 abbrev pub head_of : Matched → model.Matched
-head_of d = placed d.index d
+head_of d = matched_placed d.index d
 
 -- whether a property is among those that it sets
 abbrev pub is_among : ℕ → Matched → Bool
@@ -83,7 +83,7 @@ level_seen level = record {
   layer = level.layer;
 }
 
-abbrev pub limit_seen : Limit → rollback.Limit
-limit_seen All = rollback.no_limit
-limit_seen (BelowOrigin origin) = rollback.below_origin (origin_rank (origin_of origin))
-limit_seen (BelowLevel level) = rollback.below_level (level_seen level)
+abbrev pub bound_seen : RollbackBound → rollback.Bound
+bound_seen Unbounded = rollback.unbounded
+bound_seen (BelowOrigin origin) = rollback.below_origin (origin_rank (origin_of origin))
+bound_seen (BelowLevel level) = rollback.below_level (level_seen level)

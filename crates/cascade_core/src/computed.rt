@@ -3,15 +3,15 @@
 ghost use Rattle.std.specs.Prelude.{◌≡◌};
 ghost use Rattle.cascade_model.specs.Cascade as model;
 ghost use Rattle.cascade_model.specs.Cascade.{absolute, bolder_than, computed_by, computed_color, computed_height, computed_size, computed_weight, lighter_than, percent_of, sizes, value_at};
-ghost use Rattle.property_table.specs.View.{row_seen, rule_of, value_of, word_of};
+ghost use Rattle.property_table.specs.View.{row_seen, compute_rule_of, value_seen, word_of};
 ghost use Rattle.value_model.specs.Style.{is_keyword, size_in};
 ghost use Rattle.value_model.specs.Table.{font_size_row};
 ghost use Rattle.value_model.specs.Value.{keyword, pixels};
-ghost use Rattle.cascade_core.specs.EndingView.{ending_seen};
+ghost use Rattle.cascade_core.specs.CascadedValue.{cascaded_seen};
 ghost use Rattle.cascade_core.specs.Sizes.{sizes_seen};
 
-use crate::ending::Ending;
-use property_table::{Keyword, PropId, Row, Rule, Value};
+use crate::cascaded_value::CascadedValue;
+use property_table::{ComputeRule, Keyword, PropId, PropertyRow, Value};
 use stylo_base::Fixed;
 
 /// The font sizes that `em` and `rem` stand for (css-values-4, section 6.1).
@@ -21,59 +21,70 @@ pub(crate) struct Sizes {
     pub(crate) root: Fixed,
 }
 
-/// What a value is computed over: the parent's value of the property, its font size and its font
-/// weight.
+/// The parent's font size and font weight.
 #[derive(Clone, Copy, Debug)]
-pub(crate) struct Over {
-    pub(crate) value: Value,
+pub(crate) struct ParentFont {
     pub(crate) size: Fixed,
     pub(crate) weight: Fixed,
 }
 
-/// The font size of an element whose declarations of it come to this, over the parent's font size
-/// and font weight: in it `em` and percentages are of the parent's.
-pub(crate) fn own_size(size: Fixed, weight: Fixed, root_size: Fixed, ending: Ending<Value>) -> Fixed
-    ensures { result ≡ size_in (value_at
-        font_size_row
-        (pixels size)
-        size
-        weight
-        (sizes size root_size)
-        (ending_seen value_of ending)) }
-{
-    let over = Over {
-        value: Value::Pixels(size),
-        size,
-        weight,
-    };
-    let sizes = Sizes {
-        element: size,
-        root: root_size,
-    };
-    value_at(Row::of(PropId::FontSize), over, &sizes, ending).font_size()
+/// The values of the parent that a value is computed from: its value of the same property, and its
+/// font.
+#[derive(Clone, Copy, Debug)]
+pub(crate) struct ParentValues {
+    pub(crate) value: Value,
+    pub(crate) font: ParentFont,
 }
 
-/// The value of a property whose declarations come to this (css-cascade-5, section 7.3).
-pub(crate) fn value_at(row: &Row, over: Over, sizes: &Sizes, ending: Ending<Value>) -> Value
-    ensures { value_of result ≡ value_at
-        (row_seen row.now)
-        (value_of over.value)
-        over.size
-        over.weight
-        (sizes_seen sizes.now)
-        (ending_seen value_of ending) }
+/// The font size of an element, from its cascaded value: in it `em` and percentages are of the
+/// parent's font size.
+pub(crate) fn own_size(font: ParentFont, root_size: Fixed, cascaded: CascadedValue<Value>) -> Fixed
+    ensures { result ≡ size_in (value_at
+        font_size_row
+        (pixels font.size)
+        font.size
+        font.weight
+        (sizes font.size root_size)
+        (cascaded_seen value_seen cascaded)) }
 {
-    match ending {
-        Ending::Inherits => over.value,
-        Ending::Initially => row.initial.value(),
-        Ending::Unsets => unset(row, over.value),
-        Ending::EndsAt(value) => computed(row.rule, over, sizes, value),
+    let sizes = Sizes {
+        element: font.size,
+        root: root_size,
+    };
+    let parents = ParentValues {
+        value: Value::Pixels(font.size),
+        font,
+    };
+    value_at(PropertyRow::of(PropId::FontSize), parents, &sizes, cascaded).font_size()
+}
+
+/// The value of a property before the adjustments, from its cascaded value (css-cascade-5, section
+/// 7.3).
+pub(crate) fn value_at(
+    row: &PropertyRow,
+    parents: ParentValues,
+    sizes: &Sizes,
+    cascaded: CascadedValue<Value>,
+) -> Value
+    ensures { value_seen result ≡ value_at
+        (row_seen row.now)
+        (value_seen parents.value)
+        parents.font.size
+        parents.font.weight
+        (sizes_seen sizes.now)
+        (cascaded_seen value_seen cascaded) }
+{
+    match cascaded {
+        CascadedValue::Inherit => parents.value,
+        CascadedValue::Initial => row.initial.value(),
+        CascadedValue::Unset => unset(row, parents.value),
+        CascadedValue::Value(value) => computed(row.rule, parents, sizes, value),
     }
 }
 
-/// The value of a property that nothing sets.
-fn unset(row: &Row, parents: Value) -> Value
-    ensures { value_of result ≡ model.unset (row_seen row.now) (value_of parents) }
+/// The value of a property that is not declared.
+fn unset(row: &PropertyRow, parents: Value) -> Value
+    ensures { value_seen result ≡ model.unset (row_seen row.now) (value_seen parents) }
 {
     if row.inherited {
         parents
@@ -82,28 +93,28 @@ fn unset(row: &Row, parents: Value) -> Value
     }
 }
 
-/// What a value is computed to.
-fn computed(rule: Rule, over: Over, sizes: &Sizes, value: Value) -> Value
-    ensures { value_of result ≡ computed_by
-        (rule_of rule)
-        (value_of over.value)
-        over.size
-        over.weight
+/// The computed value of a property, from a value that is declared.
+fn computed(rule: ComputeRule, parents: ParentValues, sizes: &Sizes, value: Value) -> Value
+    ensures { value_seen result ≡ computed_by
+        (compute_rule_of rule)
+        (value_seen parents.value)
+        parents.font.size
+        parents.font.weight
         (sizes_seen sizes.now)
-        (value_of value) }
+        (value_seen value) }
 {
     match rule {
-        Rule::Plain => absolute(sizes, value),
-        Rule::Color => computed_color(over.value, value),
-        Rule::FontSize => computed_size(over.size, sizes, value),
-        Rule::FontWeight => computed_weight(over.weight, value),
-        Rule::LineHeight => computed_height(sizes, value),
+        ComputeRule::Plain => absolute(sizes, value),
+        ComputeRule::Color => computed_color(parents.value, value),
+        ComputeRule::FontSize => computed_size(parents.font.size, sizes, value),
+        ComputeRule::FontWeight => computed_weight(parents.font.weight, value),
+        ComputeRule::LineHeight => computed_height(sizes, value),
     }
 }
 
 /// A length in pixels (css-values-4, section 6.1); any other value stays.
 fn absolute(sizes: &Sizes, value: Value) -> Value
-    ensures { value_of result ≡ absolute (sizes_seen sizes.now) (value_of value) }
+    ensures { value_seen result ≡ absolute (sizes_seen sizes.now) (value_seen value) }
 {
     match value {
         Value::Em(number) => Value::Pixels(number.scale(sizes.element.thousandths(), 1_000)),
@@ -114,7 +125,7 @@ fn absolute(sizes: &Sizes, value: Value) -> Value
 
 /// In `color` the keyword `currentcolor` acts as `inherit` (css-color-4, section 9).
 fn computed_color(parents: Value, value: Value) -> Value
-    ensures { value_of result ≡ computed_color (value_of parents) (value_of value) }
+    ensures { value_seen result ≡ computed_color (value_seen parents) (value_seen value) }
 {
     if is_keyword(Keyword::CurrentColor, &value) {
         parents
@@ -125,7 +136,7 @@ fn computed_color(parents: Value, value: Value) -> Value
 
 /// `font-size`, over the parent's (css-fonts-4, section 2.5).
 fn computed_size(size: Fixed, sizes: &Sizes, value: Value) -> Value
-    ensures { value_of result ≡ computed_size size (sizes_seen sizes.now) (value_of value) }
+    ensures { value_seen result ≡ computed_size size (sizes_seen sizes.now) (value_seen value) }
 {
     match value {
         Value::Percent(number) => percent_of(size, number),
@@ -136,7 +147,7 @@ fn computed_size(size: Fixed, sizes: &Sizes, value: Value) -> Value
 
 /// `larger` and `smaller` than a size.
 fn size_by_word(size: Fixed, sizes: &Sizes, word: Keyword) -> Value
-    ensures { value_of result ≡ computed_size size (sizes_seen sizes.now) (keyword (word_of word)) }
+    ensures { value_seen result ≡ computed_size size (sizes_seen sizes.now) (keyword (word_of word)) }
 {
     let value = Value::Keyword(word);
     if is_keyword(Keyword::Larger, &value) {
@@ -150,7 +161,7 @@ fn size_by_word(size: Fixed, sizes: &Sizes, word: Keyword) -> Value
 
 /// `bolder` and `lighter` are by the parent's weight (css-fonts-4, section 2.2.1).
 fn computed_weight(weight: Fixed, value: Value) -> Value
-    ensures { value_of result ≡ computed_weight weight (value_of value) }
+    ensures { value_seen result ≡ computed_weight weight (value_seen value) }
 {
     if is_keyword(Keyword::Bolder, &value) {
         Value::Number(bolder_than(weight))
@@ -161,6 +172,7 @@ fn computed_weight(weight: Fixed, value: Value) -> Value
     }
 }
 
+/// The weight that `bolder` stands for, over the parent's weight.
 fn bolder_than(weight: Fixed) -> Fixed
     ensures { result ≡ bolder_than weight }
 {
@@ -176,6 +188,7 @@ fn bolder_than(weight: Fixed) -> Fixed
     }
 }
 
+/// The weight that `lighter` stands for, over the parent's weight.
 fn lighter_than(weight: Fixed) -> Fixed
     ensures { result ≡ lighter_than weight }
 {
@@ -193,7 +206,7 @@ fn lighter_than(weight: Fixed) -> Fixed
 
 /// `line-height`: a percentage is of the element's own font size (CSS 2.2, section 10.8.1).
 fn computed_height(sizes: &Sizes, value: Value) -> Value
-    ensures { value_of result ≡ computed_height (sizes_seen sizes.now) (value_of value) }
+    ensures { value_seen result ≡ computed_height (sizes_seen sizes.now) (value_seen value) }
 {
     match value {
         Value::Percent(number) => percent_of(sizes.element, number),
@@ -203,13 +216,14 @@ fn computed_height(sizes: &Sizes, value: Value) -> Value
 
 /// So many percent of a size.
 fn percent_of(size: Fixed, percent: Fixed) -> Value
-    ensures { value_of result ≡ percent_of size percent }
+    ensures { value_seen result ≡ percent_of size percent }
 {
     Value::Pixels(percent.scale(size.thousandths(), 100_000))
 }
 
+/// Whether a value is this keyword.
 fn is_keyword(word: Keyword, value: &Value) -> bool
-    ensures { result ≡ is_keyword (word_of word) (value_of value.now) }
+    ensures { result ≡ is_keyword (word_of word) (value_seen value.now) }
 {
     value.is_same(Value::Keyword(word))
 }

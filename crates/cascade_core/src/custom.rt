@@ -1,21 +1,22 @@
 //! The custom properties of an element (css-variables-1, sections 2 and 3).
 
-ghost use Rattle.std.specs.Prelude.{◌≡◌, ◌++◌, IfOk, IsTrue, flat_map, map, option_map};
-ghost use Rattle.std.specs.Cmp.Lexicographic.{slice_cmp};
+ghost use Rattle.std.specs.Prelude.{◌≡◌, IfOk, IsTrue, map, option_map};
+ghost use Rattle.cascade_model.specs.Custom.{custom_values};
 ghost use Rattle.std.specs.FinMap as finmap;
 ghost use Rattle.std.specs.Option.{unwrap_or};
 ghost use Rattle.std.specs.Ordering.{nat_cmp};
-ghost use Rattle.base_model.specs.Text.{Characters};
-ghost use Rattle.cascade_model.specs.Custom.{custom_values};
+ghost use Rattle.std.specs.Cmp.Lexicographic.{slice_cmp};
 ghost use Rattle.custom_properties.specs.Entries.{declared_entry};
+ghost use Rattle.base_model.specs.Text.{Characters};
+ghost use Rattle.cascade_core.specs.Declarations.{all_matched};
+ghost use Rattle.cascade_core.specs.View.{head_of};
 ghost use Rattle.cascade_core.specs.Names.{NamesRise, declared_of, run_entry};
-ghost use Rattle.cascade_core.specs.View.{head_of, matched_of};
 
-use crate::Matched;
-use crate::customs::Customs;
-use crate::ending::Ending;
+use crate::cascaded_value::CascadedValue;
+use crate::custom_declarations::CustomDeclarations;
 use crate::names::{run_length, sorted_by_name};
 use crate::rollback::walk;
+use crate::{Declarations, Matched};
 use css_tokens::CustomMap;
 use css_writer::custom_declarations;
 use custom_properties::{DeclaredEntry, DeclaredMap, changed};
@@ -26,16 +27,15 @@ use stylo_base::NoMemory;
 
 /// The custom properties by the declarations that apply, over those of the parent. None: they are
 /// the parent's.
-pub(crate) fn changed_custom<'a>(
+pub(crate) fn changed_custom(
     alloc: Global,
-    matched: &'a [Matched<'a>],
-    attached: &'a [Matched<'a>],
+    declarations: Declarations<'_>,
     parent: &Custom,
 ) -> Result<Option<Custom>, NoMemory>
     ensures { IfOk result (λ custom. unwrap_or custom parent.now
-        ≡ custom_values parent.now (flat_map matched_of (matched.now ++ attached.now))) }
+        ≡ custom_values parent.now (all_matched declarations.entry)) }
 {
-    let list = sorted_by_name(alloc, matched, attached)?;
+    let list = sorted_by_name(alloc, declarations)?;
     let declared = DeclaredMap::of_entries(declared_entries(alloc, &list)?);
     match changed(alloc, &declared, parent.map())? {
         None => Ok(None),
@@ -51,7 +51,7 @@ fn printed(alloc: Global, map: CustomMap) -> Result<Custom, NoMemory>
     Custom::new(alloc, map, text)
 }
 
-/// What each name is declared to be, in the order of the names.
+/// The cascaded value of each name that has one of its own, in the order of the names.
 fn declared_entries<'a>(
     alloc: Global,
     list: &[Matched<'a>],
@@ -76,7 +76,8 @@ fn declared_entries<'a>(
     Ok(entries)
 }
 
-/// What the declarations of one name declare. None: it inherits.
+/// The cascaded value of a name, where these are its declarations from the greatest down. None: it
+/// inherits.
 fn entry_of<'a>(alloc: Global, run: &[Matched<'a>]) -> Result<Option<DeclaredEntry<'a>>, NoMemory>
     ensures { IfOk result (λ entry. option_map declared_entry entry ≡ run_entry (map head_of run.now)) }
 {
@@ -86,12 +87,12 @@ fn entry_of<'a>(alloc: Global, run: &[Matched<'a>]) -> Result<Option<DeclaredEnt
     let Target::Custom(name) = &first.declared.target else {
         return Ok(None);
     };
-    Ok(match walk(alloc, run, &mut Customs)? {
-        Ending::EndsAt(value) => Some(DeclaredEntry {
+    Ok(match walk(alloc, run, &mut CustomDeclarations)? {
+        CascadedValue::Value(value) => Some(DeclaredEntry {
             name,
             value: Some(value),
         }),
-        Ending::Initially => Some(DeclaredEntry { name, value: None }),
-        Ending::Inherits | Ending::Unsets => None,
+        CascadedValue::Initial => Some(DeclaredEntry { name, value: None }),
+        CascadedValue::Inherit | CascadedValue::Unset => None,
     })
 }

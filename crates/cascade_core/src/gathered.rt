@@ -1,12 +1,13 @@
-//! The declarations that are sorted, of all that apply.
+//! The declarations to be sorted, out of all that apply.
 
-ghost use Rattle.std.specs.Prelude.{◌≡◌, ◌∷◌, [], ◌++◌, IfOk, OnOk, filter, flat_map, map, if◌then◌else◌};
-ghost use Rattle.cascade_core.specs.View.{is_among, matched_of};
+ghost use Rattle.std.specs.Prelude.{◌≡◌, ◌∷◌, [], ◌++◌, IfOk, OnOk, filter, map, if◌then◌else◌};
 ghost use Rattle.property_table.specs.View.{property_of};
+ghost use Rattle.cascade_core.specs.Declarations.{all_matched};
+ghost use Rattle.cascade_core.specs.View.{is_among, matched_of};
 ghost use Rattle.cascade_core.specs.Wanted.{entry_by, wanted_by};
 
-use crate::Matched;
 use crate::matched::is_custom;
+use crate::{Declarations, Matched};
 use property_table::PropId;
 use std::alloc::Global;
 use std::slice;
@@ -15,26 +16,26 @@ use stylo_base::NoMemory;
 /// Which declarations are gathered.
 #[derive(Clone, Copy, Debug)]
 pub(crate) enum Wanted {
-    /// Those of a property of the table, or of a shorthand of it.
+    /// Those that set this property, by itself or by a shorthand.
     Property(PropId),
     /// Those of custom properties.
-    Customs,
+    Custom,
 }
 
 impl Wanted {
-    /// Whether it is one of these, or a shorthand of one.
+    /// Whether a declaration is wanted.
     pub(crate) fn takes(self, d: &Matched<'_>) -> bool
         ensures { filter (wanted_by self) (matched_of d.now)
             ≡ (if result then entry_by self d.now ∷ [] else []) }
     {
         match self {
             Wanted::Property(id) => sets(d, id),
-            Wanted::Customs => is_custom(d),
+            Wanted::Custom => is_custom(d),
         }
     }
 }
 
-/// Whether it sets the property.
+/// Whether a declaration sets the property.
 fn sets(d: &Matched<'_>, id: PropId) -> bool
     ensures { result ≡ is_among (property_of id) d.now }
 {
@@ -44,32 +45,29 @@ fn sets(d: &Matched<'_>, id: PropId) -> bool
 /// The declarations that are wanted, in their order.
 pub(crate) fn gathered<'a>(
     alloc: Global,
-    matched: &'a [Matched<'a>],
-    attached: &'a [Matched<'a>],
+    declarations: Declarations<'a>,
     wanted: Wanted,
 ) -> Result<Vec<Matched<'a>>, NoMemory>
     ensures { IfOk result (λ list. map (entry_by wanted) list.items
-        ≡ filter (wanted_by wanted) (flat_map matched_of (matched.now ++ attached.now))) }
+        ≡ filter (wanted_by wanted) (all_matched declarations.entry)) }
 {
     let mut list = Vec::new(alloc);
-    add_wanted(&mut list, matched, wanted)?;
-    add_wanted(&mut list, attached, wanted)?;
+    for d in declarations.matched {
+        add(&mut list, d, wanted)?;
+    }
+    for d in declarations.attached {
+        add(&mut list, d, wanted)?;
+    }
     Ok(list)
 }
 
-/// Adds those that are wanted.
-fn add_wanted<'a>(
-    list: &mut Vec<Matched<'a>>,
-    matched: &'a [Matched<'a>],
-    wanted: Wanted,
-) -> Result<(), NoMemory>
+/// Adds a declaration, if it is wanted.
+fn add<'a>(list: &mut Vec<Matched<'a>>, d: &'a Matched<'a>, wanted: Wanted) -> Result<(), NoMemory>
     ensures { OnOk result (map (entry_by wanted) list.new.items ≡ map (entry_by wanted) list.old.items
-        ++ filter (wanted_by wanted) (flat_map matched_of matched.now)) }
+        ++ filter (wanted_by wanted) (matched_of d.now)) }
 {
-    for d in matched {
-        if wanted.takes(d) {
-            list.extend_from_slice(slice::from_ref(d))?;
-        }
+    if wanted.takes(d) {
+        list.extend_from_slice(slice::from_ref(d))?;
     }
     Ok(())
 }

@@ -8,7 +8,7 @@ use crate::Matched;
 use layer_order::Origin;
 use std::cmp::Ordering;
 
-/// Its origin, whether it is of a `style` attribute, and its layer's rank: compared in that order.
+/// Its origin, whether it is in a `style` attribute, and its layer's rank: compared in that order.
 #[derive(Clone, Copy, Debug)]
 pub(crate) struct Level {
     origin: Origin,
@@ -17,7 +17,7 @@ pub(crate) struct Level {
 }
 
 impl Level {
-    /// That of a declaration.
+    /// The level of a declaration.
     pub(crate) fn of(d: &Matched<'_>) -> Level
         ensures { level_seen result ≡ level_of (head_of d.now) }
     {
@@ -28,7 +28,7 @@ impl Level {
         }
     }
 
-    /// Which of two is lower.
+    /// Which of two levels is lower.
     pub(crate) fn compare(self, other: Level) -> Ordering
         ensures { result ≡ compare_level (level_seen self) (level_seen other) }
     {

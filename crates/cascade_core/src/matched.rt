@@ -3,7 +3,7 @@
 ghost use Rattle.std.specs.Prelude.{◌≡◌};
 ghost use Rattle.cascade_model.specs.Key.{band, key_cmp, layer_cmp};
 ghost use Rattle.property_table.specs.View.{property_of};
-ghost use Rattle.cascade_core.specs.View.{entry_of, head_of, is_of_custom, placed};
+ghost use Rattle.cascade_core.specs.View.{entry_of, head_of, is_of_custom, matched_placed};
 
 use layer_order::Origin;
 use property_table::PropId;
@@ -18,13 +18,13 @@ use stylo_base::Specificity;
 /// one of each of its longhands (css-cascade-5, section 3).
 #[derive(Clone, Copy, Debug)]
 pub struct Matched<'a> {
-    /// What is declared, what it is declared to be, and whether that is `!important`.
+    /// The property or the custom property, its declared value, and whether it is `!important`.
     pub declared: &'a Declared,
-    /// Where its sheet comes from.
+    /// The origin of its sheet.
     pub origin: Origin,
-    /// Whether it is of the `style` attribute.
+    /// Whether it is in a `style` attribute.
     pub attached: bool,
-    /// The rank of its cascade layer, which is higher for what comes later.
+    /// The rank of its cascade layer, which is higher for a later layer.
     pub layer: u32,
     /// The greatest among the selectors of its rule that hold at the element.
     pub specificity: Specificity,
@@ -62,7 +62,7 @@ fn place_of(id: PropId, d: &Matched<'_>) -> u128
 
 /// Which of two is greater, where they stand at these places of their sheets' texts.
 fn compare_placed(a: &Matched<'_>, b: &Matched<'_>, a_place: u128, b_place: u128) -> Ordering
-    ensures { result ≡ key_cmp (placed a_place a.now) (placed b_place b.now) }
+    ensures { result ≡ key_cmp (matched_placed a_place a.now) (matched_placed b_place b.now) }
 {
     band(a)
         .cmp(&band(b))
@@ -100,7 +100,7 @@ fn compare_layers(a: &Matched<'_>, b: &Matched<'_>) -> Ordering
     }
 }
 
-/// Whether it is of a custom property.
+/// Whether a declaration is of a custom property.
 pub(crate) fn is_custom(d: &Matched<'_>) -> bool
     ensures { result ≡ is_of_custom d.now }
 {

@@ -1,12 +1,13 @@
 //! The names of custom properties, by which their declarations are sorted.
 
-ghost use Rattle.std.specs.Prelude.{◌≡◌, ◌++◌, ◌<◌, ◌≤◌, IfOk, flat_map, length, map, take, drop, true, option_copied};
+ghost use Rattle.std.specs.Prelude.{◌≡◌, ◌<◌, ◌≤◌, IfOk, length, map, take, drop, true, option_copied};
+ghost use Rattle.cascade_core.specs.Declarations.{all_matched};
 ghost use Rattle.cascade_core.specs.Names.{AreByName, by_name, compare_names, is_run, name_of};
-ghost use Rattle.cascade_core.specs.View.{head_of, matched_of};
+ghost use Rattle.cascade_core.specs.View.{head_of};
 
-use crate::Matched;
 use crate::gathered::{Wanted, gathered};
 use crate::matched::compare;
+use crate::{Declarations, Matched};
 use css_tokens::CustomName;
 use shorthands::Target;
 use std::alloc::Global;
@@ -17,13 +18,11 @@ use stylo_base::NoMemory;
 /// equal ones the first comes first.
 pub(crate) fn sorted_by_name<'a>(
     alloc: Global,
-    matched: &'a [Matched<'a>],
-    attached: &'a [Matched<'a>],
+    declarations: Declarations<'a>,
 ) -> Result<Vec<Matched<'a>>, NoMemory>
-    ensures { IfOk result (λ list. AreByName (flat_map matched_of (matched.now ++ attached.now))
-        (map head_of list.items)) }
+    ensures { IfOk result (λ list. AreByName (all_matched declarations.entry) (map head_of list.items)) }
 {
-    let mut list = gathered(alloc, matched, attached, Wanted::Customs)?;
+    let mut list = gathered(alloc, declarations, Wanted::Custom)?;
     list.sort_by(
         |a: &Matched<'_>, b: &Matched<'_>| -> Ordering
             ensures { result ≡ by_name (head_of a.now) (head_of b.now) }
@@ -49,7 +48,7 @@ pub(crate) fn run_length(list: &[Matched<'_>]) -> usize
     list.len()
 }
 
-/// Which name comes first, in the order of their characters. Those of the table have none.
+/// Which name comes first, in the order of their characters. A property of the table has none.
 fn compare_names(a: &Matched<'_>, b: &Matched<'_>) -> Ordering
     ensures { result ≡ compare_names (head_of a.now) (head_of b.now) }
 {

@@ -1,202 +1,118 @@
-//! The declaration that wins, for each property.
+//! The declarations that apply to an element, with the one that wins for each property.
 
-ghost use Rattle.std.specs.Prelude.{◌≡◌, ◌∷◌, [], ◌++◌, ◌+◌, IfOk, OnOk, IfSome, List, Some};
-ghost use Rattle.std.specs.Prelude.{flat_map, option_copied, option_map, slice_get};
+ghost use Rattle.std.specs.Prelude.{◌≡◌, ℕ, ◌<◌, IfOk, IfSome, length};
+ghost use Rattle.custom_model.specs.Expand.{Lookup};
+ghost use Rattle.property_table.specs.View.{value_seen};
+ghost use Rattle.cascade_model.specs.Ending.{ending, unsets};
 ghost use Rattle.std.specs.FinMap as finmap;
-ghost use Rattle.cascade_model.specs.Key.{Matched as Declaration};
-ghost use Rattle.cascade_model.specs.Ending.{ending};
-ghost use Rattle.property_table.specs.View.{property_of, value_of};
-ghost use Rattle.cascade_core.specs.EndingView.{ending_seen};
-ghost use Rattle.cascade_core.specs.View.{entry_of, matched_of};
-ghost use Rattle.cascade_core.specs.Won.{AreWinners, at_place, won};
+ghost use Rattle.std.specs.Int.{bit_at};
+ghost use Rattle.value_model.specs.Table.{table};
+ghost use Rattle.cascade_core.specs.CascadedValue.{cascaded_seen};
+ghost use Rattle.cascade_core.specs.Declarations.{all_matched};
+ghost use Rattle.cascade_core.specs.Won.{have_custom};
 
-use crate::Matched;
-use crate::ending::Ending;
+use crate::Declarations;
+use crate::cascaded_value::CascadedValue;
 use crate::longhands::Longhands;
-use crate::matched::{compare_for, is_custom};
-use crate::meaning::Meanings;
-use property_table::{COUNT, PropId, Value};
+use crate::places::Places;
+use crate::rollback::rolled_back;
+use crate::substitution::Substitution;
+use property_table::Value;
 use std::alloc::Global;
 use std::marker::Model;
 use stylo_base::NoMemory;
 
-/// For each property the declaration that wins among those that were added, if there is one, and
-/// whether some declaration is of a custom property. Declarations are kept by their places: the
-/// place of one is its number, from 1, among those of the rules and then those of the `style`
-/// attribute.
+/// The declarations that apply to an element, and the one that wins for each property, if there is
+/// one. Contracts see the list of all these declarations, with a shorthand's as one for each of its
+/// longhands.
 #[derive(Drop)]
 pub(crate) struct Winners<'a> {
-    matched: &'a [Matched<'a>],
-    attached: &'a [Matched<'a>],
-    /// The place of the one of each row; 0 where there is none.
-    places: [u32; COUNT],
-    /// The bit of a row is set where there is one of its property.
-    declared: u64,
-    have_custom: bool,
+    declarations: Declarations<'a>,
+    places: Places,
 }
 
 impl<'a> Model for Winners<'a> {
-    ghost use Rattle.std.specs.Prelude.{◌++◌, map};
-    ghost use Rattle.cascade_core.specs.Won as model;
-    ghost use Rattle.cascade_core.specs.Won.{at_place};
+    ghost use Rattle.std.specs.Prelude.{List};
+    ghost use Rattle.cascade_model.specs.Key as model;
+    ghost use Rattle.cascade_core.specs.Declarations.{all_matched, in_order};
+    ghost use Rattle.cascade_core.specs.Won.{AreWinners};
 
-    ghost Value = { model.Won };
+    ghost Value = { List model.Matched };
 
-    ghost view = { λ w. record {
-      list = w.matched.now ++ w.attached.now;
-      best = map (at_place (w.matched.now ++ w.attached.now)) w.places;
-      declared = w.declared;
-      have_custom = w.have_custom;
-    } };
+    ghost view = { λ w. all_matched w.declarations };
+
+    ghost invariant = { λ w. AreWinners (in_order w.declarations) w.places (all_matched w.declarations) };
 }
 
 impl<'a> Winners<'a> {
-    /// No winners yet among these declarations: none was added.
-    pub(crate) fn none(matched: &'a [Matched<'a>], attached: &'a [Matched<'a>]) -> Winners<'a>
-        ensures list { result.list ≡ matched.now ++ attached.now }
-        ensures none { AreWinners result [] }
+    /// The winners among these declarations.
+    pub(crate) fn of(declarations: Declarations<'a>) -> Result<Winners<'a>, NoMemory>
+        ensures { IfOk result (λ winners. winners ≡ all_matched declarations.entry) }
     {
-        Winners {
-            matched,
-            attached,
-            places: [0; COUNT],
-            declared: 0,
-            have_custom: false,
-        }
+        let places = Places::of(declarations)?;
+        Ok(Winners {
+            declarations,
+            places,
+        })
     }
 
-    /// Adds all the declarations, of which the earlier one wins where two compare as equal.
-    pub(crate) fn add_all(
-        &mut self,
-        matched: &'a [Matched<'a>],
-        attached: &'a [Matched<'a>],
-    ) -> Result<(), NoMemory>
-        requires list { self.old.list ≡ matched.now ++ attached.now }
-        requires none { AreWinners self.old [] }
-        ensures { OnOk result (AreWinners self.new (flat_map matched_of (matched.now ++ attached.now))) }
+    /// All these declarations.
+    pub(crate) fn declarations(&self) -> Declarations<'a>
+        ensures { all_matched result ≡ self.now }
     {
-        let mut place = 0;
-        for d in matched {
-            place = next(place)?;
-            self.add(place, d);
-        }
-        for d in attached {
-            place = next(place)?;
-            self.add(place, d);
-        }
-        Ok(())
+        self.declarations
     }
 
-    /// What the declarations of a property come to. None: the one that wins takes the cascade back.
-    pub(crate) fn ending(
+    /// The cascaded value of a property. It takes memory only where the winner has `var()`, or is
+    /// `revert` or `revert-layer`.
+    pub(crate) fn cascaded_value(
         &self,
         alloc: Global,
         longhands: &mut Longhands<'a, '_>,
-    ) -> Result<Option<Ending<Value>>, NoMemory>
+    ) -> Result<CascadedValue<Value>, NoMemory>
         ensures same { longhands.new ≡ longhands.old }
-        ensures ending { (ds : List Declaration) → AreWinners self.now ds
-            → let values = finmap.get longhands.old.custom in
-            IfOk result (λ found. IfSome found (λ end.
-            ending_seen value_of end ≡ ending values longhands.old.property ds)) }
+        ensures value { let values = finmap.get longhands.old.custom in
+            IfOk result (λ value. cascaded_seen value_seen value ≡ ending values longhands.old.property self.now) }
     {
-        let Some(d) = self.of(longhands.id()) else {
-            return Ok(Some(Ending::Unsets));
-        };
-        let meaning = longhands.meaning(alloc, d.declared)?;
-        Ok(Ending::settled(meaning))
+        match self.by_winner(alloc, longhands)? {
+            Some(value) => Ok(value),
+            None => rolled_back(alloc, self.declarations, longhands),
+        }
     }
 
-    /// The properties that some declaration is of: the bit of each one's row is set.
+    /// The cascaded value by the winner alone. None: the winner is `revert` or `revert-layer`.
+    fn by_winner(
+        &self,
+        alloc: Global,
+        longhands: &mut Longhands<'a, '_>,
+    ) -> Result<Option<CascadedValue<Value>>, NoMemory>
+        ensures same { longhands.new ≡ longhands.old }
+        ensures value { let values = finmap.get longhands.old.custom in
+            IfOk result (λ found. IfSome found (λ value.
+            cascaded_seen value_seen value ≡ ending values longhands.old.property self.now)) }
+    {
+        let place = self.places.place(longhands.id());
+        let Some(d) = self.declarations.at_place(place) else {
+            return Ok(Some(CascadedValue::Unset));
+        };
+        let substituted = longhands.substituted(alloc, d.declared)?;
+        Ok(CascadedValue::settled(substituted))
+    }
+
+    /// The properties that are declared, each by the bit of its row. No other property has a
+    /// declaration.
     pub(crate) fn declared(&self) -> u64
-        ensures { result ≡ self.now.declared }
+        ensures rows { (p : ℕ) → bit_at result p ≡ 1 → p < length table }
+        ensures others { (values : Lookup) (p : ℕ) → bit_at result p ≡ 0 → p < length table
+            → ending values p self.now ≡ unsets }
     {
-        self.declared
+        self.places.declared()
     }
 
-    /// Whether some declaration is of a custom property.
+    /// Whether a custom property is declared.
     pub(crate) fn have_custom(&self) -> bool
-        ensures { result ≡ self.now.have_custom }
+        ensures { result ≡ have_custom self.now }
     {
-        self.have_custom
-    }
-
-    /// The one that wins for a property.
-    fn of(&self, id: PropId) -> Option<&'a Matched<'a>>
-        ensures { slice_get self.now.best (property_of id) ≡ Some (option_copied result) }
-    {
-        at_place(self.matched, self.attached, self.places[id.row()])
-    }
-
-    /// Adds the declaration at a place, which a shorthand is of each of its longhands.
-    fn add(&mut self, place: u32, d: &'a Matched<'a>)
-        requires { at_place self.old.list place ≡ Some d.now }
-        ensures list { self.new.list ≡ self.old.list }
-        ensures best { (ds : List Declaration) → AreWinners self.old ds
-            → AreWinners self.new (ds ++ matched_of d.now) }
-    {
-        if is_custom(d) {
-            self.have_custom = true;
-            return;
-        }
-        let ids = d.declared.longhands();
-        for id in ids {
-            self.put(*id, place, d);
-        }
-    }
-
-    /// Adds the declaration at a place as one of this property, by itself or by a shorthand of it.
-    fn put(&mut self, id: PropId, place: u32, d: &'a Matched<'a>)
-        requires { at_place self.old.list place ≡ Some d.now }
-        ensures list { self.new.list ≡ self.old.list }
-        ensures best { (ds : List Declaration) → AreWinners self.old ds
-            → AreWinners self.new (ds ++ entry_of (property_of id) d.now ∷ []) }
-    {
-        let row = id.row();
-        self.places[row] = self.better(id, place, d);
-        self.declared |= 1 << row;
-    }
-
-    /// The place of the winner of a property once the declaration at `place` is added to it.
-    fn better(&self, id: PropId, place: u32, d: &'a Matched<'a>) -> u32
-        requires { at_place self.now.list place ≡ Some d.now }
-        ensures { (ds : List Declaration) → let property = property_of id in
-            AreWinners self.now ds → won (ds ++ entry_of property d.now ∷ []) property
-            ≡ option_map (entry_of property) (at_place self.now.list result) }
-    {
-        let Some(winner) = self.of(id) else {
-            return place;
-        };
-        if compare_for(id, winner, d).is_lt() {
-            place
-        } else {
-            self.places[id.row()]
-        }
-    }
-}
-
-/// The place after this one, from 1. No memory holds so many declarations that there is none: one
-/// takes more than 50 bytes.
-fn next(place: u32) -> Result<u32, NoMemory>
-    ensures { IfOk result (λ n. n ≡ place + 1) }
-{
-    place.checked_add(1).ok_or(NoMemory)
-}
-
-/// The declaration at a place, if it is not 0.
-fn at_place<'a>(
-    matched: &'a [Matched<'a>],
-    attached: &'a [Matched<'a>],
-    place: u32,
-) -> Option<&'a Matched<'a>>
-    ensures { option_copied result ≡ at_place (matched.now ++ attached.now) place }
-{
-    if place == 0 {
-        return None;
-    }
-    let index = place as usize - 1;
-    if index < matched.len() {
-        matched.get(index)
-    } else {
-        attached.get(index - matched.len())
+        self.places.have_custom()
     }
 }

@@ -123,33 +123,33 @@ unfolding ending_of table
 borders = refl
 
 -- What is absolutely positioned does not float, and is made a block; so is what floats, and the root.
-abbrev placed : Bool → Characters → Characters → Characters → List (Option Value)
-placed is_root position float display =
+abbrev with_position : Bool → Characters → Characters → Characters → List (Option Value)
+with_position is_root position float display =
     come is_root [] ((3, word position) ∷ (4, word float) ∷ (2, word display) ∷ []) (3 ∷ 4 ∷ 2 ∷ [])
 
 abbrev three : Characters → Characters → Characters → List (Option Value)
 three position float display = are (word position ∷ word float ∷ word display ∷ [])
 
-absolute : placed false (codes "absolute") (codes "left") (codes "inline") ≡ three (codes "absolute") (codes "none") (codes "block")
+absolute : with_position false (codes "absolute") (codes "left") (codes "inline") ≡ three (codes "absolute") (codes "none") (codes "block")
 unfolding ending_of table
 absolute = refl
 
-fixed : placed false (codes "fixed") (codes "right") (codes "inline-flex") ≡ three (codes "fixed") (codes "none") (codes "flex")
+fixed : with_position false (codes "fixed") (codes "right") (codes "inline-flex") ≡ three (codes "fixed") (codes "none") (codes "flex")
 unfolding ending_of table
 fixed = refl
 
-relative : placed false (codes "relative") (codes "left") (codes "inline-block") ≡ three (codes "relative") (codes "left") (codes "block")
+relative : with_position false (codes "relative") (codes "left") (codes "inline-block") ≡ three (codes "relative") (codes "left") (codes "block")
 unfolding ending_of table
 relative = refl
 
-sticky : placed false (codes "sticky") (codes "none") (codes "inline-block") ≡ three (codes "sticky") (codes "none") (codes "inline-block")
+sticky : with_position false (codes "sticky") (codes "none") (codes "inline-block") ≡ three (codes "sticky") (codes "none") (codes "inline-block")
 unfolding ending_of table
 sticky = refl
 
-not_shown : placed true (codes "absolute") (codes "left") (codes "none") ≡ three (codes "absolute") (codes "none") (codes "none")
+not_shown : with_position true (codes "absolute") (codes "left") (codes "none") ≡ three (codes "absolute") (codes "none") (codes "none")
 unfolding ending_of table
 not_shown = refl
 
-a_root : placed true (codes "static") (codes "none") (codes "inline-flex") ≡ three (codes "static") (codes "none") (codes "flex")
+a_root : with_position true (codes "static") (codes "none") (codes "inline-flex") ≡ three (codes "static") (codes "none") (codes "flex")
 unfolding ending_of table
 a_root = refl

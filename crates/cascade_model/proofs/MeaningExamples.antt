@@ -14,7 +14,7 @@ use Rattle.value_model.specs.Value.{Value, color, percent, em}
 use Rattle.value_model.specs.Table.{table}
 use Rattle.value_model.specs.Shorthand.{margin, overflow, all}
 use Rattle.sheet_model.specs.ValueIn.{value_in, units}
-use Rattle.sheet_model.specs.Shorthands.{Subject, single, shorthand}
+use Rattle.sheet_model.specs.Shorthands.{PropertyName, single, shorthand}
 use Rattle.sheet_model.specs.Declared.{wide, referring}
 use Rattle.cascade_model.specs.Ending.{Ending, inherits, initially, unsets, ends_at, ending, ending_of}
 use Rattle.cascade_model.specs.Cascade.{cascaded}
@@ -27,10 +27,10 @@ tokens text = map said (tokens_in text)
 abbrev always : Characters → Lookup
 always text name = Some (tokens text)
 
--- what a property comes to by a declaration of a subject with this value
-abbrev refers : Lookup → Subject → Characters → ℕ → Ending Value
-refers values subject text property =
-    ending values property (record (declares_one property red) { given = referring subject (tokens text) } ∷ [])
+-- what a property comes to by a declaration of a property name with this value
+abbrev refers : Lookup → PropertyName → Characters → ℕ → Ending Value
+refers values property_name text property =
+    ending values property (record (declares_one property red) { given = referring property_name (tokens text) } ∷ [])
 
 abbrev of_margin : Characters → ℕ → Ending Value
 of_margin value property = refers (always value) (shorthand margin) (codes "var(--x)") property

@@ -1,10 +1,11 @@
 -- The style of an element is computed over its parent's.
-use Rattle.std.proofs.Common.{◌≡◌, ℕ, ℤ, length, [], ◌∷◌, sym, arith, List, Option, Some, None, true, false, is_none, if◌then◌else◌, refl, ap, ◌∙◌}
-use Rattle.std.proofs.lemmas.Bool.{eq-eqb}
+use Rattle.std.proofs.Common.{◌≡◌, ℕ, ◌+◌, ℤ, length, [], ◌∷◌, sym, arith, List, Option, Some, None, Bool, true, false, not, cond, is_none, if◌then◌else◌, refl, ap, ◌∙◌}
+use Rattle.std.proofs.lemmas.Bool.{eq-eqb, eqb-true}
 use Rattle.std.proofs.lemmas.Option.{none-some, same_Some}
+use Rattle.std.specs.List.{position_or_len}
 use Rattle.std.specs.Option.{option_map_or}
 use Rattle.scene_model.specs.Element.{Element}
-use Rattle.scene_model.specs.Lookups.{parent_of}
+use Rattle.scene_model.specs.Lookups.{IsElement, has_number, parent_of}
 use Rattle.scene_model.specs.Ancestors.{position_of, up, ancestors}
 use Rattle.scene_model.specs.Valid.{IsValid}
 use Rattle.scene_model.proofs.Climbing.{ancestors-up}
@@ -53,6 +54,20 @@ parent_of-root [] v x h = absurd (none-some x h)
 parent_of-root (element ∷ doc) v x h =
     let is : element.number ≡ x = same_Some element.number x h in
     no_parent (element ∷ doc) v x (ap (position_of (element ∷ doc)) (sym is) ∙ position_first element doc) (parent_of (element ∷ doc) x) refl
+
+-- the element at position 0 is the first
+first_at : (b : Bool) (n : ℕ) (P : Type 0) → (b ≡ true → P) → cond (not b) (1 + n) 0 ≡ 0 → P
+first_at true n P h e = h refl
+first_at false n P h e = absurd (omega (arith, e))
+
+pub position_zero : (doc : List Element) (x : ℕ) → IsElement doc x → position_of doc x ≡ 0 → root_of doc ≡ Some x
+position_zero [] x is e = absurd (cc)
+position_zero (element ∷ doc) x is e =
+    first_at (has_number x element) (position_or_len (has_number x) doc) (root_of (element ∷ doc) ≡ Some x) (λ h. ap Some (eqb-true element.number x h)) e
+
+-- an element without a parent is the root
+pub root_of-first : (els : List Element) → IsValid els → (x : ℕ) → IsElement els x → parent_of els x ≡ None → root_of els ≡ Some x
+root_of-first els v x there h = position_zero els x there (v.root x there h)
 
 pub root_size_of-root : (doc : List Element) (sources : Sources) → IsValid doc → (x : ℕ) → root_of doc ≡ Some x → root_size_of doc sources ≡ font_size_of (style_of doc sources x).values
 unfolding root_size_of

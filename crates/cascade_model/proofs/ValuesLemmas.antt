@@ -8,26 +8,26 @@ use Rattle.std.proofs.lemmas.List.{length-set}
 use Rattle.base_model.proofs.Lists.{slice_get_some}
 use Rattle.custom_model.specs.Expand.{Lookup}
 use Rattle.value_model.specs.Value.{Value}
-use Rattle.value_model.specs.Table.{Row, table, display_property, float_property, border_sides, font_size_property, font_size_row, font_weight_property}
+use Rattle.value_model.specs.Table.{PropertyRow, table, display_property, float_property, border_sides, font_size_property, font_size_row, font_weight_property}
 use Rattle.value_model.specs.Style.{Style, changed, with_changed, passes_at, is_no_border, is_positioned, floats, with_float, with_display, with_border, with_borders, adjusted, size_in, initial_size, font_size_of, weight_in, initial_weight, font_weight_of}
 use Rattle.value_model.proofs.ByRow.{by_row, by_row-at, by_row-keeps, length-by_row, keeps}
 use Rattle.cascade_model.specs.Key.{Matched}
 use Rattle.cascade_model.specs.Custom.{custom_values}
 use Rattle.cascade_model.specs.Cascade.{sizes, own_size, property_value, values_from, values_over, cascaded}
 
-pub values_from-by_row : (f : ℕ → Row → Value → Value) (i : ℕ) (rows : List Row) (values : List Value) → values_from f i rows values ≡ by_row f i rows values
+pub values_from-by_row : (f : ℕ → PropertyRow → Value → Value) (i : ℕ) (rows : List PropertyRow) (values : List Value) → values_from f i rows values ≡ by_row f i rows values
 values_from-by_row f i [] values = refl
 values_from-by_row f i (row ∷ rows) [] = refl
 values_from-by_row f i (row ∷ rows) (value ∷ values) =
     ap (λ l. f i row value ∷ l) (values_from-by_row f (i + 1) rows values)
 
-pub length-values_from : (f : ℕ → Row → Value → Value) (i : ℕ) (rows : List Row) (values : List Value) → length values ≡ length rows → length (values_from f i rows values) ≡ length rows
+pub length-values_from : (f : ℕ → PropertyRow → Value → Value) (i : ℕ) (rows : List PropertyRow) (values : List Value) → length values ≡ length rows → length (values_from f i rows values) ≡ length rows
 length-values_from f i rows values h =
     ap length (values_from-by_row f i rows values)
     ∙ (length-by_row f keeps i rows values ∙ (ap length (by_row-keeps i rows values h) ∙ h))
 
 -- the value at an index of the table
-pub values_from-at : (f : ℕ → Row → Value → Value) (rows : List Row) (values : List Value) (k : ℕ) (row : Row) → slice_get rows k ≡ Some row → slice_get (values_from f 0 rows values) k ≡ option_map (f k row) (slice_get values k)
+pub values_from-at : (f : ℕ → PropertyRow → Value → Value) (rows : List PropertyRow) (values : List Value) (k : ℕ) (row : PropertyRow) → slice_get rows k ≡ Some row → slice_get (values_from f 0 rows values) k ≡ option_map (f k row) (slice_get values k)
 values_from-at f rows values k row at =
     ap (λ l. slice_get l k) (values_from-by_row f 0 rows values) ∙ by_row-at f rows values k row at
 
@@ -122,7 +122,7 @@ size_within = lit< tt
 pub font_size_of-values : (custom : Lookup) (is_root : Bool) (parents : List Value) (root_size : ℤ) (ds : List Matched) → length parents ≡ length table → font_size_of (values_over custom is_root parents root_size ds) ≡ own_size custom parents root_size ds
 font_size_of-values custom is_root parents root_size ds h =
     let own = own_size custom parents root_size ds in
-    let value_by : ℕ → Row → Value → Value = property_value custom parents (sizes own (if is_root then own else root_size)) ds in
+    let value_by : ℕ → PropertyRow → Value → Value = property_value custom parents (sizes own (if is_root then own else root_size)) ds in
     let (value, at) = slice_get_some parents font_size_property (omega (arith, h, size_within)) in
     ap (λ o. option_map_or size_in o initial_size) (values_from-at value_by table parents font_size_property font_size_row size_row ∙ ap (option_map (value_by font_size_property font_size_row)) at)
 

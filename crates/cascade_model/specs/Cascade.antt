@@ -2,7 +2,8 @@
 use Rattle.std.specs.Prelude.{ℕ, ◌+◌, ◌==◌, ℤ, pos, int_lt, List, [], ◌∷◌, Bool, if◌then◌else◌}
 use Rattle.std.specs.Prelude.{codes}
 use Rattle.value_model.specs.Value.{Value, keyword, pixels, percent, number, em, rem}
-use Rattle.value_model.specs.Table.{Row, Rule, plain, of_color, of_font_size, of_font_weight, of_line_height, table}
+use Rattle.value_model.specs.Table.{PropertyRow, ComputeRule, plain, of_color, of_font_size, of_font_weight}
+use Rattle.value_model.specs.Table.{of_line_height, table}
 use Rattle.value_model.specs.Table.{font_size_property, font_size_row}
 use Rattle.value_model.specs.Style.{Style, adjusted, is_keyword, size_in, font_size_of, font_weight_of}
 use Rattle.sheet_model.specs.ValueIn.{scaled}
@@ -71,22 +72,22 @@ abbrev pub computed_color : Value → Value → Value
 computed_color parents value = if is_keyword (codes "currentcolor") value then parents else value
 
 -- What a value of a row is computed to, over the parent's value of that row, font size and font weight.
-abbrev pub computed_by : Rule → Value → ℤ → ℤ → Sizes → Value → Value
+abbrev pub computed_by : ComputeRule → Value → ℤ → ℤ → Sizes → Value → Value
 computed_by plain parents size weight sizes value = absolute sizes value
 computed_by of_color parents size weight sizes value = computed_color parents value
 computed_by of_font_size parents size weight sizes value = computed_size size sizes value
 computed_by of_font_weight parents size weight sizes value = computed_weight weight value
 computed_by of_line_height parents size weight sizes value = computed_height sizes value
 
-abbrev pub computed : Row → Value → ℤ → ℤ → Sizes → Value → Value
+abbrev pub computed : PropertyRow → Value → ℤ → ℤ → Sizes → Value → Value
 computed row parents size weight sizes value = computed_by row.rule parents size weight sizes value
 
 -- css-cascade-5, section 7.3
-abbrev pub unset : Row → Value → Value
+abbrev pub unset : PropertyRow → Value → Value
 unset row parents = if row.inherited then parents else row.initial
 
 -- the value of a row, over the parent's
-abbrev pub value_at : Row → Value → ℤ → ℤ → Sizes → Ending Value → Value
+abbrev pub value_at : PropertyRow → Value → ℤ → ℤ → Sizes → Ending Value → Value
 value_at row parents size weight sizes inherits = parents
 value_at row parents size weight sizes initially = row.initial
 value_at row parents size weight sizes unsets = unset row parents
@@ -105,13 +106,13 @@ own_size custom parents root_size ds =
     (ending custom font_size_property ds))
 
 -- the value of a property, where the font size is known
-abbrev pub property_value : Lookup → List Value → Sizes → List Matched → ℕ → Row → Value → Value
+abbrev pub property_value : Lookup → List Value → Sizes → List Matched → ℕ → PropertyRow → Value → Value
 property_value custom parents sizes ds property row value =
     if property == font_size_property then pixels sizes.element
     else value_at row value (font_size_of parents) (font_weight_of parents) sizes (ending custom property ds)
 
 -- the values of the properties from this one on, each by its row and the parent's value
-abbrev pub values_from : (ℕ → Row → Value → Value) → ℕ → List Row → List Value → List Value
+abbrev pub values_from : (ℕ → PropertyRow → Value → Value) → ℕ → List PropertyRow → List Value → List Value
 values_from value_by property [] parents = []
 values_from value_by property (row ∷ rows) [] = []
 values_from value_by property (row ∷ rows) (value ∷ parents) =

@@ -9,7 +9,7 @@ use Rattle.custom_model.specs.Value.{CustomValue, unplaced}
 use Rattle.custom_model.specs.Expand.{Lookup, expansion}
 use Rattle.custom_model.specs.Computed.{wide_of}
 use Rattle.value_model.specs.Value.{Value}
-use Rattle.sheet_model.specs.Shorthands.{Subject, value_for}
+use Rattle.sheet_model.specs.Shorthands.{PropertyName, value_for}
 use Rattle.sheet_model.specs.Declared.{Given, wide, exactly, referring, holding}
 use Rattle.cascade_model.specs.Key.{Matched, level_cmp}
 use Rattle.cascade_model.specs.Winner.{greatest_of, declares_longhand, declares_custom}
@@ -36,26 +36,26 @@ value_or_unset None = keyword unset
 
 -- What tokens mean for a property once they are expanded, as the value of it or of a shorthand: a CSS-wide keyword acts
 -- as it, and what is not taken behaves as `unset`.
-abbrev pub expanded_meaning : ℕ → Subject → CustomValue → Option Wide → Meaning Value
-expanded_meaning id subject tokens (Some word) = keyword word
-expanded_meaning id subject tokens None = value_or_unset (value_for subject id (map unplaced tokens))
+abbrev pub expanded_meaning : ℕ → PropertyName → CustomValue → Option Wide → Meaning Value
+expanded_meaning id property_name tokens (Some word) = keyword word
+expanded_meaning id property_name tokens None = value_or_unset (value_for property_name id (map unplaced tokens))
 
-abbrev pub referring_meaning : ℕ → Subject → Option CustomValue → Meaning Value
-referring_meaning id subject None = keyword unset
-referring_meaning id subject (Some tokens) = expanded_meaning id subject tokens (wide_of tokens)
+abbrev pub referring_meaning : ℕ → PropertyName → Option CustomValue → Meaning Value
+referring_meaning id property_name None = keyword unset
+referring_meaning id property_name (Some tokens) = expanded_meaning id property_name tokens (wide_of tokens)
 
 -- what a declaration means for a property of the table, over the values of the custom properties
 abbrev pub meaning_of : Lookup → ℕ → Given → Meaning Value
 meaning_of values id (wide word) = keyword word
 meaning_of values id (exactly given) = value given
-meaning_of values id (referring subject tokens) = referring_meaning id subject (expansion values tokens)
+meaning_of values id (referring property_name tokens) = referring_meaning id property_name (expansion values tokens)
 meaning_of values id (holding tokens) = keyword unset
 
 -- and for a custom property, whose value is expanded later
 abbrev pub custom_meaning : Given → Meaning CustomValue
 custom_meaning (wide word) = keyword word
 custom_meaning (exactly given) = keyword unset
-custom_meaning (referring subject tokens) = keyword unset
+custom_meaning (referring property_name tokens) = keyword unset
 custom_meaning (holding tokens) = value tokens
 
 -- `revert` takes the cascade back to the origins below, of which there is none below the user agent's (section 7.3.4)

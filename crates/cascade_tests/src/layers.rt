@@ -9,14 +9,14 @@ fn named(alloc: Global, text: &str) -> Result<Part, NoMemory> {
     Ok(Part::Named(Atom::of_text(Text::of_str(alloc, text)?)))
 }
 
-// `a.b`
+/// `a.b`
 fn nested(alloc: Global) -> Result<LayerName, NoMemory> {
     let outer = LayerName::none().within(alloc, named(alloc, "a")?)?;
     let inner = outer.within(alloc, named(alloc, "b")?)?;
     inner.share()
 }
 
-// the layers of an author's sheet that declares that one
+/// the layers of an author's sheet that declares that one
 fn layers(alloc: Global) -> Result<Layers, NoMemory> {
     let list = [(Origin::Author, nested(alloc)?)];
     Layers::of(alloc, &list)

@@ -2,7 +2,7 @@
 #![tactic(auto)]
 
 #[cfg(test)]
-mod cascade;
+mod cascading;
 #[cfg(test)]
 mod layers;
 #[cfg(test)]

@@ -17,7 +17,7 @@ fn batch(rt: HostRuntime) -> Result<(), Fail> {
     Ok(())
 }
 
-// a style that has no box, and a negative margin
+/// a style that has no box, and a negative margin
 fn boxless(alloc: Global) -> Result<Style, NoMemory> {
     let mut draft = StyleDraft::inheriting(alloc, &Style::initial(alloc)?)?;
     draft.set(PropId::MarginTop, Value::Pixels(Fixed::clamp(-1_500)));

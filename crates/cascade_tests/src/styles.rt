@@ -6,8 +6,8 @@ use std::test::Fail;
 use style_value::{Style, StyleDraft, StyleTable};
 use stylo_base::NoMemory;
 
-// What is inherited of a style with one value that is, and one that is not. Nothing is adjusted, so
-// the borders keep their initial widths.
+/// What is inherited of a style with one value that is, and one that is not. Nothing is adjusted, so
+/// the borders keep their initial widths.
 fn inherited(alloc: Global) -> Result<Style, NoMemory> {
     let mut draft = StyleDraft::inheriting(alloc, &Style::initial(alloc)?)?;
     draft.set(PropId::Display, Value::Keyword(Keyword::None));
@@ -27,14 +27,14 @@ fn values(rt: HostRuntime) -> Result<(), Fail> {
     Ok(())
 }
 
-// A draft in which this is the value of `display`.
+/// A draft in which this is the value of `display`.
 fn displayed(alloc: Global, display: Keyword) -> Result<StyleDraft, NoMemory> {
     let mut draft = StyleDraft::inheriting(alloc, &Style::initial(alloc)?)?;
     draft.set(PropId::Display, Value::Keyword(display));
     Ok(draft)
 }
 
-// The numbers of a style, of another one, and of the first again.
+/// The numbers of a style, of another one, and of the first again.
 fn numbers(alloc: Global) -> Result<(usize, usize, usize), NoMemory> {
     let mut table = StyleTable::start(alloc)?;
     Ok((

@@ -2,8 +2,8 @@
 use Rattle.std.proofs.Common.{◌≡◌, Bool, true, false, cond, not, ◌&&◌, List, [], ◌∷◌, ◌++◌, Option, Some, None, refl, sym, ap, subst, ◌∙◌, ⊎_elim, append_assoc, append-nil}
 use Rattle.std.proofs.lemmas.Bool.{and_parts, cases_Bool, cond-true, cond-false, false≢true, true≢false}
 use Rattle.base_model.specs.Lists.{is_nil}
-use Rattle.syntax_model.specs.Token.{Token, Kind, close_curly, close_round, close_square}
-use Rattle.syntax_model.specs.Kinds.{is_close_curly}
+use Rattle.syntax_model.specs.Token.{Token, TokenKind, close_curly, close_round, close_square}
+use Rattle.syntax_model.specs.TokenKinds.{is_close_curly}
 use Rattle.syntax_model.specs.Brackets.{Bracket, closed, closed_by, closer, closers, curly, open_after, open_past, opened_by, round, same_bracket, square, with_opened, without_closed}
 use Rattle.syntax_model.specs.Rules.{Head}
 use Rattle.syntax_model.specs.RulesIn.{in_block, pieces_in, with_block}
@@ -26,7 +26,7 @@ without_more bracket pending (Some closed) =
       | false ↦ refl
     ]
 
-without_below : (pending : List Bracket) (kind : Kind) → (is_nil pending && is_close_curly kind) ≡ false → without_closed (pending ++ curly ∷ []) (closed_by kind) ≡ without_closed pending (closed_by kind) ++ curly ∷ []
+without_below : (pending : List Bracket) (kind : TokenKind) → (is_nil pending && is_close_curly kind) ≡ false → without_closed (pending ++ curly ∷ []) (closed_by kind) ≡ without_closed pending (closed_by kind) ++ curly ∷ []
 without_below [] close_curly test = absurd (true≢false test)
 without_below [] close_square test = refl
 without_below [] close_round test = refl
@@ -43,7 +43,7 @@ past_below pending token test =
     ap (with_opened (opened_by token.kind)) (without_below pending token.kind test)
     ∙ with_below (opened_by token.kind) (without_closed pending (closed_by token.kind))
 
-pub is_closer : (kind : Kind) → is_close_curly kind ≡ true → kind ≡ close_curly
+pub is_closer : (kind : TokenKind) → is_close_curly kind ≡ true → kind ≡ close_curly
 is_closer close_curly test = refl
 is_closer kind test = cc
 

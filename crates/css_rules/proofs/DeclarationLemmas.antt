@@ -7,7 +7,7 @@ use Rattle.base_model.specs.Lists.{is_nil}
 use Rattle.base_model.specs.Text.{Characters}
 use Rattle.syntax_model.specs.Token.{Token}
 use Rattle.syntax_model.specs.Brackets.{Bracket, closer, closers, curly, is_shallow, open_after, round, square}
-use Rattle.syntax_model.specs.Kinds.{begins_with, is_at_keyword, is_between, is_colon, is_ident, is_semicolon, is_white, trimmed, without_white}
+use Rattle.syntax_model.specs.TokenKinds.{begins_with, is_at_keyword, is_between, is_colon, is_ident, is_semicolon, is_white, trimmed, without_white}
 use Rattle.syntax_model.specs.Outside.{from_first, up_to}
 use Rattle.syntax_model.specs.Rules.{Declaration}
 use Rattle.syntax_model.specs.RulesIn.{after_at_rule, after_colon, before_important, declaration_in, declarations_in, is_important_word, named_declaration, shallow_alone}

@@ -8,14 +8,14 @@ use Rattle.base_model.specs.Lists.{is_nil}
 use Rattle.base_model.specs.Text.{Characters}
 use Rattle.layer_model.specs.Name.{LayerName, Part, anonymous, part_limit}
 use Rattle.syntax_model.specs.Token.{Token}
-use Rattle.syntax_model.specs.Kinds.{is_open_curly, trimmed}
+use Rattle.syntax_model.specs.TokenKinds.{is_open_curly, trimmed}
 use Rattle.syntax_model.specs.Brackets.{curly, open_past}
 use Rattle.syntax_model.specs.Rules.{Rule, layer, Context, SheetEdition, qualified_head, at_head, at_rule}
 use Rattle.syntax_model.specs.RulesIn.{in_block, pieces_in}
 use Rattle.syntax_model.specs.LayersIn.{block_layer, is_anonymous, layer_within, name_in, part_in, parts_after}
-use Rattle.syntax_model.specs.SheetRules.{Found, found, block_found, block_within, counted, in_layer, is_layer_name}
+use Rattle.syntax_model.specs.SheetRules.{RulesFound, found, block_found, block_within, counted, in_layer, is_layer_name}
 use Rattle.css_rules.specs.Walk.{Walk, between, entered, opened, step, steps}
-use Rattle.css_rules.specs.declared.rule_parser.State.TheVariants.{Prelude, Block, Dropped}
+use Rattle.css_rules.specs.declared.rule_parser.ParserState.TheVariants.{Prelude, Block, Dropped}
 use Rattle.css_rules.specs.declared.rule_parser.Head.{Head}
 use Rattle.css_rules.specs.declared.rule_parser.Head.TheVariants.{Layer, Other}
 use Rattle.css_rules.proofs.BlockLemmas.{Fits, IsBlock, block_of}
@@ -71,7 +71,7 @@ module _ (edition : SheetEdition) (outer : List Context) (context : Context) (to
     abbrev start : Walk
     start = between edition (rules ++ layer inner ∷ []) (counted count prelude) (context ∷ outer) inner
 
-    abbrev inside : Found
+    abbrev inside : RulesFound
     inside = found_in edition levels inner (counted count prelude) (pieces_in false block.body)
 
     abbrev given_rules : List Rule
@@ -101,7 +101,7 @@ module _ (edition : SheetEdition) (outer : List Context) (context : Context) (to
         let pieces = at_rule name prelude (Some block.body) ∷ pieces_in top block.rest in
         moved edition (suc levels) outer context rules count (steps start tokens) (steps rest block.rest) _ pieces leads_to (block.read (at_head name) prelude [])
         (given edition (suc levels) outer context rules given_rules count inside.anonymous (steps rest block.rest) pieces (pieces_in top block.rest)
-        (ap (λ (f : Found). found (f.rules ++ (found_in edition (suc levels) context f.anonymous (pieces_in top block.rest)).rules) (found_in edition (suc levels) context f.anonymous (pieces_in top block.rest)).anonymous) block_gives)
+        (ap (λ (f : RulesFound). found (f.rules ++ (found_in edition (suc levels) context f.anonymous (pieces_in top block.rest)).rules) (found_in edition (suc levels) context f.anonymous (pieces_in top block.rest)).anonymous) block_gives)
         (claims.reads (suc levels) outer context block.rest (omega (arith, lengths)) enough (rules ++ given_rules) inside.anonymous block.fits_after))
 
   -- there is a level for it

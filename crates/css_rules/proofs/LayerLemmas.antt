@@ -5,7 +5,7 @@ use Rattle.std.proofs.Math.Numerals.{one-add}
 use Rattle.std.proofs.lemmas.List.{map-append, nil_from_length}
 use Rattle.base_model.specs.Lists.{every, onto_first, split_by}
 use Rattle.syntax_model.specs.Token.{Token}
-use Rattle.syntax_model.specs.Kinds.{is_comma, trimmed}
+use Rattle.syntax_model.specs.TokenKinds.{is_comma, trimmed}
 use Rattle.syntax_model.specs.Rules.{Context}
 use Rattle.syntax_model.specs.LayersIn.{layer_within, layers_declared, name_in}
 use Rattle.css_rules.specs.Layers.{before_comma, layer_named, layers_named}

@@ -4,14 +4,14 @@ use Rattle.std.proofs.lemmas.Bool.{and_parts, cases_Bool, cond-true, cond-false,
 use Rattle.base_model.specs.Lists.{is_nil}
 use Rattle.base_model.specs.Text.{Characters}
 use Rattle.syntax_model.specs.Token.{Token}
-use Rattle.syntax_model.specs.Kinds.{is_at_keyword, is_close_curly, is_open_curly}
+use Rattle.syntax_model.specs.TokenKinds.{is_at_keyword, is_close_curly, is_open_curly}
 use Rattle.syntax_model.specs.Brackets.{Bracket, curly, open_past}
 use Rattle.syntax_model.specs.Rules.{Rule, Context, SheetEdition, Head, qualified_head, at_head, qualified_rule, at_rule}
 use Rattle.syntax_model.specs.RulesIn.{in_block, in_prelude, is_between_rules, is_last, pieces_in, without_block}
-use Rattle.syntax_model.specs.SheetRules.{Found, found, block_found, block_within, qualified_found}
+use Rattle.syntax_model.specs.SheetRules.{RulesFound, found, block_found, block_within, qualified_found}
 use Rattle.syntax_model.proofs.OutsideLemmas.{nil_from_test}
 use Rattle.css_rules.specs.Walk.{Walk, between, ended_rules, ends_statement, opened, out_to, step, steps}
-use Rattle.css_rules.specs.declared.rule_parser.State.TheVariants.{Between, Prelude, Block, Dropped}
+use Rattle.css_rules.specs.declared.rule_parser.ParserState.TheVariants.{Between, Prelude, Block, Dropped}
 use Rattle.css_rules.proofs.BlockLemmas.{Fits}
 use Rattle.css_rules.proofs.WalkLemmas.{all_kept, between_opens_none, close_is_not_last, found_in, head_of, keyword_opens_none, last_opens_none, none_kept, one_kept, opens_curly, reading, same_last, statement}
 use Rattle.css_rules.proofs.RunLemmas.{Holds, Opens, Reads, ReadsBlock, ReadsDropped, ReadsPrelude, given, in_prelude_of, moved}
@@ -163,9 +163,9 @@ module _ (edition : SheetEdition) (levels : ℕ) (outer : List Context) (context
     dropped_ends test =
         let none : open_past pending token ≡ [] = nil_from_test _ test in
         let stops : step (reading edition rules after outer context Dropped [] [] pending) token ≡ between edition (rules ++ []) after outer context = cond-true _ _ _ test ∙ (ap (λ p. reading edition rules after outer context Between [] [] p) none ∙ ap (λ rs. between edition rs after outer context) (sym (append-nil rules))) in
-        let rest : Found = found_in edition levels context after (pieces_in top tokens) in
+        let rest : RulesFound = found_in edition levels context after (pieces_in top tokens) in
         moved edition levels outer context rules count _ _ _ _ (ap (λ w. steps w tokens) stops) (cond-true _ _ _ test)
-        (given edition levels outer context rules [] count after (steps (between edition (rules ++ []) after outer context) tokens) (at_rule name prelude (Some block) ∷ pieces_in top tokens) (pieces_in top tokens) (ap (λ (f : Found). found (f.rules ++ (found_in edition levels context f.anonymous (pieces_in top tokens)).rules) (found_in edition levels context f.anonymous (pieces_in top tokens)).anonymous) (gives block)) (reads (rules ++ []) after (subst (λ p. Fits top p tokens) none fits.1)))
+        (given edition levels outer context rules [] count after (steps (between edition (rules ++ []) after outer context) tokens) (at_rule name prelude (Some block) ∷ pieces_in top tokens) (pieces_in top tokens) (ap (λ (f : RulesFound). found (f.rules ++ (found_in edition levels context f.anonymous (pieces_in top tokens)).rules) (found_in edition levels context f.anonymous (pieces_in top tokens)).anonymous) (gives block)) (reads (rules ++ []) after (subst (λ p. Fits top p tokens) none fits.1)))
 
     dropped_goes_on : is_nil (open_past pending token) ≡ false → DroppedGoal
     dropped_goes_on test =

@@ -4,13 +4,13 @@ use Rattle.base_model.specs.Lists.{is_nil}
 use Rattle.base_model.specs.Text.{Characters}
 use Rattle.layer_model.specs.Name.{part_limit}
 use Rattle.syntax_model.specs.Token.{Token}
-use Rattle.syntax_model.specs.Kinds.{is_close_curly, is_open_curly}
+use Rattle.syntax_model.specs.TokenKinds.{is_close_curly, is_open_curly}
 use Rattle.syntax_model.specs.Brackets.{Bracket, curly}
 use Rattle.syntax_model.specs.Rules.{Rule, Context, SheetEdition, Piece, Head, qualified_head, at_head}
 use Rattle.syntax_model.specs.RulesIn.{in_block, in_prelude, pieces_in}
-use Rattle.syntax_model.specs.SheetRules.{Found, found, block_found, block_within}
+use Rattle.syntax_model.specs.SheetRules.{RulesFound, found, block_found, block_within}
 use Rattle.css_rules.specs.Walk.{Walk, between, finished, opened, step, steps}
-use Rattle.css_rules.specs.declared.rule_parser.State.TheVariants.{Prelude, Block, Dropped}
+use Rattle.css_rules.specs.declared.rule_parser.ParserState.TheVariants.{Prelude, Block, Dropped}
 use Rattle.css_rules.proofs.BlockLemmas.{Fits}
 use Rattle.css_rules.proofs.WalkLemmas.{all_kept, found_in, head_of, reading}
 
@@ -36,8 +36,8 @@ module _ (edition : SheetEdition) (levels : ℕ) (outer : List Context) (context
   -- after what gives some rules
   pub given : (rules first : List Rule) (count after : ℕ) (walk : Walk) (pieces rest : List Piece) → found_in edition levels context count pieces ≡ found (first ++ (found_in edition levels context after rest).rules) (found_in edition levels context after rest).anonymous → Holds (rules ++ first) after walk rest → Holds rules count walk pieces
   given rules first count after walk pieces rest is holds =
-      let all : Found = found_in edition levels context after rest in
-      subst (λ (f : Found). Ends edition outer walk (rules ++ f.rules) f.anonymous) (sym is)
+      let all : RulesFound = found_in edition levels context after rest in
+      subst (λ (f : RulesFound). Ends edition outer walk (rules ++ f.rules) f.anonymous) (sym is)
       (subst (λ rs. Ends edition outer walk rs all.anonymous) (append_assoc rules first all.rules) holds)
 
   -- between rules

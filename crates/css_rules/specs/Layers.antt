@@ -4,7 +4,7 @@ use Rattle.std.specs.List.{prefix_len}
 use Rattle.base_model.specs.Lists.{split_by, every}
 use Rattle.base_model.specs.Options.{◌>>=◌}
 use Rattle.syntax_model.specs.Token.{Token}
-use Rattle.syntax_model.specs.Kinds.{is_comma, trimmed}
+use Rattle.syntax_model.specs.TokenKinds.{is_comma, trimmed}
 use Rattle.syntax_model.specs.Rules.{Context}
 use Rattle.syntax_model.specs.LayersIn.{name_in, layer_within}
 

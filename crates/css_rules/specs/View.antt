@@ -34,14 +34,14 @@ rule_of (Layer context) = model.layer (context_of context)
 abbrev pub rules_of : List Rule → List model.Rule
 rules_of rules = map rule_of rules
 
-abbrev pub value_of : DeclValue → List Token
-value_of (Lent tokens) = tokens.now
-value_of (Closed tokens) = tokens
+abbrev pub decl_value_of : DeclValue → List Token
+decl_value_of (Lent tokens) = tokens.now
+decl_value_of (Closed tokens) = tokens
 
 abbrev pub declaration_of : RawDecl → model.Declaration
 declaration_of declaration = record {
   name = declaration.name.now;
-  value = value_of declaration.value;
+  value = decl_value_of declaration.value;
   important = declaration.important;
 }
 

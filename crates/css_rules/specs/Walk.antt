@@ -3,15 +3,15 @@ use Rattle.std.specs.Prelude.{ℕ, List, [], ◌∷◌, ◌++◌, map, Bool, fal
 use Rattle.std.specs.Prelude.{Option, Some, None, unwrap_or}
 use Rattle.base_model.specs.Lists.{is_nil}
 use Rattle.base_model.specs.Text.{Characters}
-use Rattle.syntax_model.specs.Token.{Token, Kind}
-use Rattle.syntax_model.specs.Kinds.{is_at_keyword, is_semicolon, is_open_curly, is_close_curly}
+use Rattle.syntax_model.specs.Token.{Token, TokenKind}
+use Rattle.syntax_model.specs.TokenKinds.{is_at_keyword, is_semicolon, is_open_curly, is_close_curly}
 use Rattle.syntax_model.specs.Brackets.{Bracket, open_past}
 use Rattle.syntax_model.specs.Rules.{Rule, layer, Context, SheetEdition}
 use Rattle.syntax_model.specs.RulesIn.{is_between_rules}
 use Rattle.syntax_model.specs.LayersIn.{layers_declared, block_layer}
 use Rattle.syntax_model.specs.SheetRules.{qualified_found, is_layer_name, counted, no_context}
-use Rattle.css_rules.specs.declared.rule_parser.State.{State}
-use Rattle.css_rules.specs.declared.rule_parser.State.TheVariants.{Between, Prelude, Block, Dropped}
+use Rattle.css_rules.specs.declared.rule_parser.ParserState.{ParserState}
+use Rattle.css_rules.specs.declared.rule_parser.ParserState.TheVariants.{Between, Prelude, Block, Dropped}
 use Rattle.css_rules.specs.declared.rule_parser.Head.{Head}
 use Rattle.css_rules.specs.declared.rule_parser.Head.TheVariants.{Qualified, Layer, Other}
 
@@ -24,7 +24,7 @@ pub record Walk : Type 0 where
   pub anonymous : ℕ
   pub outer : List Context
   pub context : Context
-  pub state : State
+  pub state : ParserState
   pub prelude : List Token
   pub block : List Token
   pub pending : List Bracket
@@ -52,7 +52,7 @@ abbrev pub head_named : Characters → Head
 head_named name = if is_layer_name name then Layer else Other
 
 -- an at-rule may end with a semicolon
-abbrev pub ends_statement : Head → Kind → Bool
+abbrev pub ends_statement : Head → TokenKind → Bool
 ends_statement Qualified kind = false
 ends_statement Layer kind = is_semicolon kind
 ends_statement Other kind = is_semicolon kind
@@ -77,7 +77,7 @@ ended head walk = record walk {
 }
 
 -- outside the brackets of a rule a `}` ends the block of a layer
-abbrev pub ends_layer : Walk → Kind → Bool
+abbrev pub ends_layer : Walk → TokenKind → Bool
 ends_layer walk kind = not (is_nil walk.outer) && (is_nil walk.pending && is_close_curly kind)
 
 abbrev pub out_to : List Context → Walk → Walk
@@ -88,7 +88,7 @@ abbrev pub out : Walk → Walk
 out walk = out_to walk.outer walk
 
 -- past a token that is not kept
-abbrev pub past : State → Walk → Token → Walk
+abbrev pub past : ParserState → Walk → Token → Walk
 past state walk token = record walk { state = state; pending = open_past walk.pending token }
 
 abbrev pub keeping : Head → Walk → Token → Walk
@@ -148,7 +148,7 @@ abbrev pub step_in_dropped : Walk → Token → Walk
 step_in_dropped walk token =
     if is_nil (open_past walk.pending token) then past Between walk token else past Dropped walk token
 
-abbrev pub step_at : State → Walk → Token → Walk
+abbrev pub step_at : ParserState → Walk → Token → Walk
 step_at Between = begun
 step_at (Prelude head) = step_in_prelude head
 step_at Block = step_in_block
@@ -163,7 +163,7 @@ steps walk [] = walk
 steps walk (token ∷ tokens) = steps (step walk token) tokens
 
 -- the rules, where the tokens end here
-abbrev pub finished_at : State → Walk → List Rule
+abbrev pub finished_at : ParserState → Walk → List Rule
 finished_at (Prelude head) walk = (ended head walk).rules
 finished_at state walk = walk.rules
 

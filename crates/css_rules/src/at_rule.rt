@@ -9,7 +9,7 @@ use std::alloc::Global;
 use stylo_base::NoMemory;
 
 /// Consumes an at-rule, of which the at-keyword was consumed.
-pub fn skip_at_rule(alloc: Global, left: &mut Cursor) -> Result<(), NoMemory>
+pub(crate) fn skip_at_rule(alloc: Global, left: &mut Cursor) -> Result<(), NoMemory>
     ensures { OnOk result (left.new ≡ after_at_rule [] left.old) }
 {
     let mut brackets = OpenBrackets::new(alloc);
@@ -21,7 +21,7 @@ pub fn skip_at_rule(alloc: Global, left: &mut Cursor) -> Result<(), NoMemory>
     Ok(())
 }
 
-// Goes past a token of an at-rule, and says whether the at-rule ends with it.
+/// Goes past a token of an at-rule, and says whether the at-rule ends with it.
 fn passes_end(brackets: &mut OpenBrackets, token: &Token) -> Result<bool, NoMemory>
     ensures ends { IfOk result (λ ends. ends ≡ ends_at_rule brackets.old token.now) }
     ensures brackets { OnOk result (brackets.new ≡ open_past brackets.old token.now) }

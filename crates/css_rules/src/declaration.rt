@@ -16,7 +16,7 @@ use std::alloc::Global;
 use stylo_base::{NoMemory, Text};
 
 /// The declaration that a piece and the closers of what it leaves open are, if they are one.
-pub fn declaration_in(
+pub(crate) fn declaration_in(
     alloc: Global,
     tokens: &[Token],
     brackets: OpenBrackets,
@@ -40,7 +40,7 @@ pub fn declaration_in(
     }
 }
 
-// The declaration of a name, and of tokens with the closers of what they leave open.
+/// The declaration of a name, and of tokens with the closers of what they leave open.
 fn named_declaration<'a>(
     alloc: Global,
     name: &'a Text,
@@ -62,7 +62,7 @@ fn named_declaration<'a>(
     })
 }
 
-// The declaration of a name, and of tokens that leave nothing open.
+/// The declaration of a name, and of tokens that leave nothing open.
 fn lent<'a>(name: &'a Text, tokens: &'a [Token]) -> RawDecl<'a>
     ensures { declaration_of result ≡ model.named_declaration name.now tokens.now }
 {
@@ -81,7 +81,7 @@ fn lent<'a>(name: &'a Text, tokens: &'a [Token]) -> RawDecl<'a>
     }
 }
 
-// A copy of the tokens.
+/// A copy of the tokens.
 fn copy_all(alloc: Global, tokens: &[Token]) -> Result<Vec<Token>, NoMemory>
     ensures { IfOk result (λ list. list.items ≡ tokens.now) }
 {

@@ -36,7 +36,7 @@ pub fn declaration_list(alloc: Global, tokens: &[Token]) -> Result<Vec<RawDecl>,
     Ok(list)
 }
 
-// Appends the declaration that a piece is, if it is one.
+/// Appends the declaration that a piece is, if it is one.
 fn append_declaration<'a>(
     alloc: Global,
     list: &mut Vec<RawDecl<'a>>,

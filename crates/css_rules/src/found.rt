@@ -14,7 +14,7 @@ use std::alloc::Global;
 use stylo_base::NoMemory;
 
 /// Counts an `@layer` if it has no name.
-pub fn counted(count: u32, prelude: &[Token]) -> Result<u32, NoMemory>
+pub(crate) fn counted(count: u32, prelude: &[Token]) -> Result<u32, NoMemory>
     ensures { IfOk result (λ more. more ≡ counted count prelude.now) }
 {
     if is_anonymous(prelude) {
@@ -25,7 +25,7 @@ pub fn counted(count: u32, prelude: &[Token]) -> Result<u32, NoMemory>
 }
 
 /// Appends the layers that an `@layer` without a block declares.
-pub fn declare(
+pub(crate) fn declare(
     alloc: Global,
     rules: &mut Vec<Rule>,
     context: &Context,
@@ -43,7 +43,7 @@ pub fn declare(
 }
 
 /// Appends the rule of a prelude and a block, if it is kept.
-pub fn append_style(
+pub(crate) fn append_style(
     alloc: Global,
     rules: &mut Vec<Rule>,
     context: &Context,

@@ -7,7 +7,7 @@ use css_tokens::{Token, name_of, without_white_end};
 use stylo_base::eq_ascii_case;
 
 /// The tokens before `!`, whitespace and `important` at the end, if they are there.
-pub fn before_important(tokens: &[Token]) -> Option<&[Token]>
+pub(crate) fn before_important(tokens: &[Token]) -> Option<&[Token]>
     ensures { option_map (λ before. reverse before.now) result ≡ before_important (reverse tokens.now) }
 {
     let (last, rest) = tokens.split_last()?;
@@ -17,7 +17,7 @@ pub fn before_important(tokens: &[Token]) -> Option<&[Token]>
     before_mark(without_white_end(rest))
 }
 
-// The tokens before `!` at the end, if it is there.
+/// The tokens before `!` at the end, if it is there.
 fn before_mark(tokens: &[Token]) -> Option<&[Token]>
     ensures { option_map (λ before. reverse before.now) result ≡ before_mark (reverse tokens.now) }
 {
@@ -25,7 +25,7 @@ fn before_mark(tokens: &[Token]) -> Option<&[Token]>
     if last.is_delim('!') { Some(rest) } else { None }
 }
 
-// Whether it is `important`, ignoring ASCII case.
+/// Whether it is `important`, ignoring ASCII case.
 fn is_important_word(token: &Token) -> bool
     ensures { result ≡ is_important_word token.now }
 {

@@ -17,7 +17,7 @@ use stylo_base::{Atom, NoMemory};
 const PART_LIMIT: usize = 64;
 
 /// The layer that an `@layer` with a block declares; so many anonymous layers come before it in the text.
-pub fn block_layer(
+pub(crate) fn block_layer(
     alloc: Global,
     edition: SheetEdition,
     place: u32,
@@ -40,14 +40,14 @@ pub fn block_layer(
 }
 
 /// Whether an `@layer` has no name.
-pub fn is_anonymous(prelude: &[Token]) -> bool
+pub(crate) fn is_anonymous(prelude: &[Token]) -> bool
     ensures { result ≡ model.is_anonymous prelude.now }
 {
     without_white(prelude).is_empty()
 }
 
 /// The layers that an `@layer` without a block declares.
-pub fn layers_declared(
+pub(crate) fn layers_declared(
     alloc: Global,
     context: &Context,
     prelude: &[Token],
@@ -57,6 +57,7 @@ pub fn layers_declared(
 {
     let mut list = Vec::new(alloc);
     let mut left = prelude;
+    // The proof calls the loop by this label.
     'names: loop {
         let (name, rest) = left.split_at(before_comma(left));
         let Some(layer) = layer_named(alloc, context, trimmed(name))? else {
@@ -70,7 +71,7 @@ pub fn layers_declared(
     }
 }
 
-// How many tokens come before the first comma: all, if there is none.
+/// How many tokens come before the first comma: all, if there is none.
 fn before_comma(tokens: &[Token]) -> usize
     ensures value { result ≡ layers.before_comma tokens.now }
     ensures inside { result ≤ length tokens.now }
@@ -78,7 +79,7 @@ fn before_comma(tokens: &[Token]) -> usize
     tokens.iter().take_while(|token| !token.is_comma()).count()
 }
 
-// The layer of the name that the tokens are, in a context.
+/// The layer of the name that the tokens are, in a context.
 fn layer_named(
     alloc: Global,
     context: &Context,
@@ -108,7 +109,7 @@ fn layer_named(
     Ok(None)
 }
 
-// The layer that is one step into a context, unless its full name has too many parts.
+/// The layer that is one step into a context, unless its full name has too many parts.
 fn layer_within(alloc: Global, context: &Context, part: Part) -> Result<Option<Context>, NoMemory>
     ensures { IfOk result (λ found. option_map context_of found
         ≡ model.layer_within (context_of context.now) (part_of part ∷ [])) }

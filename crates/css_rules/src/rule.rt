@@ -2,7 +2,7 @@
 
 ghost use Rattle.std.specs.Prelude.{◌≡◌, IfOk};
 ghost use Rattle.syntax_model.specs.SheetRules.{no_context};
-ghost use Rattle.css_rules.specs.View.{context_of, value_of};
+ghost use Rattle.css_rules.specs.View.{context_of, decl_value_of};
 
 use css_tokens::{Token, TokenList};
 use layer_order::LayerName;
@@ -78,7 +78,7 @@ pub enum DeclValue<'a> {
 impl DeclValue<'_> {
     /// The tokens.
     pub fn as_slice(&self) -> &[Token]
-        ensures { result.now ≡ value_of self.now }
+        ensures { result.now ≡ decl_value_of self.now }
     {
         match self {
             DeclValue::Lent(tokens) => tokens,

@@ -2,7 +2,7 @@
 
 ghost use Rattle.std.specs.Prelude.{◌≡◌, ◌&&◌, IfOk, OnOk};
 ghost use Rattle.base_model.specs.Lists.{is_nil};
-ghost use Rattle.syntax_model.specs.Kinds.{is_open_curly};
+ghost use Rattle.syntax_model.specs.TokenKinds.{is_open_curly};
 ghost use Rattle.syntax_model.specs.RulesIn.{is_between_rules};
 ghost use Rattle.syntax_model.specs.SheetRules.{is_layer_name};
 ghost use Rattle.css_rules.specs.Parser.{walk_of};
@@ -20,7 +20,7 @@ use stylo_base::{NoMemory, Text, eq_ascii_case};
 
 /// What begins a rule: nothing of its own, `@layer`, or another at-keyword.
 #[derive(Clone, Copy, Debug)]
-pub enum Head {
+pub(crate) enum Head {
     Qualified,
     Layer,
     Other,
@@ -29,7 +29,7 @@ pub enum Head {
 /// Where a parser is: between rules, before the block of one, in the block of a qualified rule, or in a block that is
 /// dropped.
 #[derive(Clone, Copy, Debug)]
-pub enum State {
+pub(crate) enum ParserState {
     Between,
     Prelude(Head),
     Block,
@@ -40,13 +40,13 @@ pub enum State {
 /// first, and what the next rule is in; and what was read of that rule: its prelude and its block, as far as they are
 /// kept, and the brackets that are open.
 #[derive(Drop)]
-pub struct RuleParser {
+pub(crate) struct RuleParser {
     pub edition: SheetEdition,
     pub rules: Vec<Rule>,
     pub anonymous: u32,
     pub outer: VecDeque<Context>,
     pub context: Context,
-    pub state: State,
+    pub state: ParserState,
     pub prelude: Vec<Token>,
     pub block: Vec<Token>,
     pub pending: OpenBrackets,
@@ -63,7 +63,7 @@ impl RuleParser {
             anonymous: 0,
             outer: VecDeque::new(alloc),
             context: Context::none(),
-            state: State::Between,
+            state: ParserState::Between,
             prelude: Vec::new(alloc),
             block: Vec::new(alloc),
             pending: OpenBrackets::new(alloc),
@@ -75,16 +75,16 @@ impl RuleParser {
         ensures { OnOk result (walk_of self.new ≡ walk.step (walk_of self.old) token) }
     {
         match self.state {
-            State::Between => self.begin(token),
-            State::Prelude(head) => self.take_in_prelude(alloc, head, token),
-            State::Block => self.take_in_block(alloc, token),
-            State::Dropped => self.pass_in_dropped(&token),
+            ParserState::Between => self.begin(token),
+            ParserState::Prelude(head) => self.take_in_prelude(alloc, head, token),
+            ParserState::Block => self.take_in_block(alloc, token),
+            ParserState::Dropped => self.pass_in_dropped(&token),
         }
     }
 
-    // Between rules: leaves the block of a layer, skips the token, or begins a rule with it.
+    /// Between rules: leaves the block of a layer, skips the token, or begins a rule with it.
     fn begin(&mut self, token: Token) -> Result<(), NoMemory>
-        requires { self.old.state ≡ State.Between }
+        requires { self.old.state ≡ ParserState.Between }
         ensures { OnOk result (walk_of self.new ≡ walk.begun (walk_of self.old) token) }
     {
         if self.ends_layer(&token) {
@@ -95,20 +95,20 @@ impl RuleParser {
             return Ok(());
         }
         if token.is_at_keyword() {
-            self.state = State::Prelude(head_named(name_of(&token)));
+            self.state = ParserState::Prelude(head_named(name_of(&token)));
             return Ok(());
         }
         if token.is_open_curly() {
-            return self.pass(State::Block, &token);
+            return self.pass(ParserState::Block, &token);
         }
-        self.pass(State::Prelude(Head::Qualified), &token)?;
+        self.pass(ParserState::Prelude(Head::Qualified), &token)?;
         self.prelude.push(token)?;
         Ok(())
     }
 
-    // In the prelude of a rule.
+    /// In the prelude of a rule.
     fn take_in_prelude(&mut self, alloc: Global, head: Head, token: Token) -> Result<(), NoMemory>
-        requires { self.old.state ≡ State.Prelude head }
+        requires { self.old.state ≡ ParserState.Prelude head }
         ensures { OnOk result (walk_of self.new ≡ walk.step_in_prelude head (walk_of self.old) token) }
     {
         if self.ends_statement(head, &token) {
@@ -122,16 +122,16 @@ impl RuleParser {
         if self.opens_block(&token) {
             return self.open(alloc, head, &token);
         }
-        self.pass(State::Prelude(head), &token)?;
+        self.pass(ParserState::Prelude(head), &token)?;
         self.keep(head, token)
     }
 
-    // In the block of a qualified rule.
+    /// In the block of a qualified rule.
     fn take_in_block(&mut self, alloc: Global, token: Token) -> Result<(), NoMemory>
-        requires { self.old.state ≡ State.Block }
+        requires { self.old.state ≡ ParserState.Block }
         ensures { OnOk result (walk_of self.new ≡ walk.step_in_block (walk_of self.old) token) }
     {
-        self.pass(State::Block, &token)?;
+        self.pass(ParserState::Block, &token)?;
         if self.pending.is_empty() {
             return self.end_rule(alloc);
         }
@@ -139,20 +139,20 @@ impl RuleParser {
         Ok(())
     }
 
-    // In a block that is dropped.
+    /// In a block that is dropped.
     fn pass_in_dropped(&mut self, token: &Token) -> Result<(), NoMemory>
-        requires { self.old.state ≡ State.Dropped }
+        requires { self.old.state ≡ ParserState.Dropped }
         ensures { OnOk result (walk_of self.new ≡ walk.step_in_dropped (walk_of self.old) token.now) }
     {
-        self.pass(State::Dropped, token)?;
+        self.pass(ParserState::Dropped, token)?;
         if self.pending.is_empty() {
-            self.state = State::Between;
+            self.state = ParserState::Between;
         }
         Ok(())
     }
 
-    // Goes past a token into a state.
-    fn pass(&mut self, state: State, token: &Token) -> Result<(), NoMemory>
+    /// Goes past a token into a state.
+    fn pass(&mut self, state: ParserState, token: &Token) -> Result<(), NoMemory>
         ensures { OnOk result (walk_of self.new ≡ walk.past state (walk_of self.old) token.now) }
     {
         self.pending.pass(token)?;
@@ -160,7 +160,7 @@ impl RuleParser {
         Ok(())
     }
 
-    // Keeps a token of a prelude, unless nothing of the rule is kept.
+    /// Keeps a token of a prelude, unless nothing of the rule is kept.
     fn keep(&mut self, head: Head, token: Token) -> Result<(), NoMemory>
         ensures { OnOk result (walk_of self.new ≡ walk.keeping head (walk_of self.old) token) }
     {
@@ -171,7 +171,7 @@ impl RuleParser {
         Ok(())
     }
 
-    // Outside brackets a semicolon ends an at-rule without a block.
+    /// Outside brackets a semicolon ends an at-rule without a block.
     fn ends_statement(&self, head: Head, token: &Token) -> bool
         ensures { result ≡ (is_nil self.now.pending && walk.ends_statement head token.now.kind) }
     {
@@ -181,21 +181,21 @@ impl RuleParser {
         }
     }
 
-    // Outside the brackets of a rule a `}` ends the block of a layer.
+    /// Outside the brackets of a rule a `}` ends the block of a layer.
     fn ends_layer(&self, token: &Token) -> bool
         ensures { result ≡ walk.ends_layer (walk_of self.now) token.now.kind }
     {
         !self.outer.is_empty() && self.pending.is_empty() && token.is_close_curly()
     }
 
-    // Outside brackets a curly bracket opens the block.
+    /// Outside brackets a curly bracket opens the block.
     fn opens_block(&self, token: &Token) -> bool
         ensures { result ≡ (is_nil self.now.pending && is_open_curly token.now.kind) }
     {
         self.pending.is_empty() && token.is_open_curly()
     }
 
-    // Goes on after the block of a layer.
+    /// Goes on after the block of a layer.
     fn leave(&mut self)
         ensures { walk_of self.new ≡ walk.out (walk_of self.old) }
     {
@@ -204,18 +204,18 @@ impl RuleParser {
         }
     }
 
-    // Goes into the block of a rule, which the token opens.
+    /// Goes into the block of a rule, which the token opens.
     fn open(&mut self, alloc: Global, head: Head, token: &Token) -> Result<(), NoMemory>
         ensures { OnOk result (walk_of self.new ≡ walk.opened head (walk_of self.old) token.now) }
     {
         match head {
-            Head::Qualified => self.pass(State::Block, token),
+            Head::Qualified => self.pass(ParserState::Block, token),
             Head::Layer => self.open_layer(alloc, token),
-            Head::Other => self.pass(State::Dropped, token),
+            Head::Other => self.pass(ParserState::Dropped, token),
         }
     }
 
-    // Goes into the block of `@layer`.
+    /// Goes into the block of `@layer`.
     fn open_layer(&mut self, alloc: Global, token: &Token) -> Result<(), NoMemory>
         ensures { OnOk result (walk_of self.new ≡ walk.opened Head.Layer (walk_of self.old) token.now) }
     {
@@ -230,40 +230,40 @@ impl RuleParser {
             prelude.as_slice(),
         )? {
             Some(layer) => self.enter(layer),
-            None => self.pass(State::Dropped, token),
+            None => self.pass(ParserState::Dropped, token),
         }
     }
 
-    // Declares a layer, and goes into its block.
+    /// Declares a layer, and goes into its block.
     fn enter(&mut self, layer: Context) -> Result<(), NoMemory>
         ensures { OnOk result (walk_of self.new ≡ walk.inside (context_of layer) (walk_of self.old)) }
     {
         self.rules.push(Rule::Layer(layer.share()?))?;
         let outer = mem::replace(&mut self.context, layer);
         self.outer.push_front(outer)?;
-        self.state = State::Between;
+        self.state = ParserState::Between;
         Ok(())
     }
 
-    // Ends a rule without a block.
+    /// Ends a rule without a block.
     fn end_statement(&mut self, alloc: Global, head: Head) -> Result<(), NoMemory>
         ensures { OnOk result (walk_of self.new ≡ walk.ended head (walk_of self.old)) }
     {
         let prelude = mem::replace(&mut self.prelude, Vec::new(alloc));
-        self.state = State::Between;
+        self.state = ParserState::Between;
         match head {
             Head::Layer => declare(alloc, &mut self.rules, &self.context, prelude.as_slice()),
             Head::Qualified | Head::Other => Ok(()),
         }
     }
 
-    // Ends the rule of the prelude and the block.
+    /// Ends the rule of the prelude and the block.
     fn end_rule(&mut self, alloc: Global) -> Result<(), NoMemory>
         ensures { OnOk result (walk_of self.new ≡ walk.rule_ended (walk_of self.old)) }
     {
         let prelude = mem::replace(&mut self.prelude, Vec::new(alloc));
         let block = mem::replace(&mut self.block, Vec::new(alloc));
-        self.state = State::Between;
+        self.state = ParserState::Between;
         append_style(alloc, &mut self.rules, &self.context, prelude, block)
     }
 
@@ -271,21 +271,21 @@ impl RuleParser {
     pub fn finish(mut self, alloc: Global) -> Result<Vec<Rule>, NoMemory>
         ensures { IfOk result (λ rules. rules_of rules.items ≡ walk.finished (walk_of self)) }
     {
-        if let State::Prelude(head) = self.state {
+        if let ParserState::Prelude(head) = self.state {
             self.end_statement(alloc, head)?;
         }
         Ok(self.rules)
     }
 }
 
-// Whether a token is skipped between rules.
+/// Whether a token is skipped between rules.
 fn is_between_rules(top: bool, token: &Token) -> bool
     ensures { result ≡ is_between_rules top token.now.kind }
 {
     token.is_white() || top && (token.is_cdo() || token.is_cdc())
 }
 
-// What an at-keyword of this name begins.
+/// What an at-keyword of this name begins.
 fn head_named(name: &Text) -> Head
     ensures { result ≡ walk.head_named name.now }
 {
@@ -296,7 +296,7 @@ fn head_named(name: &Text) -> Head
     }
 }
 
-// Whether it is the name of `@layer`.
+/// Whether it is the name of `@layer`.
 fn is_layer_name(name: &Text) -> bool
     ensures { result ≡ is_layer_name name.now }
 {

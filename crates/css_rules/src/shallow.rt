@@ -11,7 +11,7 @@ use stylo_base::NoMemory;
 const NESTING_LIMIT: usize = 64;
 
 /// Whether brackets are nested no deeper than that.
-pub fn is_shallow(alloc: Global, tokens: &[Token]) -> Result<bool, NoMemory>
+pub(crate) fn is_shallow(alloc: Global, tokens: &[Token]) -> Result<bool, NoMemory>
     ensures { IfOk result (λ shallow. shallow ≡ is_shallow tokens.now) }
 {
     let mut brackets = OpenBrackets::new(alloc);

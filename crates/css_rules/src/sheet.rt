@@ -42,7 +42,7 @@ pub fn edition_rules(
     Ok(rules)
 }
 
-// The rules of the tokens.
+/// The rules of the tokens.
 fn parse_rules(
     alloc: Global,
     edition: SheetEdition,
@@ -55,7 +55,7 @@ fn parse_rules(
     Ok(rules)
 }
 
-// What is found token by token.
+/// What is found token by token.
 fn parse_closed(
     alloc: Global,
     edition: SheetEdition,

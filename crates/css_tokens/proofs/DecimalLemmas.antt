@@ -14,7 +14,7 @@ use Rattle.std.proofs.lemmas.Nat.{div_below, le-div, mul-le, pow-add}
 use Rattle.base_model.specs.Text.{Characters}
 use Rattle.base_model.specs.Thousandths.{clamped, half_up}
 use Rattle.syntax_model.specs.Numbers.{all_digits, decimal_number, digits_len, fraction_digits, fraction_len, is_minus, lowered, raised, starts_fraction, thousandths}
-use Rattle.syntax_model.specs.Units.{one_if}
+use Rattle.syntax_model.specs.TextUnits.{one_if}
 use Rattle.syntax_model.specs.Letters.{is_digit}
 use Rattle.css_tokens.specs.Decimal.{IsDigit, far, front_of, is_half, many, size_of}
 

@@ -2,10 +2,10 @@
 use Rattle.std.proofs.Common.{◌≡◌, ◌≤◌, suc, List, [], ◌∷◌, map, length, true, false, None, refl, sym, ap, ◌∙◌, arith}
 use Rattle.std.specs.Prelude.{if◌then◌else◌}
 use Rattle.base_model.specs.Text.{Characters}
-use Rattle.syntax_model.specs.Token.{Token, Kind, close_round, said}
-use Rattle.syntax_model.specs.Kinds as kinds
+use Rattle.syntax_model.specs.Token.{Token, TokenKind, close_round, said}
+use Rattle.syntax_model.specs.TokenKinds as kinds
 use Rattle.custom_model.specs.Parts.{is_name, without_white}
-use Rattle.syntax_model.specs.Kinds.{is_close_round}
+use Rattle.syntax_model.specs.TokenKinds.{is_close_round}
 use Rattle.custom_model.specs.Steps.{alone, begins}
 use Rattle.css_tokens.specs.Opened.{Opened, after_name, anywhere, first_then, in_var, invalid, steps_from}
 use Rattle.css_tokens.proofs.OpenedLemmas.{named_from, named_is, var_from, var_is}
@@ -72,6 +72,6 @@ module _ (tokens left : List Token) (first : Token) (rest : List Token) (e : lef
       pub at_comma : kinds.is_comma end.kind ≡ true → (openers : Opened) → steps_from in_var openers (map said tokens) ≡ first_then (begins first.name) (steps_from anywhere (None ∷ openers) (map said behind))
       at_comma comma openers = ended openers ∙ (chosen _ false (no_close end.kind comma) _ _ ∙ chosen _ true comma _ _)
         where
-          no_close : (kind : Kind) → kinds.is_comma kind ≡ true → is_close_round kind ≡ false
+          no_close : (kind : TokenKind) → kinds.is_comma kind ≡ true → is_close_round kind ≡ false
           no_close close_round h = cc
           no_close kind h = refl

@@ -7,7 +7,7 @@ use Rattle.std.proofs.lemmas.List.{drop_more}
 use Rattle.std.proofs.lemmas.List.Sums.{prefix_len_passes}
 use Rattle.base_model.specs.Text.{Characters}
 use Rattle.syntax_model.specs.Letters.{is_hex_digit}
-use Rattle.syntax_model.specs.Units.{hex_number, hex_value}
+use Rattle.syntax_model.specs.TextUnits.{hex_number, hex_value}
 
 -- so many digits are read, and they have this value
 pub record IsReadUpTo (digits : Characters) (i number : ℕ) : Type 0 where

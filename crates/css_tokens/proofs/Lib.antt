@@ -9,10 +9,10 @@ pub mod MapLemmas
 pub mod OpenedLemmas
 pub mod HeadLemmas
 pub mod NextLemmas
-pub mod SearchLemmas
+pub mod PlaceLemmas
 pub mod OrderLemmas
 pub mod SpacedLemmas
 pub mod NormalLemmas
-pub mod FoundLemmas
+pub mod ValidityLemmas
 pub mod NameLemmas
 pub mod ListLemmas

@@ -9,8 +9,8 @@ use Rattle.std.specs.Option.{is_some}
 use Rattle.std.specs.declared.sync.Arc.{Arc}
 use Rattle.css_tokens.specs.CustomView.{entry_of}
 use Rattle.css_tokens.specs.EntriesView.{values_of, list_of, AreSorted}
-use Rattle.css_tokens.specs.declared.custom_map.Entries.{Entries}
-use Rattle.css_tokens.specs.declared.custom_map.CustomEntry.{CustomEntry}
+use Rattle.css_tokens.specs.declared.custom.map.Entries.{Entries}
+use Rattle.css_tokens.specs.declared.custom.map.CustomEntry.{CustomEntry}
 use Rattle.base_model.specs.Lists.{is_nil}
 use Rattle.base_model.specs.Text.{Characters}
 use Rattle.custom_model.specs.Value.{CustomValue, CustomValues}

@@ -2,9 +2,9 @@
 use Rattle.std.proofs.Common.{◌≡◌, List, [], ◌∷◌, map, length, true, false, ◌&&◌, refl, sym, ap, ◌∙◌, arith}
 use Rattle.std.specs.Prelude.{if◌then◌else◌}
 use Rattle.base_model.specs.Lists.{is_nil}
-use Rattle.syntax_model.specs.Token.{Token, Kind, said}
+use Rattle.syntax_model.specs.Token.{Token, TokenKind, said}
 use Rattle.custom_model.specs.Parts.{is_unfit, is_var}
-use Rattle.syntax_model.specs.Kinds.{is_close_round}
+use Rattle.syntax_model.specs.TokenKinds.{is_close_round}
 use Rattle.custom_model.specs.Steps.{token, ends}
 use Rattle.css_tokens.specs.Opened.{Opened, anywhere, beyond, brackets_in, finished, first_then, in_var, invalid, is_in_fallback, outside, steps_from}
 use Rattle.base_model.proofs.Bools.{chosen}
@@ -14,7 +14,7 @@ unfolding steps_from
 at_end openers [] e = refl
 at_end openers (t ∷ tokens) e = absurd (omega arith)
 
-module _ (openers : Opened) (tokens : List Token) (t : Token) (rest : List Token) (kind : Kind) (e : tokens ≡ t ∷ rest) (same : kind ≡ t.kind) where
+module _ (openers : Opened) (tokens : List Token) (t : Token) (rest : List Token) (kind : TokenKind) (e : tokens ≡ t ∷ rest) (same : kind ≡ t.kind) where
   pub fallback_ends : (is_in_fallback openers && is_close_round kind) ≡ true
       → steps_from anywhere openers (map said tokens) ≡ first_then ends (steps_from anywhere (outside openers) (map said rest))
   unfolding steps_from

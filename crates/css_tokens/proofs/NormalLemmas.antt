@@ -3,9 +3,9 @@ use Rattle.std.proofs.Common.{◌≡◌, ℕ, suc, ◌+◌, ◌<◌, ◌≤◌, 
 use Rattle.std.specs.Prelude.{if◌then◌else◌}
 use Rattle.std.proofs.lemmas.List.{drop_more, drop_all}
 use Rattle.syntax_model.specs.Token.{Said, Token, said}
-use Rattle.syntax_model.specs.Kinds.{is_white}
+use Rattle.syntax_model.specs.TokenKinds.{is_white}
 use Rattle.custom_model.specs.Value.{CustomValue, normal, spaced, white_space}
-use Rattle.css_tokens.specs.Found.{Fits}
+use Rattle.css_tokens.specs.Validity.{Fits}
 
 -- so many tokens, and one more where whitespace is pending
 abbrev room : Bool → ℕ → ℕ

@@ -4,8 +4,8 @@ use Rattle.std.specs.Prelude.{if◌then◌else◌, ◌||◌}
 use Rattle.base_model.specs.Options.{◌>>=◌}
 use Rattle.base_model.specs.Lists.{is_nil}
 use Rattle.base_model.specs.Text.{Characters}
-use Rattle.syntax_model.specs.Token.{Said, Kind}
-use Rattle.syntax_model.specs.Kinds.{is_white, is_comma, is_close_round}
+use Rattle.syntax_model.specs.Token.{Said, TokenKind}
+use Rattle.syntax_model.specs.TokenKinds.{is_white, is_comma, is_close_round}
 use Rattle.syntax_model.specs.Brackets.{Bracket, opened_by, closed_by, same_bracket, with_opened, without_closed}
 use Rattle.custom_model.specs.Value.{CustomValue}
 use Rattle.custom_model.specs.Parts.{Parts, Reading, Reader, after, done, plain, reference, with_fallback, is_name, is_unfit, is_var, named_by, open_beyond, parts, parts_by, parts_within, var_by, without_white}
@@ -46,7 +46,7 @@ opened_is : (pending : List Bracket) (within : Bool) (outer : Opened) (opener : 
 opened_is pending within outer None = refl
 opened_is pending within outer (Some b) = refl
 
-beyond_is : (pending : List Bracket) (within : Bool) (outer : Opened) (kind : Kind)
+beyond_is : (pending : List Bracket) (within : Bool) (outer : Opened) (kind : TokenKind)
     → beyond (all_open pending within outer) kind ≡ all_open (open_beyond pending kind) within outer
 beyond_is pending within outer kind =
     ap (with_bracket (opened_by kind)) (closed_is pending within outer (closed_by kind))

@@ -2,11 +2,11 @@
 use Rattle.std.proofs.Common.{◌≡◌, ℕ, ◌+◌, ◌-◌, ◌<◌, ◌≤◌, ◌++◌, length, drop, sym, ap, ◌∙◌, arith, append_assoc, length-drop}
 use Rattle.std.specs.Prelude.{Option, option_to_list}
 use Rattle.base_model.specs.Text.{Characters}
-use Rattle.syntax_model.specs.Units.{Run, Unit, len_of, said_of}
-use Rattle.syntax_model.proofs.UnitLemmas.{Fits, comment_fits, name_fits, remnant_fits, run_of_more, run_of_none, string_fits, url_fits}
+use Rattle.syntax_model.specs.TextUnits.{Run, TextUnit, len_of, said_of}
+use Rattle.syntax_model.proofs.TextUnitLemmas.{Fits, comment_fits, name_fits, remnant_fits, run_of_more, run_of_none, string_fits, url_fits}
 use Rattle.css_tokens.specs.Scanned.{unit_by}
-use Rattle.css_tokens.specs.declared.unit.Grammar.{Grammar}
-use Rattle.css_tokens.specs.declared.unit.Grammar.TheVariants as grammar
+use Rattle.css_tokens.specs.declared.text_unit.Grammar.{Grammar}
+use Rattle.css_tokens.specs.declared.text_unit.Grammar.TheVariants as grammar
 
 -- units of every part of the grammar lie inside the text
 pub grammar_fits : (g : Grammar) → Fits (unit_by g)
@@ -17,11 +17,11 @@ grammar_fits grammar.Remnants = remnant_fits
 grammar_fits grammar.Comment = comment_fits
 
 -- so many characters of a run are read, and the others are left
-pub record IsReadUpTo (unit : Characters → Unit) (text : Characters) (len : ℕ) (rest : Characters) : Type 0 where
+pub record IsReadUpTo (unit : Characters → TextUnit) (text : Characters) (len : ℕ) (rest : Characters) : Type 0 where
   pub value : len + len_of unit rest ≡ len_of unit text
   pub inside : len + length rest ≡ length text
 
-pub read_none : (unit : Characters → Unit) (text : Characters) → IsReadUpTo unit text 0 text
+pub read_none : (unit : Characters → TextUnit) (text : Characters) → IsReadUpTo unit text 0 text
 read_none unit text = record { value = omega arith; inside = omega arith }
 
 pub read_more : (g : Grammar) (text : Characters) (len : ℕ) (rest after : Characters) (taken : ℕ) → IsReadUpTo (unit_by g) text len rest → taken ≡ (unit_by g rest).taken → 0 < taken → after ≡ drop taken rest → IsReadUpTo (unit_by g) text (len + taken) after
@@ -41,7 +41,7 @@ said_more g rest some = ap (λ (r : Run). r.said) (run_of_more (unit_by g) (gram
 
 pub said_on : (g : Grammar) (text rest after old new : Characters) (taken : ℕ) (said : Option ℕ) → old ++ said_of (unit_by g) rest ≡ said_of (unit_by g) text → record { taken = taken; said = said } ≡ unit_by g rest → 0 < taken → after ≡ drop taken rest → new ≡ old ++ option_to_list said → new ++ said_of (unit_by g) after ≡ said_of (unit_by g) text
 said_on g text rest after old new taken said up is some is_after is_new =
-    let taken_is : taken ≡ (unit_by g rest).taken = ap (λ (u : Unit). u.taken) is in
-    let said_is : said ≡ (unit_by g rest).said = ap (λ (u : Unit). u.said) is in
+    let taken_is : taken ≡ (unit_by g rest).taken = ap (λ (u : TextUnit). u.taken) is in
+    let said_is : said ≡ (unit_by g rest).said = ap (λ (u : TextUnit). u.said) is in
     let more : said_of (unit_by g) rest ≡ option_to_list said ++ said_of (unit_by g) after = rw (is_after, said_is, taken_is) (said_more g rest (rw (← taken_is) some)) in
     rw is_new (append_assoc old (option_to_list said) (said_of (unit_by g) after) ∙ (ap (λ cs. old ++ cs) (sym more) ∙ up))

@@ -2,7 +2,7 @@
 use Rattle.std.proofs.Common.{◌≡◌, List, [], ◌∷◌, map, length, true, false, refl, sym, ap, ◌∙◌, arith}
 use Rattle.std.specs.Prelude.{if◌then◌else◌}
 use Rattle.syntax_model.specs.Token.{Token, said}
-use Rattle.syntax_model.specs.Kinds as kinds
+use Rattle.syntax_model.specs.TokenKinds as kinds
 use Rattle.custom_model.specs.Value.{normal, spaced}
 
 pub normal_from : (tokens left : List Token) (t : Token) (rest : List Token) → left ≡ kinds.without_white tokens → left ≡ t ∷ rest → normal (map said tokens) ≡ said t ∷ spaced false (map said rest)

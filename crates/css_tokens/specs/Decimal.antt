@@ -4,7 +4,7 @@ use Rattle.base_model.specs.Ascii.{digit_zero, digit_nine}
 use Rattle.base_model.specs.Text.{Characters}
 use Rattle.base_model.specs.Thousandths.{half_up}
 use Rattle.syntax_model.specs.Numbers.{decimal_number}
-use Rattle.syntax_model.specs.Units.{one_if}
+use Rattle.syntax_model.specs.TextUnits.{one_if}
 
 -- more than any number of thousandths that a value has
 abbrev pub many : ℕ

@@ -9,7 +9,7 @@ use Rattle.std.specs.Ordering.{nat_cmp}
 use Rattle.base_model.specs.Text.{Characters}
 use Rattle.custom_model.specs.Value.{CustomValue, CustomValues}
 use Rattle.css_tokens.specs.CustomView.{entry_of}
-use Rattle.css_tokens.specs.declared.custom_map.Entries.{Entries}
+use Rattle.css_tokens.specs.declared.custom.map.Entries.{Entries}
 
 abbrev pub list_of : {A : Type 0} → Option (Arc Entries A) → List (Characters × CustomValue)
 list_of None = []

@@ -3,7 +3,7 @@ use Rattle.std.specs.Prelude.{◌≡◌, ◌↔◌, IsTrue, map}
 use Rattle.syntax_model.specs.Token.{said}
 use Rattle.custom_model.specs.Value.{unplaced}
 use Rattle.custom_model.specs.Expand.{IsPlain}
-use Rattle.css_tokens.specs.declared.custom_value.KeptTokens.{KeptTokens}
+use Rattle.css_tokens.specs.declared.custom.value.KeptTokens.{KeptTokens}
 
 -- no token has a span, and the value is plain exactly where it expands to itself, whatever other ones are
 pub record IsKept (kept : KeptTokens) : Type 0 where

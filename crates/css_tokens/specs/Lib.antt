@@ -4,9 +4,10 @@ pub mod Scanned
 pub mod Taken
 pub mod View
 pub mod KeptTokens
-pub mod Found
+pub mod Validity
 pub mod CustomView
 pub mod EntriesView
 pub mod Steps
 pub mod Opened
 pub mod OpenView
+pub mod Place

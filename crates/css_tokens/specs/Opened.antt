@@ -1,9 +1,10 @@
 -- The steps that are left of a value, by what is open.
-use Rattle.std.specs.Prelude.{List, [], ◌∷◌, Bool, true, false, ◌&&◌, if◌then◌else◌, Option, Some, None, option_map}
+use Rattle.std.specs.Prelude.{◌≡◌, List, [], ◌∷◌, map, Bool, true, false, ◌&&◌, if◌then◌else◌}
+use Rattle.std.specs.Prelude.{Option, Some, None, option_map}
 use Rattle.base_model.specs.Lists.{is_nil}
 use Rattle.base_model.specs.Text.{Characters}
-use Rattle.syntax_model.specs.Token.{Said, Kind}
-use Rattle.syntax_model.specs.Kinds.{is_white, is_comma, is_close_round}
+use Rattle.syntax_model.specs.Token.{Said, TokenKind}
+use Rattle.syntax_model.specs.TokenKinds.{is_white, is_comma, is_close_round}
 use Rattle.syntax_model.specs.Brackets.{Bracket, opened_by, closed_by, same_bracket}
 use Rattle.custom_model.specs.Parts.{is_name, is_unfit, is_var}
 use Rattle.custom_model.specs.Steps.{Step, token, alone, begins, ends}
@@ -24,6 +25,10 @@ brackets_in [] = []
 brackets_in (None ∷ openers) = []
 brackets_in (Some bracket ∷ openers) = bracket ∷ brackets_in openers
 
+-- no fallback is open, but brackets alone
+abbrev pub AreBrackets : Opened → Type 0
+AreBrackets openers = openers ≡ map Some (brackets_in openers)
+
 abbrev pub with_bracket : Option Bracket → Opened → Opened
 with_bracket None openers = openers
 with_bracket (Some bracket) openers = Some bracket ∷ openers
@@ -36,7 +41,7 @@ without_bracket (Some innermost ∷ openers) (Some bracket) =
     if same_bracket innermost bracket then openers else Some innermost ∷ openers
 
 -- what is open after a token that stands for itself
-abbrev pub beyond : Opened → Kind → Opened
+abbrev pub beyond : Opened → TokenKind → Opened
 beyond openers kind = with_bracket (opened_by kind) (without_bracket openers (closed_by kind))
 
 -- without the fallback that ends

@@ -2,40 +2,40 @@
 use Rattle.std.specs.Prelude.{ℕ, List, [], ◌∷◌, if◌then◌else◌}
 use Rattle.base_model.specs.Text.{Characters}
 use Rattle.syntax_model.specs.Token as model
-use Rattle.syntax_model.specs.Units as units
+use Rattle.syntax_model.specs.TextUnits as units
 use Rattle.syntax_model.specs.Pieces as pieces
 use Rattle.css_tokens.specs.View.{kind_of}
 use Rattle.css_tokens.specs.declared.scan.Scan.{Scan}
-use Rattle.css_tokens.specs.declared.unit.Unit.{Unit}
-use Rattle.css_tokens.specs.declared.unit.Grammar.{Grammar}
-use Rattle.css_tokens.specs.declared.unit.Grammar.TheVariants as grammar
-use Rattle.css_tokens.specs.declared.row.Row.{Row}
-use Rattle.css_tokens.specs.declared.row.Row.TheVariants as row
+use Rattle.css_tokens.specs.declared.text_unit.TextUnit.{TextUnit}
+use Rattle.css_tokens.specs.declared.text_unit.Grammar.{Grammar}
+use Rattle.css_tokens.specs.declared.text_unit.Grammar.TheVariants as grammar
+use Rattle.css_tokens.specs.declared.production.Production.{Production}
+use Rattle.css_tokens.specs.declared.production.Production.TheVariants as production
 
--- the unit that a `Unit` is
-abbrev pub unit_of : Unit → units.Unit
+-- the unit that a `TextUnit` is
+abbrev pub unit_of : TextUnit → units.TextUnit
 unit_of unit = record { taken = unit.taken; said = unit.said }
 
 -- the units of which a part of the grammar is made
-abbrev pub unit_by : Grammar → Characters → units.Unit
+abbrev pub unit_by : Grammar → Characters → units.TextUnit
 unit_by grammar.Name = units.name_unit
 unit_by (grammar.String quote) = units.string_unit quote
 unit_by grammar.Url = units.url_unit
 unit_by grammar.Remnants = units.remnant_unit
 unit_by grammar.Comment = units.comment_unit
 
--- the row that a `Row` is
-abbrev pub row_of : Row → pieces.Row
-row_of row.Comment = pieces.comment_row
-row_of row.White = pieces.white_row
-row_of row.String = pieces.string_row
-row_of row.Hash = pieces.hash_row
-row_of row.Number = pieces.number_row
-row_of row.Cdc = pieces.cdc_row
-row_of row.Cdo = pieces.cdo_row
-row_of row.At = pieces.at_row
-row_of row.Ident = pieces.ident_row
-row_of row.Mark = pieces.mark_row
+-- the production that a `Production` is
+abbrev pub production_of : Production → pieces.Production
+production_of production.Comment = pieces.comment_production
+production_of production.White = pieces.white_production
+production_of production.String = pieces.string_production
+production_of production.Hash = pieces.hash_production
+production_of production.Number = pieces.number_production
+production_of production.Cdc = pieces.cdc_production
+production_of production.Cdo = pieces.cdo_production
+production_of production.At = pieces.at_keyword_production
+production_of production.Ident = pieces.ident_production
+production_of production.Mark = pieces.mark_production
 
 -- the piece that was found
 abbrev pub piece_of : Scan → pieces.Piece
@@ -49,11 +49,11 @@ piece_of scan = record {
 -- how many characters the first piece of a text has, and the tokens that it is
 abbrev pub first_len : Characters → ℕ
 first_len [] = 0
-first_len (c ∷ cs) = pieces.row_len (pieces.row_at (c ∷ cs)) c cs
+first_len (c ∷ cs) = pieces.production_len (pieces.production_at (c ∷ cs)) c cs
 
 abbrev pub first_tokens : ℕ → Characters → List model.Token
 first_tokens start [] = []
-first_tokens start (c ∷ cs) = pieces.row_tokens (pieces.row_at (c ∷ cs)) start c cs
+first_tokens start (c ∷ cs) = pieces.production_tokens (pieces.production_at (c ∷ cs)) start c cs
 
 -- the same of what was found
 abbrev pub found_tokens : ℕ → Scan → List model.Token

@@ -2,10 +2,10 @@
 use Rattle.std.specs.Prelude.{◌≡◌, ℕ, ◌<◌, List, [], ◌∷◌, Option, Some, None, if◌then◌else◌, map, option_map}
 use Rattle.syntax_model.specs.Token.{said}
 use Rattle.css_tokens.specs.Opened.{Opened, Read, anywhere, first_then, invalid, steps_from}
-use Rattle.css_tokens.specs.declared.parts.VarHead.{VarHead}
+use Rattle.css_tokens.specs.declared.custom.parts.VarHead.{VarHead}
 use Rattle.custom_model.specs.Steps.{Step, token, alone, begins, ends}
-use Rattle.css_tokens.specs.declared.parts.PartStep.{PartStep}
-use Rattle.css_tokens.specs.declared.parts.PartStep.TheVariants as variant
+use Rattle.css_tokens.specs.declared.custom.parts.PartStep.{PartStep}
+use Rattle.css_tokens.specs.declared.custom.parts.PartStep.TheVariants as variant
 
 -- the steps that are left, where the value is valid; those up to where it is bad; and how many of its tokens are left
 pub record Left : Type 0 where

@@ -3,13 +3,15 @@ use Rattle.std.specs.Prelude.{Bool, Option}
 use Rattle.base_model.specs.Text.{Characters}
 use Rattle.syntax_model.specs.Token as model
 use Rattle.syntax_model.specs.Brackets as model_bracket
-use Rattle.css_tokens.specs.declared.kind.Kind.{Kind}
-use Rattle.css_tokens.specs.declared.kind.Kind.TheVariants.{Ident, Function, AtKeyword, Hash, String, BadString}
-use Rattle.css_tokens.specs.declared.kind.Kind.TheVariants.{Url, BadUrl, Delim, Number, Percentage, Dimension}
-use Rattle.css_tokens.specs.declared.kind.Kind.TheVariants.{Whitespace, Cdo, Cdc, Colon, Semicolon, Comma}
-use Rattle.css_tokens.specs.declared.kind.Kind.TheVariants.{OpenSquare, CloseSquare, OpenRound, CloseRound}
-use Rattle.css_tokens.specs.declared.kind.Kind.TheVariants.{OpenCurly, CloseCurly}
-use Rattle.syntax_model.specs.Kinds.{is_comma, is_semicolon}
+use Rattle.css_tokens.specs.declared.token_kind.TokenKind.{TokenKind}
+use Rattle.css_tokens.specs.declared.token_kind.TokenKind.TheVariants.{Ident, Function, AtKeyword, Hash, String}
+use Rattle.css_tokens.specs.declared.token_kind.TokenKind.TheVariants.{BadString}
+use Rattle.css_tokens.specs.declared.token_kind.TokenKind.TheVariants.{Url, BadUrl, Delim, Number, Percentage}
+use Rattle.css_tokens.specs.declared.token_kind.TokenKind.TheVariants.{Dimension}
+use Rattle.css_tokens.specs.declared.token_kind.TokenKind.TheVariants.{Whitespace, Cdo, Cdc, Colon, Semicolon, Comma}
+use Rattle.css_tokens.specs.declared.token_kind.TokenKind.TheVariants.{OpenSquare, CloseSquare, OpenRound, CloseRound}
+use Rattle.css_tokens.specs.declared.token_kind.TokenKind.TheVariants.{OpenCurly, CloseCurly}
+use Rattle.syntax_model.specs.TokenKinds.{is_comma, is_semicolon}
 use Rattle.css_tokens.specs.declared.token.Span.{Span}
 use Rattle.css_tokens.specs.declared.separator.Separator.{Separator}
 use Rattle.css_tokens.specs.declared.separator.Separator.TheVariants as separator
@@ -19,8 +21,8 @@ use Rattle.css_tokens.specs.declared.wide.Wide.TheVariants as wide
 use Rattle.css_tokens.specs.declared.bracket.Bracket.{Bracket}
 use Rattle.css_tokens.specs.declared.bracket.Bracket.TheVariants.{Square, Round, Curly}
 
--- the kind that a `Kind` is
-abbrev pub kind_of : Kind → model.Kind
+-- the kind that a `TokenKind` is
+abbrev pub kind_of : TokenKind → model.TokenKind
 kind_of Ident = model.ident
 kind_of Function = model.function
 kind_of AtKeyword = model.at_keyword
@@ -53,7 +55,7 @@ bracket_of Round = model_bracket.round
 bracket_of Curly = model_bracket.curly
 
 -- the kinds that a `Separator` is
-abbrev pub separates : Separator → model.Kind → Bool
+abbrev pub separates : Separator → model.TokenKind → Bool
 separates separator.Comma = is_comma
 separates separator.Semicolon = is_semicolon
 
@@ -62,7 +64,7 @@ abbrev pub span_of : Span → model.Span
 span_of span = record { start = span.start; end = span.end }
 
 -- the token of these parts
-abbrev pub token_seen : model.Kind → Characters → Characters → Option model.Span → model.Token
+abbrev pub token_seen : model.TokenKind → Characters → Characters → Option model.Span → model.Token
 token_seen kind name spelling span = record { kind = kind; name = name; spelling = spelling; span = span }
 
 -- the keyword that a `Wide` is

@@ -3,7 +3,7 @@
 ghost use Rattle.std.specs.Prelude.{◌≡◌, ◌≤◌, ◌&&◌, ◌∷◌, [], IfOk, OnOk, MatchOption, true, false, length, drop, take, List};
 ghost use Rattle.base_model.specs.Lists.{is_nil};
 ghost use Rattle.syntax_model.specs.Brackets.{open_after};
-ghost use Rattle.syntax_model.specs.Kinds.{is_colon, is_delim, is_ident, without_white};
+ghost use Rattle.syntax_model.specs.TokenKinds.{is_colon, is_delim, is_ident, without_white};
 ghost use Rattle.syntax_model.specs.Outside.{from_first, length_before, up_to};
 ghost use Rattle.syntax_model.specs.Token as model;
 ghost use Rattle.css_tokens.specs.Taken.{IsKept, IsNameTaken, IsTaken};
@@ -139,14 +139,14 @@ impl<'a> Cursor<'a> {
     }
 }
 
-// How many tokens come before a separator, and the brackets that they leave open.
+/// How many tokens come before a separator, and the brackets that they leave open.
 #[derive(Drop)]
 struct Length {
     len: usize,
     brackets: OpenBrackets,
 }
 
-// The tokens before the first separator outside brackets.
+/// The tokens before the first separator outside brackets.
 fn length_before(alloc: Global, tokens: &[Token], separator: Separator) -> Result<Length, NoMemory>
     ensures len { IfOk result (λ found.
         found.len ≡ length_before (separates separator) [] tokens.now) }
@@ -166,7 +166,7 @@ fn length_before(alloc: Global, tokens: &[Token], separator: Separator) -> Resul
     })
 }
 
-// Outside brackets a separator ends a part.
+/// Outside brackets a separator ends a part.
 fn ends(brackets: &OpenBrackets, token: &Token, separator: Separator) -> bool
     ensures { result ≡ (is_nil brackets.now && separates separator token.now.kind) }
 {

@@ -3,14 +3,14 @@
 ghost use Rattle.std.specs.Prelude.{◌≡◌, ◌≤◌, length, take, true};
 ghost use Rattle.std.specs.List.{prefix_len};
 ghost use Rattle.syntax_model.specs.Letters as letters;
-ghost use Rattle.syntax_model.specs.Units as model;
+ghost use Rattle.syntax_model.specs.TextUnits as model;
 ghost use Rattle.css_tokens.specs.Scanned.{unit_of};
 
 use crate::letters::{is_blank, is_hex_digit};
-use crate::unit::Unit;
+use crate::text_unit::TextUnit;
 
 /// Whether a valid escape starts here.
-pub fn starts_escape(text: &[char]) -> bool
+pub(crate) fn starts_escape(text: &[char]) -> bool
     ensures { result ≡ model.starts_escape text.now }
 {
     match text {
@@ -21,21 +21,24 @@ pub fn starts_escape(text: &[char]) -> bool
 }
 
 /// An escape, by what follows its `\`.
-pub fn escape(text: &[char]) -> Unit
+pub(crate) fn escape(text: &[char]) -> TextUnit
     ensures { unit_of result ≡ model.escape text.now }
 {
     let Some(first) = text.first() else {
-        return Unit::saying(1, char::REPLACEMENT_CHARACTER);
+        return TextUnit::saying(1, char::REPLACEMENT_CHARACTER);
     };
     let digits = hex_len(text);
     if digits == 0 {
-        return Unit::saying(2, *first);
+        return TextUnit::saying(2, *first);
     }
     let (code, rest) = text.split_at(digits);
-    Unit::saying(1 + digits + blank_len(rest), character_of(hex_number(code)))
+    TextUnit::saying(
+        1 + digits + one_blank_len(rest),
+        character_of(hex_number(code)),
+    )
 }
 
-// How many hexadecimal digits the text begins with, six at most.
+/// How many hexadecimal digits the text begins with, six at most.
 fn hex_len(text: &[char]) -> usize
     ensures value { result ≡ model.hex_len text.now }
     ensures inside { result ≤ length text.now }
@@ -46,7 +49,7 @@ fn hex_len(text: &[char]) -> usize
     digits_of(first)
 }
 
-// How many hexadecimal digits the text begins with.
+/// How many hexadecimal digits the text begins with.
 fn digits_of(text: &[char]) -> usize
     ensures value { result ≡ prefix_len letters.is_hex_digit text.now }
     ensures inside { result ≤ length text.now }
@@ -54,8 +57,8 @@ fn digits_of(text: &[char]) -> usize
     text.iter().take_while(|c| is_hex_digit(**c)).count()
 }
 
-// One, where whitespace is next.
-fn blank_len(text: &[char]) -> usize
+/// One, where whitespace is next.
+fn one_blank_len(text: &[char]) -> usize
     ensures { result ≡ model.one_if letters.is_blank text.now }
 {
     match text {
@@ -64,7 +67,7 @@ fn blank_len(text: &[char]) -> usize
     }
 }
 
-// The number that at most six hexadecimal digits are.
+/// The number that at most six hexadecimal digits are.
 fn hex_number(digits: &[char]) -> u32
     requires few { length digits.now ≤ 6 }
     requires all { prefix_len letters.is_hex_digit digits.now ≡ length digits.now }
@@ -77,7 +80,7 @@ fn hex_number(digits: &[char]) -> u32
     number
 }
 
-// The value of a hexadecimal digit.
+/// The value of a hexadecimal digit.
 fn hex_value(digit: char) -> u32
     ensures value { result ≡ model.hex_value digit }
     ensures small { letters.is_hex_digit digit ≡ true → result ≤ 15 }
@@ -90,7 +93,7 @@ fn hex_value(digit: char) -> u32
     }
 }
 
-// The character of a number: U+FFFD for 0, a surrogate, and what is past U+10FFFF.
+/// The character of a number: U+FFFD for 0, a surrogate, and what is past U+10FFFF.
 fn character_of(number: u32) -> char
     ensures { result ≡ model.character_of number }
 {

@@ -24,7 +24,7 @@ pub fn preprocess(alloc: Global, text: &str) -> Result<String, NoMemory>
     Ok(out)
 }
 
-// Appends what a character gives to the text.
+/// Appends what a character gives to the text.
 fn push_given(out: &mut String, is_after_cr: bool, c: char) -> Result<(), AllocError>
     ensures { OnOk result
         (chars (string_bytes out.new) ≡ chars (string_bytes out.old) ++ given_by is_after_cr c) }
@@ -35,7 +35,7 @@ fn push_given(out: &mut String, is_after_cr: bool, c: char) -> Result<(), AllocE
     push_character(out, replaced(c))
 }
 
-// The character that is read for one, unless it goes.
+/// The character that is read for one, unless it goes.
 fn replaced(c: char) -> char
     ensures { result ≡ replaced c }
 {

@@ -5,45 +5,42 @@
 mod bracket;
 pub mod characters;
 mod cursor;
-mod custom_map;
-mod custom_name;
-mod custom_value;
+mod custom;
 mod escape;
 mod input;
-mod kind;
 pub mod laws;
 pub mod letters;
 mod number;
+mod numeric_value;
 mod open_brackets;
-mod open_parts;
-mod parts;
+mod open_stack;
 mod pieces;
-mod row;
+mod production;
 mod run;
 mod scan;
 mod separator;
+mod text_unit;
 mod token;
+mod token_kind;
 mod token_list;
 mod tokenizer;
 mod trim;
-mod unit;
 mod url;
-mod value;
 mod wide;
 
 pub use bracket::Bracket;
 pub use cursor::{Cursor, Part};
-pub use custom_map::{CustomEntry, CustomMap};
-pub use custom_name::CustomName;
-pub use custom_value::{CustomValue, TOKEN_LIMIT};
+pub use custom::{
+    CustomEntry, CustomMap, CustomName, CustomValue, NamedEntry, PartReader, PartStep, TOKEN_LIMIT,
+    is_custom_name, place_by_name,
+};
 pub use input::preprocess;
-pub use kind::Kind;
+pub use numeric_value::value_of;
 pub use open_brackets::OpenBrackets;
-pub use parts::{PartReader, PartStep, is_custom_name};
 pub use separator::Separator;
 pub use token::{Span, Token, name_of, spelling_of};
+pub use token_kind::TokenKind;
 pub use token_list::TokenList;
 pub use tokenizer::tokens;
 pub use trim::{trimmed, without_white, without_white_end};
-pub use value::value_of;
 pub use wide::{Wide, wide_keyword};

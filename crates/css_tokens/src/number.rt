@@ -3,19 +3,19 @@
 ghost use Rattle.std.specs.Prelude.{◌≡◌, ◌≤◌, length};
 ghost use Rattle.syntax_model.specs.Letters as letters;
 ghost use Rattle.syntax_model.specs.Numbers as model;
-ghost use Rattle.syntax_model.specs.Units.{one_if};
+ghost use Rattle.syntax_model.specs.TextUnits.{one_if};
 
 use crate::letters::{is_digit, is_e, is_sign};
 
 /// How many characters a number has, and whether it is an integer.
 #[derive(Clone, Copy, Debug, PartialEq, Eq)]
-pub struct NumberLength {
+pub(crate) struct NumberLength {
     pub len: usize,
     pub is_integer: bool,
 }
 
 /// Whether a number starts here.
-pub fn starts_number(text: &[char]) -> bool
+pub(crate) fn starts_number(text: &[char]) -> bool
     ensures { result ≡ model.starts_number text.now }
 {
     let (_, unsigned) = text.split_at(sign_len(text));
@@ -23,7 +23,7 @@ pub fn starts_number(text: &[char]) -> bool
 }
 
 /// The number that the text begins with.
-pub fn number(text: &[char]) -> NumberLength
+pub(crate) fn number(text: &[char]) -> NumberLength
     ensures len { result.len ≡ model.number_len text.now }
     ensures inside { result.len ≤ length text.now }
     ensures integer { result.is_integer ≡ model.is_integer text.now }
@@ -42,7 +42,7 @@ pub fn number(text: &[char]) -> NumberLength
 }
 
 /// One, where a sign is next.
-pub fn sign_len(text: &[char]) -> usize
+pub(crate) fn sign_len(text: &[char]) -> usize
     ensures value { result ≡ model.sign_len text.now }
     ensures inside { result ≤ length text.now }
 {
@@ -53,13 +53,14 @@ pub fn sign_len(text: &[char]) -> usize
 }
 
 /// How many digits the text begins with.
-pub fn digits_len(text: &[char]) -> usize
+pub(crate) fn digits_len(text: &[char]) -> usize
     ensures value { result ≡ model.digits_len text.now }
     ensures inside { result ≤ length text.now }
 {
     text.iter().take_while(|c| is_digit(**c)).count()
 }
 
+/// Whether a digit is next.
 fn begins_digit(text: &[char]) -> bool
     ensures { result ≡ letters.begins letters.is_digit text.now }
 {
@@ -69,7 +70,7 @@ fn begins_digit(text: &[char]) -> bool
     }
 }
 
-// Whether a point and a digit are next.
+/// Whether a point and a digit are next.
 fn starts_fraction(text: &[char]) -> bool
     ensures { result ≡ model.starts_fraction text.now }
 {
@@ -80,7 +81,7 @@ fn starts_fraction(text: &[char]) -> bool
 }
 
 /// The length of the point and the digits that are next, if they are.
-pub fn fraction_len(text: &[char]) -> usize
+pub(crate) fn fraction_len(text: &[char]) -> usize
     ensures value { result ≡ model.fraction_len text.now }
     ensures inside { result ≤ length text.now }
 {
@@ -91,7 +92,7 @@ pub fn fraction_len(text: &[char]) -> usize
 }
 
 /// The length of the exponent that is next, if one is: `e`, maybe a sign, and digits.
-pub fn exponent_len(text: &[char]) -> usize
+pub(crate) fn exponent_len(text: &[char]) -> usize
     ensures value { result ≡ model.exponent_len text.now }
     ensures inside { result ≤ length text.now }
 {

@@ -1,24 +1,24 @@
-//! The piece that a text begins with, by the rows of the grammar (css-syntax-3, section 4.3).
+//! The piece that a text begins with, by the productions of the grammar (css-syntax-3, section 4.3).
 
 ghost use Rattle.std.specs.Prelude.{◌≡◌, ◌+◌, ◌<◌, ◌≤◌, ◌==◌, ◌^◌, ℕ, length, drop, false};
 ghost use Rattle.std.specs.List.{prefix_len};
 ghost use Rattle.syntax_model.specs.Letters as letters;
 ghost use Rattle.syntax_model.specs.Pieces as model;
-ghost use Rattle.syntax_model.specs.Units.{len_of, said_of};
+ghost use Rattle.syntax_model.specs.TextUnits.{len_of, said_of};
 ghost use Rattle.css_tokens.specs.Scanned.{first_len, first_tokens, found_tokens, piece_of};
 ghost use Rattle.css_tokens.specs.View.{kind_of};
 
-use crate::Kind;
+use crate::TokenKind;
 use crate::letters::is_blank;
 use crate::number::number;
-use crate::row::{Row, row_at, starts_ident};
+use crate::production::{Production, production_at, starts_ident};
 use crate::run::run_len;
 use crate::scan::Scan;
-use crate::unit::Grammar;
+use crate::text_unit::Grammar;
 use crate::url::{is_url, scan_url};
 
 /// The piece that a text begins with.
-pub fn scan(text: &[char]) -> Scan
+pub(crate) fn scan(text: &[char]) -> Scan
     requires { 0 < length text.now }
     ensures tokens { (start : ℕ) → found_tokens start result ≡ first_tokens start text.now }
     ensures len { result.len ≡ first_len text.now }
@@ -28,7 +28,7 @@ pub fn scan(text: &[char]) -> Scan
     scan_first(text)
 }
 
-// The same, by the row that fits.
+/// The same, by the production that fits.
 fn scan_first(text: &[char]) -> Scan
     requires { 0 < length text.now }
     ensures tokens { (start : ℕ) → found_tokens start result ≡ first_tokens start text.now }
@@ -37,26 +37,26 @@ fn scan_first(text: &[char]) -> Scan
     let Some((first, rest)) = text.split_first() else {
         unreachable!()
     };
-    match row_at(*first, rest, text) {
-        Row::Comment => Scan::comment(comment_len(rest)),
-        Row::White => Scan::plain(Kind::Whitespace, blank_len(text)),
-        Row::String => scan_string(*first, rest),
-        Row::Hash => scan_named(
-            Kind::Hash {
+    match production_at(*first, rest, text) {
+        Production::Comment => Scan::comment(comment_len(rest)),
+        Production::White => Scan::plain(TokenKind::Whitespace, blank_len(text)),
+        Production::String => scan_string(*first, rest),
+        Production::Hash => scan_named(
+            TokenKind::Hash {
                 is_id: starts_ident(rest),
             },
             rest,
         ),
-        Row::Number => scan_number(text),
-        Row::Cdc => Scan::plain(Kind::Cdc, 3),
-        Row::Cdo => Scan::plain(Kind::Cdo, 4),
-        Row::At => scan_named(Kind::AtKeyword, rest),
-        Row::Ident => scan_ident(text),
-        Row::Mark => Scan::plain(mark_kind(*first), 1),
+        Production::Number => scan_number(text),
+        Production::Cdc => Scan::plain(TokenKind::Cdc, 3),
+        Production::Cdo => Scan::plain(TokenKind::Cdo, 4),
+        Production::At => scan_named(TokenKind::AtKeyword, rest),
+        Production::Ident => scan_ident(text),
+        Production::Mark => Scan::plain(mark_kind(*first), 1),
     }
 }
 
-// The length of a comment, by what follows its `/`.
+/// The length of a comment, by what follows its `/`.
 fn comment_len(rest: &[char]) -> usize
     requires { 0 < length rest.now }
     ensures { result ≡ 2 + model.comment_len (drop 1 rest.now) }
@@ -68,15 +68,15 @@ fn comment_len(rest: &[char]) -> usize
 }
 
 /// How many whitespace characters the text begins with.
-pub fn blank_len(text: &[char]) -> usize
+pub(crate) fn blank_len(text: &[char]) -> usize
     ensures value { result ≡ prefix_len letters.is_blank text.now }
     ensures inside { result ≤ length text.now }
 {
     text.iter().take_while(|c| is_blank(**c)).count()
 }
 
-// `#` or `@`, and a name.
-fn scan_named(kind: Kind, rest: &[char]) -> Scan
+/// `#` or `@`, and a name.
+fn scan_named(kind: TokenKind, rest: &[char]) -> Scan
     requires fits { 1 + length rest.now < 2 ^ 64 }
     ensures piece { piece_of result
         ≡ model.named (kind_of kind) (model.name_in rest.now) (1 + model.name_len rest.now) }
@@ -85,7 +85,7 @@ fn scan_named(kind: Kind, rest: &[char]) -> Scan
     Scan::named(kind, Grammar::Name, rest, 1 + run_len(Grammar::Name, rest))
 }
 
-// A string, by what follows its first quote.
+/// A string, by what follows its first quote.
 fn scan_string(quote: char, text: &[char]) -> Scan
     requires fits { 2 + length text.now < 2 ^ 64 }
     ensures piece { piece_of result ≡ model.string_piece quote text.now }
@@ -95,15 +95,15 @@ fn scan_string(quote: char, text: &[char]) -> Scan
     let taken = run_len(grammar, text);
     let (_, rest) = text.split_at(taken);
     if next_is(rest, '\n') {
-        Scan::plain(Kind::BadString, 1 + taken)
+        Scan::plain(TokenKind::BadString, 1 + taken)
     } else {
         let len = 1 + taken + usize::from(next_is(rest, quote));
-        Scan::named(Kind::String, grammar, text, len)
+        Scan::named(TokenKind::String, grammar, text, len)
     }
 }
 
 /// Whether this character is next.
-pub fn next_is(text: &[char], c: char) -> bool
+pub(crate) fn next_is(text: &[char], c: char) -> bool
     ensures { result ≡ letters.begins (λ d. d == c) text.now }
 {
     match text {
@@ -112,7 +112,7 @@ pub fn next_is(text: &[char], c: char) -> bool
     }
 }
 
-// A number, a percentage or a dimension.
+/// A number, a percentage or a dimension.
 fn scan_number(text: &[char]) -> Scan
     ensures piece { piece_of result ≡ model.number_piece text.now }
     ensures token { result.is_comment ≡ false }
@@ -121,16 +121,16 @@ fn scan_number(text: &[char]) -> Scan
     let (spelling, rest) = text.split_at(number.len);
     let is_integer = number.is_integer;
     if next_is(rest, '%') {
-        Scan::numeric(Kind::Percentage, spelling, &[], number.len + 1)
+        Scan::numeric(TokenKind::Percentage, spelling, &[], number.len + 1)
     } else if starts_ident(rest) {
         let len = number.len + run_len(Grammar::Name, rest);
-        Scan::numeric(Kind::Dimension { is_integer }, spelling, rest, len)
+        Scan::numeric(TokenKind::Dimension { is_integer }, spelling, rest, len)
     } else {
-        Scan::numeric(Kind::Number { is_integer }, spelling, &[], number.len)
+        Scan::numeric(TokenKind::Number { is_integer }, spelling, &[], number.len)
     }
 }
 
-// An identifier, a function or a url.
+/// An identifier, a function or a url.
 fn scan_ident(text: &[char]) -> Scan
     ensures piece { piece_of result ≡ model.ident_piece text.now }
     ensures token { result.is_comment ≡ false }
@@ -139,25 +139,25 @@ fn scan_ident(text: &[char]) -> Scan
     let (_, after) = text.split_at(taken);
     match after.split_first() {
         Some(('(', rest)) if is_url(text, rest) => scan_url(taken + 1, rest),
-        Some(('(', _)) => Scan::named(Kind::Function, Grammar::Name, text, taken + 1),
-        _ => Scan::named(Kind::Ident, Grammar::Name, text, taken),
+        Some(('(', _)) => Scan::named(TokenKind::Function, Grammar::Name, text, taken + 1),
+        _ => Scan::named(TokenKind::Ident, Grammar::Name, text, taken),
     }
 }
 
-// The kind of a character that is a token alone.
-fn mark_kind(c: char) -> Kind
+/// The kind of a character that is a token alone.
+fn mark_kind(c: char) -> TokenKind
     ensures { kind_of result ≡ model.mark_kind c }
 {
     match c {
-        ',' => Kind::Comma,
-        ':' => Kind::Colon,
-        ';' => Kind::Semicolon,
-        '(' => Kind::OpenRound,
-        ')' => Kind::CloseRound,
-        '[' => Kind::OpenSquare,
-        ']' => Kind::CloseSquare,
-        '{' => Kind::OpenCurly,
-        '}' => Kind::CloseCurly,
-        _ => Kind::Delim(c),
+        ',' => TokenKind::Comma,
+        ':' => TokenKind::Colon,
+        ';' => TokenKind::Semicolon,
+        '(' => TokenKind::OpenRound,
+        ')' => TokenKind::CloseRound,
+        '[' => TokenKind::OpenSquare,
+        ']' => TokenKind::CloseSquare,
+        '{' => TokenKind::OpenCurly,
+        '}' => TokenKind::CloseCurly,
+        _ => TokenKind::Delim(c),
     }
 }

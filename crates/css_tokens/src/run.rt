@@ -3,16 +3,16 @@
 ghost use Rattle.std.specs.Prelude.{◌≡◌, ◌≤◌, ◌++◌, IfOk, OnOk, length, option_to_list};
 ghost use Rattle.std.specs.Str.{chars};
 ghost use Rattle.std.specs.String.{string_bytes};
-ghost use Rattle.syntax_model.specs.Units.{len_of, said_of};
+ghost use Rattle.syntax_model.specs.TextUnits.{len_of, said_of};
 ghost use Rattle.css_tokens.specs.Scanned.{unit_by};
 
 use crate::characters::push_character;
-use crate::unit::{Grammar, Unit};
+use crate::text_unit::{Grammar, TextUnit};
 use std::alloc::{AllocError, Global};
 use stylo_base::{NoMemory, Text};
 
 /// How many characters the run that a text begins with has.
-pub fn run_len(grammar: Grammar, text: &[char]) -> usize
+pub(crate) fn run_len(grammar: Grammar, text: &[char]) -> usize
     ensures value { result ≡ len_of (unit_by grammar) text.now }
     ensures inside { result ≤ length text.now }
 {
@@ -29,13 +29,13 @@ pub fn run_len(grammar: Grammar, text: &[char]) -> usize
 }
 
 /// What the run that a text begins with says, in a text that takes memory once.
-pub fn run_text(alloc: Global, grammar: Grammar, text: &[char]) -> Result<Text, NoMemory>
+pub(crate) fn run_text(alloc: Global, grammar: Grammar, text: &[char]) -> Result<Text, NoMemory>
     ensures { IfOk result (λ said. said ≡ said_of (unit_by grammar) text.now) }
 {
     let mut said = String::with_capacity(alloc, run_size(grammar, text))?;
     let mut rest = text;
     loop {
-        let Unit { taken, said: one } = grammar.unit(rest);
+        let TextUnit { taken, said: one } = grammar.unit(rest);
         if taken == 0 {
             return Ok(Text::of_string(said));
         }
@@ -44,7 +44,7 @@ pub fn run_text(alloc: Global, grammar: Grammar, text: &[char]) -> Result<Text, 
     }
 }
 
-// Appends what a unit says.
+/// Appends what a unit says.
 fn push_said(text: &mut String, said: Option<char>) -> Result<(), AllocError>
     ensures { OnOk result
         (chars (string_bytes text.new) ≡ chars (string_bytes text.old) ++ option_to_list said) }
@@ -55,12 +55,12 @@ fn push_said(text: &mut String, said: Option<char>) -> Result<(), AllocError>
     }
 }
 
-// How many bytes the text has that the run says.
+/// How many bytes the text has that the run says.
 fn run_size(grammar: Grammar, text: &[char]) -> usize {
     let mut rest = text;
     let mut size = 0_usize;
     loop {
-        let Unit { taken, said } = grammar.unit(rest);
+        let TextUnit { taken, said } = grammar.unit(rest);
         if taken == 0 {
             return size;
         }

@@ -3,19 +3,19 @@
 
 ghost use Rattle.std.specs.Prelude.{◌≡◌, true, false};
 ghost use Rattle.syntax_model.specs.Pieces as model;
-ghost use Rattle.syntax_model.specs.Units.{said_of};
+ghost use Rattle.syntax_model.specs.TextUnits.{said_of};
 ghost use Rattle.css_tokens.specs.Scanned.{piece_of, unit_by};
 ghost use Rattle.css_tokens.specs.View.{kind_of};
 
-use crate::Kind;
-use crate::unit::Grammar;
+use crate::TokenKind;
+use crate::text_unit::Grammar;
 
 /// The piece that a text begins with.
 #[derive(Clone, Copy, Debug)]
-pub struct Scan<'a> {
+pub(crate) struct Scan<'a> {
     /// A comment is no token, and of no kind.
     pub is_comment: bool,
-    pub kind: Kind,
+    pub kind: TokenKind,
     /// The run that says the name, and what it is a run of.
     pub name: &'a [char],
     pub grammar: Grammar,
@@ -27,7 +27,7 @@ pub struct Scan<'a> {
 
 impl<'a> Scan<'a> {
     /// A token with neither name nor number.
-    pub fn plain(kind: Kind, len: usize) -> Scan<'a>
+    pub(crate) fn plain(kind: TokenKind, len: usize) -> Scan<'a>
         ensures piece { piece_of result ≡ model.plain (kind_of kind) len }
         ensures token { result.is_comment ≡ false }
     {
@@ -35,7 +35,7 @@ impl<'a> Scan<'a> {
     }
 
     /// A token with a name.
-    pub fn named(kind: Kind, grammar: Grammar, name: &'a [char], len: usize) -> Scan<'a>
+    pub(crate) fn named(kind: TokenKind, grammar: Grammar, name: &'a [char], len: usize) -> Scan<'a>
         ensures piece { piece_of result ≡ model.named (kind_of kind) (said_of (unit_by grammar) name.now) len }
         ensures token { result.is_comment ≡ false }
     {
@@ -50,7 +50,12 @@ impl<'a> Scan<'a> {
     }
 
     /// A token with a number, and maybe a unit.
-    pub fn numeric(kind: Kind, spelling: &'a [char], unit: &'a [char], len: usize) -> Scan<'a>
+    pub(crate) fn numeric(
+        kind: TokenKind,
+        spelling: &'a [char],
+        unit: &'a [char],
+        len: usize,
+    ) -> Scan<'a>
         ensures piece { piece_of result ≡ record {
           kind = kind_of kind;
           name = model.name_in unit.now;
@@ -70,13 +75,13 @@ impl<'a> Scan<'a> {
     }
 
     /// A comment.
-    pub fn comment(len: usize) -> Scan<'a>
+    pub(crate) fn comment(len: usize) -> Scan<'a>
         ensures comment { result.is_comment ≡ true }
         ensures len { result.len ≡ len }
     {
         Scan {
             is_comment: true,
-            kind: Kind::Whitespace,
+            kind: TokenKind::Whitespace,
             name: &[],
             grammar: Grammar::Name,
             spelling: &[],

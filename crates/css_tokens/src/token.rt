@@ -3,7 +3,7 @@
 ghost use Rattle.std.specs.Prelude.{◌≡◌, ◌↔◌, ◌+◌, ◌^◌, ◌<◌, IfOk, IsTrue};
 ghost use Rattle.std.specs.Option.{option_map};
 ghost use Rattle.syntax_model.specs.Brackets.{closer};
-ghost use Rattle.syntax_model.specs.Kinds as kinds;
+ghost use Rattle.syntax_model.specs.TokenKinds as kinds;
 ghost use Rattle.syntax_model.specs.Pieces.{token_of};
 ghost use Rattle.syntax_model.specs.Token.{said};
 ghost use Rattle.custom_model.specs.Value.{unplaced, white_space};
@@ -13,7 +13,7 @@ ghost use Rattle.css_tokens.specs.View.{bracket_of, kind_of, span_of};
 
 use crate::run::run_text;
 use crate::scan::Scan;
-use crate::{Bracket, Kind, Separator};
+use crate::{Bracket, Separator, TokenKind};
 use std::alloc::Global;
 use std::marker::Model;
 use stylo_base::{NoMemory, Text};
@@ -29,7 +29,7 @@ pub struct Span {
 /// spelling of its number, and its span.
 #[derive(Debug, Drop)]
 pub struct Token {
-    kind: Kind,
+    kind: TokenKind,
     name: Text,
     spelling: Vec<char>,
     span: Option<Span>,
@@ -76,7 +76,7 @@ impl Token {
     }
 
     /// The kind.
-    pub fn kind(&self) -> Kind
+    pub fn kind(&self) -> TokenKind
         ensures { kind_of result ≡ self.now.kind }
     {
         self.kind
@@ -93,56 +93,56 @@ impl Token {
     pub fn is_white(&self) -> bool
         ensures { result ≡ kinds.is_white self.now.kind }
     {
-        matches!(self.kind(), Kind::Whitespace)
+        matches!(self.kind(), TokenKind::Whitespace)
     }
 
     /// Whether it is an identifier.
     pub fn is_ident(&self) -> bool
         ensures { result ≡ kinds.is_ident self.now.kind }
     {
-        matches!(self.kind(), Kind::Ident)
+        matches!(self.kind(), TokenKind::Ident)
     }
 
     /// Whether it is a function's name and `(`.
     pub fn is_function(&self) -> bool
         ensures { result ≡ kinds.is_function self.now.kind }
     {
-        matches!(self.kind(), Kind::Function)
+        matches!(self.kind(), TokenKind::Function)
     }
 
     /// Whether it is a hash.
     pub fn is_hash(&self) -> bool
         ensures { result ≡ kinds.is_hash self.now.kind }
     {
-        matches!(self.kind(), Kind::Hash { .. })
+        matches!(self.kind(), TokenKind::Hash { .. })
     }
 
     /// Whether it is a comma.
     pub fn is_comma(&self) -> bool
         ensures { result ≡ kinds.is_comma self.now.kind }
     {
-        matches!(self.kind(), Kind::Comma)
+        matches!(self.kind(), TokenKind::Comma)
     }
 
     /// Whether it is a colon.
     pub fn is_colon(&self) -> bool
         ensures { result ≡ kinds.is_colon self.now.kind }
     {
-        matches!(self.kind(), Kind::Colon)
+        matches!(self.kind(), TokenKind::Colon)
     }
 
     /// Whether it is a semicolon.
     pub fn is_semicolon(&self) -> bool
         ensures { result ≡ kinds.is_semicolon self.now.kind }
     {
-        matches!(self.kind(), Kind::Semicolon)
+        matches!(self.kind(), TokenKind::Semicolon)
     }
 
     /// Whether it is `{`.
     pub fn is_open_curly(&self) -> bool
         ensures { result ≡ kinds.is_open_curly self.now.kind }
     {
-        matches!(self.kind(), Kind::OpenCurly)
+        matches!(self.kind(), TokenKind::OpenCurly)
     }
 
     /// Whether it is skipped between declarations.
@@ -157,7 +157,7 @@ impl Token {
         ensures { result ≡ kinds.is_delim c self.now.kind }
     {
         match self.kind() {
-            Kind::Delim(d) => d == c,
+            TokenKind::Delim(d) => d == c,
             _ => false,
         }
     }
@@ -201,7 +201,7 @@ impl Token {
         ensures { result ≡ unplaced white_space }
     {
         Token {
-            kind: Kind::Whitespace,
+            kind: TokenKind::Whitespace,
             name: Text::new(alloc),
             spelling: Vec::new(alloc),
             span: None,
@@ -219,28 +219,28 @@ impl Token {
     pub fn is_at_keyword(&self) -> bool
         ensures { result ≡ kinds.is_at_keyword self.now.kind }
     {
-        matches!(self.kind(), Kind::AtKeyword)
+        matches!(self.kind(), TokenKind::AtKeyword)
     }
 
     /// Whether it is `<!--`.
     pub fn is_cdo(&self) -> bool
         ensures { result ≡ kinds.is_cdo self.now.kind }
     {
-        matches!(self.kind(), Kind::Cdo)
+        matches!(self.kind(), TokenKind::Cdo)
     }
 
     /// Whether it is `-->`.
     pub fn is_cdc(&self) -> bool
         ensures { result ≡ kinds.is_cdc self.now.kind }
     {
-        matches!(self.kind(), Kind::Cdc)
+        matches!(self.kind(), TokenKind::Cdc)
     }
 
     /// Whether it is `}`.
     pub fn is_close_curly(&self) -> bool
         ensures { result ≡ kinds.is_close_curly self.now.kind }
     {
-        matches!(self.kind(), Kind::CloseCurly)
+        matches!(self.kind(), TokenKind::CloseCurly)
     }
 }
 

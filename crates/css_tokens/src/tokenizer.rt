@@ -22,7 +22,7 @@ pub fn tokens(alloc: Global, text: &str) -> Result<Vec<Token>, NoMemory>
     tokens_of(alloc, characters.as_slice())
 }
 
-// The tokens of the characters.
+/// The tokens of the characters.
 fn tokens_of(alloc: Global, text: &[char]) -> Result<Vec<Token>, NoMemory>
     ensures { IfOk result (λ list. list.items ≡ tokens_in text.now) }
 {
@@ -38,7 +38,7 @@ fn tokens_of(alloc: Global, text: &[char]) -> Result<Vec<Token>, NoMemory>
     Ok(list)
 }
 
-// Appends the token that was found at an offset, unless it is a comment.
+/// Appends the token that was found at an offset, unless it is a comment.
 fn push_token(
     alloc: Global,
     list: &mut Vec<Token>,
@@ -54,7 +54,7 @@ fn push_token(
     Ok(())
 }
 
-// How many tokens the text has.
+/// How many tokens the text has.
 fn count(text: &[char]) -> usize {
     let mut rest = text;
     let mut count = 0_usize;

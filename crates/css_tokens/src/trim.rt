@@ -1,7 +1,7 @@
 //! Whitespace at the ends of token lists.
 
 ghost use Rattle.std.specs.Prelude.{◌≡◌, reverse};
-ghost use Rattle.syntax_model.specs.Kinds.{trimmed, without_white};
+ghost use Rattle.syntax_model.specs.TokenKinds.{trimmed, without_white};
 
 use crate::Token;
 

@@ -3,24 +3,24 @@
 ghost use Rattle.std.specs.Prelude.{◌≡◌, ◌∷◌, MatchOption, ◌+◌, ◌<◌, ◌≤◌, ◌^◌, ◌&&◌, length, drop, false, not, codes};
 ghost use Rattle.base_model.specs.Text.{Characters, is_word};
 ghost use Rattle.syntax_model.specs.Pieces as model;
-ghost use Rattle.syntax_model.specs.Units.{len_of, one_if, remnant_unit};
+ghost use Rattle.syntax_model.specs.TextUnits.{len_of, one_if, remnant_unit};
 ghost use Rattle.css_tokens.specs.Scanned.{piece_of};
 
-use crate::Kind;
+use crate::TokenKind;
 use crate::letters::is_quote;
 use crate::pieces::{blank_len, next_is};
 use crate::run::run_len;
 use crate::scan::Scan;
-use crate::unit::{Grammar, Unit};
+use crate::text_unit::{Grammar, TextUnit};
 
 /// Whether a url starts here: the name is `url`, ignoring ASCII case, and no quote follows the `(`.
-pub fn is_url(text: &[char], rest: &[char]) -> bool
+pub(crate) fn is_url(text: &[char], rest: &[char]) -> bool
     ensures { result ≡ (is_word (codes "url") (model.name_in text.now) && not (model.quote_follows rest.now)) }
 {
     is_named_url(text) && !quote_follows(rest)
 }
 
-// Whether the name that the text begins with is `url`, ignoring ASCII case.
+/// Whether the name that the text begins with is `url`, ignoring ASCII case.
 fn is_named_url(text: &[char]) -> bool
     ensures { result ≡ is_word (codes "url") (model.name_in text.now) }
 {
@@ -36,14 +36,14 @@ fn is_named_url(text: &[char]) -> bool
     Grammar::Name.unit(text).taken == 0
 }
 
-// What follows a letter, ignoring ASCII case, if the name begins with it.
+/// What follows a letter, ignoring ASCII case, if the name begins with it.
 fn after_letter(letter: char, text: &[char]) -> Option<&[char]>
     ensures { MatchOption result
         ((word : Characters) → is_word (letter ∷ word) (model.name_in text.now) ≡ false)
         (λ rest. (word : Characters)
         → is_word (letter ∷ word) (model.name_in text.now) ≡ is_word word (model.name_in rest.now)) }
 {
-    let Unit { taken, said } = Grammar::Name.unit(text);
+    let TextUnit { taken, said } = Grammar::Name.unit(text);
     if said?.to_ascii_lowercase() != letter {
         return None;
     }
@@ -51,7 +51,7 @@ fn after_letter(letter: char, text: &[char]) -> Option<&[char]>
     Some(rest)
 }
 
-// Whether a quote follows, after whitespace.
+/// Whether a quote follows, after whitespace.
 fn quote_follows(text: &[char]) -> bool
     ensures { result ≡ model.quote_follows text.now }
 {
@@ -63,7 +63,7 @@ fn quote_follows(text: &[char]) -> bool
 }
 
 /// A url or a bad url, by how many characters come before what follows the `(`.
-pub fn scan_url(before: usize, text: &[char]) -> Scan
+pub(crate) fn scan_url(before: usize, text: &[char]) -> Scan
     requires fits { before + length text.now < 2 ^ 64 }
     ensures piece { piece_of result ≡ model.url_piece before text.now }
     ensures token { result.is_comment ≡ false }
@@ -77,13 +77,13 @@ pub fn scan_url(before: usize, text: &[char]) -> Scan
     let read = before + blank + taken + white;
     if rest.is_empty() || next_is(rest, ')') {
         let len = read + usize::from(next_is(rest, ')'));
-        Scan::named(Kind::Url, Grammar::Url, body, len)
+        Scan::named(TokenKind::Url, Grammar::Url, body, len)
     } else {
-        Scan::plain(Kind::BadUrl, read + bad_len(rest))
+        Scan::plain(TokenKind::BadUrl, read + bad_len(rest))
     }
 }
 
-// How many characters what is left of a bad url has.
+/// How many characters what is left of a bad url has.
 fn bad_len(text: &[char]) -> usize
     ensures value { let taken = len_of remnant_unit text.now in
         result ≡ taken + one_if model.is_closing (drop taken text.now) }

@@ -4,7 +4,7 @@ use Rattle.std.proofs.lemmas.List.{nil_from_length}
 use Rattle.std.specs.FinMap as finmap
 use Rattle.base_model.specs.Text.{Characters}
 use Rattle.css_tokens.specs.CustomView.{entry_of}
-use Rattle.css_tokens.specs.declared.custom_map.CustomEntry.{CustomEntry}
+use Rattle.css_tokens.specs.declared.custom.map.CustomEntry.{CustomEntry}
 use Rattle.custom_model.specs.Value.{CustomValue, CustomValues}
 use Rattle.custom_model.specs.Printed.{each_after, custom_text, custom_texts, custom_declarations}
 

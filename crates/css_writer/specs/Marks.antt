@@ -1,10 +1,11 @@
 -- The texts of the tokens that have neither name nor number, and are no delims.
 use Rattle.std.specs.Prelude.{[], None}
 use Rattle.base_model.specs.Text.{Characters}
-use Rattle.syntax_model.specs.Token.{Kind, ident, function, at_keyword, hash, string, url, delim, number, percentage, dimension}
+use Rattle.syntax_model.specs.Token.{TokenKind, ident, function, at_keyword, hash, string, url, delim, number}
+use Rattle.syntax_model.specs.Token.{percentage, dimension}
 use Rattle.syntax_model.specs.Written.{token_text}
 
-abbrev pub mark_text : Kind → Characters
+abbrev pub mark_text : TokenKind → Characters
 mark_text ident = []
 mark_text function = []
 mark_text at_keyword = []

@@ -28,7 +28,7 @@ pub fn custom_declarations(alloc: Global, map: &CustomMap) -> Result<Text, NoMem
     Ok(out.into_text())
 }
 
-// Appends a name and its value.
+/// Appends a name and its value.
 fn push_declaration(alloc: Global, out: &mut Output, entry: &CustomEntry) -> Result<(), NoMemory>
     ensures { OnOk result (out.new ≡ out.old ++ model.custom_text (entry_of entry.now)) }
 {

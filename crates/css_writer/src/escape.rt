@@ -7,7 +7,7 @@ use crate::output::Output;
 use stylo_base::NoMemory;
 
 /// Appends the hexadecimal escape of an ASCII character: one or two digits, and a space.
-pub fn push_hex_escape(out: &mut Output, c: char) -> Result<(), NoMemory>
+pub(crate) fn push_hex_escape(out: &mut Output, c: char) -> Result<(), NoMemory>
     requires { c < 128 }
     ensures { OnOk result (out.new ≡ out.old ++ model.hex_escape c) }
 {
@@ -20,7 +20,7 @@ pub fn push_hex_escape(out: &mut Output, c: char) -> Result<(), NoMemory>
     out.push(' ')
 }
 
-// A hexadecimal digit, in lower case.
+/// A hexadecimal digit, in lower case.
 fn hex_digit(digit: u32) -> char
     requires { digit < 16 }
     ensures { result ≡ model.hex_digit digit }
@@ -32,7 +32,7 @@ fn hex_digit(digit: u32) -> char
 }
 
 /// U+0001 to U+001F, or U+007F.
-pub fn is_control(c: char) -> bool
+pub(crate) fn is_control(c: char) -> bool
     ensures { result ≡ model.is_control c }
 {
     matches!(c, '\u{1}'..='\u{1f}' | '\u{7f}')

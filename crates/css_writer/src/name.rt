@@ -9,7 +9,7 @@ use css_tokens::letters::{is_digit, is_e, is_name_char};
 use stylo_base::NoMemory;
 
 /// Appends a name in which no place is the first.
-pub fn push_name(out: &mut Output, name: &[char]) -> Result<(), NoMemory>
+pub(crate) fn push_name(out: &mut Output, name: &[char]) -> Result<(), NoMemory>
     ensures { OnOk result (out.new ≡ out.old ++ model.name_text name.now) }
 {
     for c in name {
@@ -32,7 +32,7 @@ fn push_name_char(out: &mut Output, c: char) -> Result<(), NoMemory>
 }
 
 /// Appends an identifier.
-pub fn push_ident(out: &mut Output, name: &[char]) -> Result<(), NoMemory>
+pub(crate) fn push_ident(out: &mut Output, name: &[char]) -> Result<(), NoMemory>
     ensures { OnOk result (out.new ≡ out.old ++ model.ident_text name.now) }
 {
     let Some((first, rest)) = name.split_first() else {
@@ -52,7 +52,7 @@ pub fn push_ident(out: &mut Output, name: &[char]) -> Result<(), NoMemory>
     }
 }
 
-// Appends what comes after a `-` in the first place.
+/// Appends what comes after a `-` in the first place.
 fn push_after_hyphen(out: &mut Output, name: &[char]) -> Result<(), NoMemory>
     ensures { OnOk result (out.new ≡ out.old ++ model.after_hyphen name.now) }
 {
@@ -66,7 +66,7 @@ fn push_after_hyphen(out: &mut Output, name: &[char]) -> Result<(), NoMemory>
 }
 
 /// Appends the unit of a dimension.
-pub fn push_unit(out: &mut Output, unit: &[char]) -> Result<(), NoMemory>
+pub(crate) fn push_unit(out: &mut Output, unit: &[char]) -> Result<(), NoMemory>
     ensures { OnOk result (out.new ≡ out.old ++ model.unit_text unit.now) }
 {
     match unit.split_first() {
@@ -78,7 +78,7 @@ pub fn push_unit(out: &mut Output, unit: &[char]) -> Result<(), NoMemory>
     }
 }
 
-// Whether a unit would be read as the exponent of the number before it.
+/// Whether a unit would be read as the exponent of the number before it.
 fn looks_like_exponent(first: char, rest: &[char]) -> bool
     ensures { result ≡ model.looks_like_exponent (first ∷ rest.now) }
 {

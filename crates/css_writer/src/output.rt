@@ -11,7 +11,7 @@ use stylo_base::{NoMemory, Text};
 
 /// The text so far.
 #[derive(Drop)]
-pub struct Output {
+pub(crate) struct Output {
     text: String,
 }
 

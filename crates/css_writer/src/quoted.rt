@@ -9,7 +9,7 @@ use css_tokens::letters::is_quote;
 use stylo_base::NoMemory;
 
 /// Appends the text of a string, without its quotes.
-pub fn push_string(out: &mut Output, text: &[char]) -> Result<(), NoMemory>
+pub(crate) fn push_string(out: &mut Output, text: &[char]) -> Result<(), NoMemory>
     ensures { OnOk result (out.new ≡ out.old ++ flat_map model.string_char_text text.now) }
 {
     for c in text {
@@ -32,7 +32,7 @@ fn push_string_char(out: &mut Output, c: char) -> Result<(), NoMemory>
 }
 
 /// Appends the text of a url.
-pub fn push_url(out: &mut Output, text: &[char]) -> Result<(), NoMemory>
+pub(crate) fn push_url(out: &mut Output, text: &[char]) -> Result<(), NoMemory>
     ensures { OnOk result (out.new ≡ out.old ++ flat_map model.url_char_text text.now) }
 {
     for c in text {

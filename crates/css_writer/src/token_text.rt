@@ -11,22 +11,22 @@ use crate::name::{push_ident, push_name, push_unit};
 use crate::output::Output;
 use crate::quoted::{push_string, push_url};
 use css_tokens::characters::characters_of;
-use css_tokens::{Kind, Token, name_of, spelling_of};
+use css_tokens::{Token, TokenKind, name_of, spelling_of};
 use std::alloc::Global;
 use stylo_base::NoMemory;
 
 /// Appends the text of a token.
-pub fn push_token(alloc: Global, out: &mut Output, token: &Token) -> Result<(), NoMemory>
+pub(crate) fn push_token(alloc: Global, out: &mut Output, token: &Token) -> Result<(), NoMemory>
     ensures { OnOk result (out.new ≡ out.old ++ model.token_text token.now) }
 {
     let name = characters_of(alloc, name_of(token).as_str())?;
     push_parts(out, token.kind(), name.as_slice(), spelling_of(token))
 }
 
-// Appends the text of a token of these parts.
+/// Appends the text of a token of these parts.
 fn push_parts(
     out: &mut Output,
-    kind: Kind,
+    kind: TokenKind,
     name: &[char],
     spelling: &[char],
 ) -> Result<(), NoMemory>
@@ -34,28 +34,28 @@ fn push_parts(
         ++ model.token_text (token_seen (kind_of kind) name.now spelling.now None)) }
 {
     match kind {
-        Kind::Ident => push_ident(out, name),
-        Kind::Function => {
+        TokenKind::Ident => push_ident(out, name),
+        TokenKind::Function => {
             push_ident(out, name)?;
             out.push('(')
         }
-        Kind::AtKeyword => {
+        TokenKind::AtKeyword => {
             out.push('@')?;
             push_ident(out, name)
         }
-        Kind::Hash { is_id } => push_hash(out, is_id, name),
-        Kind::String => push_quoted(out, name),
-        Kind::Url => push_url_token(out, name),
-        Kind::Number { .. } => out.push_all(spelling),
-        Kind::Percentage => {
+        TokenKind::Hash { is_id } => push_hash(out, is_id, name),
+        TokenKind::String => push_quoted(out, name),
+        TokenKind::Url => push_url_token(out, name),
+        TokenKind::Number { .. } => out.push_all(spelling),
+        TokenKind::Percentage => {
             out.push_all(spelling)?;
             out.push('%')
         }
-        Kind::Dimension { .. } => {
+        TokenKind::Dimension { .. } => {
             out.push_all(spelling)?;
             push_unit(out, name)
         }
-        Kind::Delim(c) => out.push(c),
+        TokenKind::Delim(c) => out.push(c),
         _ => out.push_all(mark_text(kind)),
     }
 }
@@ -90,25 +90,25 @@ fn push_url_token(out: &mut Output, text: &[char]) -> Result<(), NoMemory>
     out.push(')')
 }
 
-// The text of a token that has neither name nor number, and is no delim.
-fn mark_text(kind: Kind) -> &'static [char]
+/// The text of a token that has neither name nor number, and is no delim.
+fn mark_text(kind: TokenKind) -> &'static [char]
     ensures { result.now ≡ mark_text (kind_of kind) }
 {
     match kind {
-        Kind::BadString => &['"', '\n'],
-        Kind::BadUrl => &['u', 'r', 'l', '(', '(', ')'],
-        Kind::Whitespace => &[' '],
-        Kind::Cdo => &['<', '!', '-', '-'],
-        Kind::Cdc => &['-', '-', '>'],
-        Kind::Colon => &[':'],
-        Kind::Semicolon => &[';'],
-        Kind::Comma => &[','],
-        Kind::OpenSquare => &['['],
-        Kind::CloseSquare => &[']'],
-        Kind::OpenRound => &['('],
-        Kind::CloseRound => &[')'],
-        Kind::OpenCurly => &['{'],
-        Kind::CloseCurly => &['}'],
+        TokenKind::BadString => &['"', '\n'],
+        TokenKind::BadUrl => &['u', 'r', 'l', '(', '(', ')'],
+        TokenKind::Whitespace => &[' '],
+        TokenKind::Cdo => &['<', '!', '-', '-'],
+        TokenKind::Cdc => &['-', '-', '>'],
+        TokenKind::Colon => &[':'],
+        TokenKind::Semicolon => &[';'],
+        TokenKind::Comma => &[','],
+        TokenKind::OpenSquare => &['['],
+        TokenKind::CloseSquare => &[']'],
+        TokenKind::OpenRound => &['('],
+        TokenKind::CloseRound => &[')'],
+        TokenKind::OpenCurly => &['{'],
+        TokenKind::CloseCurly => &['}'],
         _ => &[],
     }
 }

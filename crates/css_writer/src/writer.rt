@@ -6,7 +6,7 @@ ghost use Rattle.syntax_model.specs.Written as model;
 
 use crate::output::Output;
 use crate::token_text::push_token;
-use css_tokens::{Kind, Token};
+use css_tokens::{Token, TokenKind};
 use std::alloc::Global;
 use stylo_base::{NoMemory, Text};
 
@@ -33,8 +33,8 @@ pub(crate) fn push_tokens(alloc: Global, out: &mut Output, tokens: &[Token]) -> 
     Ok(())
 }
 
-// Appends an empty comment after a token of this kind, where the next one needs it.
-fn push_gap(out: &mut Output, kind: Kind, rest: &[Token]) -> Result<(), NoMemory>
+/// Appends an empty comment after a token of this kind, where the next one needs it.
+fn push_gap(out: &mut Output, kind: TokenKind, rest: &[Token]) -> Result<(), NoMemory>
     ensures { OnOk result (out.new ≡ out.old ++ model.gap (kind_of kind) rest.now) }
 {
     match rest.first() {
@@ -45,38 +45,38 @@ fn push_gap(out: &mut Output, kind: Kind, rest: &[Token]) -> Result<(), NoMemory
     }
 }
 
-// Whether nothing after a token of this kind can be taken for a part of it.
-fn ends_itself(kind: Kind) -> bool
+/// Whether nothing after a token of this kind can be taken for a part of it.
+fn ends_itself(kind: TokenKind) -> bool
     ensures { result ≡ model.ends_itself (kind_of kind) }
 {
     !matches!(
         kind,
-        Kind::Ident
-            | Kind::AtKeyword
-            | Kind::Hash { .. }
-            | Kind::Number { .. }
-            | Kind::Dimension { .. }
-            | Kind::Delim(_)
-            | Kind::BadString
-            | Kind::BadUrl
+        TokenKind::Ident
+            | TokenKind::AtKeyword
+            | TokenKind::Hash { .. }
+            | TokenKind::Number { .. }
+            | TokenKind::Dimension { .. }
+            | TokenKind::Delim(_)
+            | TokenKind::BadString
+            | TokenKind::BadUrl
     )
 }
 
-// Whether a token of this kind can be taken for a part of no other before it.
-fn begins_itself(kind: Kind) -> bool
+/// Whether a token of this kind can be taken for a part of no other before it.
+fn begins_itself(kind: TokenKind) -> bool
     ensures { result ≡ model.begins_itself (kind_of kind) }
 {
     matches!(
         kind,
-        Kind::Whitespace
-            | Kind::Comma
-            | Kind::Colon
-            | Kind::Semicolon
-            | Kind::String
-            | Kind::OpenSquare
-            | Kind::CloseSquare
-            | Kind::CloseRound
-            | Kind::OpenCurly
-            | Kind::CloseCurly
+        TokenKind::Whitespace
+            | TokenKind::Comma
+            | TokenKind::Colon
+            | TokenKind::Semicolon
+            | TokenKind::String
+            | TokenKind::OpenSquare
+            | TokenKind::CloseSquare
+            | TokenKind::CloseRound
+            | TokenKind::OpenCurly
+            | TokenKind::CloseCurly
     )
 }

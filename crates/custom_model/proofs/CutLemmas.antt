@@ -8,8 +8,8 @@ use Rattle.std.proofs.lemmas.Bool.{false≢true, and_parts, cond_both, cond-fals
 use Rattle.std.proofs.lemmas.List.{reverse-append, reverse-reverse}
 use Rattle.base_model.specs.Lists.{is_nil}
 use Rattle.base_model.specs.Text.{Characters}
-use Rattle.syntax_model.specs.Token.{Token, Kind, whitespace, semicolon}
-use Rattle.syntax_model.specs.Kinds.{begins_with, is_white, is_semicolon, without_white, trimmed}
+use Rattle.syntax_model.specs.Token.{Token, TokenKind, whitespace, semicolon}
+use Rattle.syntax_model.specs.TokenKinds.{begins_with, is_white, is_semicolon, without_white, trimmed}
 use Rattle.syntax_model.specs.Brackets.{Bracket, square, round, curly, closer, closers, closed, open_after, open_past}
 use Rattle.syntax_model.specs.Outside.{length_before, up_to}
 use Rattle.syntax_model.specs.TokensIn.{tokens_in}
@@ -105,7 +105,7 @@ pub of_text-last : (token : Token) (tokens : List Token) → is_quoted token.kin
 of_text-last token tokens other h =
     of_text_before (reverse tokens) (token ∷ []) (no_quote token other) (subst OfText (reverse-append (token ∷ []) tokens) h)
 
-white_no_quote : (kind : Kind) → is_white kind ≡ true → is_quoted kind ≡ false
+white_no_quote : (kind : TokenKind) → is_white kind ≡ true → is_quoted kind ≡ false
 white_no_quote whitespace h = refl
 white_no_quote kind h = absurd (false≢true h)
 
@@ -126,7 +126,7 @@ of_text-trimmed tokens h =
 pub other_first : (token : Token) (tokens : List Token) → is_white token.kind ≡ false → is_quoted token.kind ≡ false → quote_first (token ∷ tokens) ≡ false
 other_first token tokens white quoted = ap (begins_with is_quoted) (cond-false (is_white token.kind) (without_white tokens) (token ∷ tokens) white) ∙ quoted
 
-semicolon_other : (kind : Kind) → is_semicolon kind ≡ true → (is_white kind ≡ false) × (is_quoted kind ≡ false)
+semicolon_other : (kind : TokenKind) → is_semicolon kind ≡ true → (is_white kind ≡ false) × (is_quoted kind ≡ false)
 semicolon_other semicolon h = (refl, refl)
 semicolon_other kind h = absurd (false≢true h)
 

@@ -8,8 +8,8 @@ use Rattle.std.proofs.lemmas.Option.{none-some, cond_some}
 use Rattle.base_model.specs.Options.{◌>>=◌}
 use Rattle.base_model.specs.Text.{Characters}
 use Rattle.syntax_model.specs.Signs.{exclamation_mark}
-use Rattle.syntax_model.specs.Token.{Token, Kind, ident, delim}
-use Rattle.syntax_model.specs.Kinds.{is_at_keyword, is_between, is_colon, is_delim, is_ident, is_semicolon, without_white, trimmed}
+use Rattle.syntax_model.specs.Token.{Token, TokenKind, ident, delim}
+use Rattle.syntax_model.specs.TokenKinds.{is_at_keyword, is_between, is_colon, is_delim, is_ident, is_semicolon, without_white, trimmed}
 use Rattle.syntax_model.specs.Brackets.{Bracket, closed, is_shallow, open_past}
 use Rattle.syntax_model.specs.Outside.{length_before, up_to, from_first}
 use Rattle.syntax_model.specs.Rules.{Declaration}
@@ -24,11 +24,11 @@ each_of_some P (Some x) h = (h, tt)
 
 -- what is before `!important`
 
-delim_no_quote : (c : ℕ) (kind : Kind) → is_delim c kind ≡ true → is_quoted kind ≡ false
+delim_no_quote : (c : ℕ) (kind : TokenKind) → is_delim c kind ≡ true → is_quoted kind ≡ false
 delim_no_quote c (delim d) h = refl
 delim_no_quote c kind h = absurd (false≢true h)
 
-ident_no_quote : (kind : Kind) → is_ident kind ≡ true → is_quoted kind ≡ false
+ident_no_quote : (kind : TokenKind) → is_ident kind ≡ true → is_quoted kind ≡ false
 ident_no_quote ident h = refl
 ident_no_quote kind h = absurd (false≢true h)
 

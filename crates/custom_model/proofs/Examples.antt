@@ -18,8 +18,8 @@ use Rattle.custom_model.specs.Computed.{computed}
 use Rattle.custom_model.specs.Printed.{value_text}
 
 -- what is kept of a text
-abbrev value_of : Characters → CustomValue
-value_of text = normal (map said (tokens_in (preprocessed text)))
+abbrev custom_value_of : Characters → CustomValue
+custom_value_of text = normal (map said (tokens_in (preprocessed text)))
 
 -- a value, or nothing, as it is shown
 abbrev shown : Option CustomValue → Characters
@@ -30,7 +30,7 @@ abbrev known : List Case
 known = case "--e" "" ∷ case "--b" "x y" ∷ case "--C" "1px" ∷ []
 
 abbrev values : Lookup
-values name = option_map (λ c. value_of c.wanted) (find (λ c. same_text c.text name) known)
+values name = option_map (λ c. custom_value_of c.wanted) (find (λ c. same_text c.text name) known)
 
 abbrev expanded_text : Characters → Characters
 expanded_text text = shown (expansion values (map said (tokens_in (preprocessed text))))
@@ -81,12 +81,12 @@ unfolding expansion parts tokens_in written
 expanded_as_wanted = refl
 
 -- all names that a value refers to, in fallbacks too
-all_names : references_in (value_of (codes "var(--b, var(--c) (var(--d,))) var(--b)")) ≡ codes "--b" ∷ codes "--c" ∷ codes "--d" ∷ codes "--b" ∷ []
+all_names : references_in (custom_value_of (codes "var(--b, var(--c) (var(--d,))) var(--b)")) ≡ codes "--b" ∷ codes "--c" ∷ codes "--d" ∷ codes "--b" ∷ []
 unfolding parts tokens_in
 all_names = refl
 
 abbrev declared : List Case → DeclaredValues
-declared cases = finmap.from_entries (map (λ c. (c.text, Some (value_of c.wanted))) cases)
+declared cases = finmap.from_entries (map (λ c. (c.text, Some (custom_value_of c.wanted))) cases)
 
 abbrev computed_of : List Case → Characters → Characters
 computed_of cases name = shown (computed (declared cases) finmap.empty name)

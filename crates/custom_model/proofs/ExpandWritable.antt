@@ -7,7 +7,7 @@ use Rattle.std.proofs.lemmas.Bool.{false≢true}
 use Rattle.std.proofs.lemmas.Option.{none-some, same_Some, cond_some, option_and_then_some}
 use Rattle.base_model.specs.Options.{◌>>=◌}
 use Rattle.base_model.specs.Text.{Characters}
-use Rattle.syntax_model.specs.Kinds.{is_white}
+use Rattle.syntax_model.specs.TokenKinds.{is_white}
 use Rattle.syntax_model.specs.Wide.{Wide, initial}
 use Rattle.syntax_model.specs.Written.{is_string, is_url_function}
 use Rattle.custom_model.specs.Value.{CustomValue, CustomValues, unplaced, normal}

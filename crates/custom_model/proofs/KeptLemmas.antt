@@ -3,8 +3,8 @@ use Rattle.std.proofs.Common.{◌≡◌, List, [], ◌∷◌, ◌++◌, map, Boo
 use Rattle.std.specs.List.{AllByRecursion}
 use Rattle.std.proofs.lemmas.Bool.{false≢true, and_from, cond_both, cond-true, cond-false, not_from_false}
 use Rattle.base_model.specs.Text.{Characters}
-use Rattle.syntax_model.specs.Token.{Token, Said, said, Kind, function, string, bad_string, whitespace}
-use Rattle.syntax_model.specs.Kinds.{begins_with, is_white, without_white}
+use Rattle.syntax_model.specs.Token.{Token, Said, said, TokenKind, function, string, bad_string, whitespace}
+use Rattle.syntax_model.specs.TokenKinds.{begins_with, is_white, without_white}
 use Rattle.syntax_model.specs.Written.{is_broken, is_sound, is_string, is_url_function, is_writable, url_goes_on, goes_before}
 use Rattle.syntax_model.proofs.WrittenLemmas.{sound_first}
 use Rattle.syntax_model.proofs.UrlStrings.{is_quoted}
@@ -12,12 +12,12 @@ use Rattle.custom_model.specs.Value.{CustomValue, unplaced, white_space, spaced,
 use Rattle.custom_model.proofs.Said.{said_unplaced}
 
 -- whether the first that is no whitespace is of such a kind
-abbrev pub first_is : (Kind → Bool) → CustomValue → Bool
+abbrev pub first_is : (TokenKind → Bool) → CustomValue → Bool
 first_is p [] = false
 first_is p (token ∷ tokens) = if is_white token.kind then first_is p tokens else p token.kind
 
 -- a token of such a kind comes after each function `url`, with whitespace or none between
-abbrev pub UrlsGo : (Kind → Bool) → CustomValue → Type 0
+abbrev pub UrlsGo : (TokenKind → Bool) → CustomValue → Type 0
 UrlsGo p [] = Unit
 UrlsGo p (token ∷ tokens) = (is_url_function (unplaced token) ≡ true → first_is p tokens ≡ true) × UrlsGo p tokens
 
@@ -29,24 +29,24 @@ abbrev pub Kept : CustomValue → Type 0
 Kept tokens = AllByRecursion Sound tokens × UrlsGo is_string tokens
 
 -- as a test of the tokens themselves
-pub begins_first : (p : Kind → Bool) (tokens : List Token) → begins_with p (without_white tokens) ≡ first_is p (map said tokens)
+pub begins_first : (p : TokenKind → Bool) (tokens : List Token) → begins_with p (without_white tokens) ≡ first_is p (map said tokens)
 begins_first p [] = refl
 begins_first p (token ∷ tokens) = by (is_white token.kind) (begins_first p tokens) where
   by : (b : Bool) → begins_with p (without_white tokens) ≡ first_is p (map said tokens) → begins_with p (cond b (without_white tokens) (token ∷ tokens)) ≡ cond b (first_is p (map said tokens)) (p token.kind)
   by true e = e
   by false e = refl
 
-begins_unplaced : (p : Kind → Bool) (tokens : CustomValue) → begins_with p (without_white (map unplaced tokens)) ≡ first_is p tokens
+begins_unplaced : (p : TokenKind → Bool) (tokens : CustomValue) → begins_with p (without_white (map unplaced tokens)) ≡ first_is p tokens
 begins_unplaced p tokens = begins_first p (map unplaced tokens) ∙ ap (first_is p) (said_unplaced tokens)
 
 -- whitespace is no function
-url_no_white : (kind : Kind) (name spelling : Characters) → is_url_function (unplaced (record { kind = kind; name = name; spelling = spelling })) ≡ true → is_white kind ≡ false
+url_no_white : (kind : TokenKind) (name spelling : Characters) → is_url_function (unplaced (record { kind = kind; name = name; spelling = spelling })) ≡ true → is_white kind ≡ false
 url_no_white function name spelling e = refl
 url_no_white kind name spelling e = absurd (false≢true e)
 
 -- joined whitespace leaves the first that is none
 
-first_is-spaced : (p : Kind → Bool) (pending : Bool) (tokens : CustomValue) → first_is p (spaced pending tokens) ≡ first_is p tokens
+first_is-spaced : (p : TokenKind → Bool) (pending : Bool) (tokens : CustomValue) → first_is p (spaced pending tokens) ≡ first_is p tokens
 first_is-spaced p pending [] = refl
 first_is-spaced p pending (token ∷ tokens) = by (is_white token.kind) pending refl (first_is-spaced p true tokens) where
   by : (b pending : Bool) → is_white token.kind ≡ b → first_is p (spaced true tokens) ≡ first_is p tokens → first_is p (cond b (spaced true tokens) (cond pending (white_space ∷ token ∷ spaced false tokens) (token ∷ spaced false tokens))) ≡ cond b (first_is p tokens) (p token.kind)
@@ -105,7 +105,7 @@ kept_normal tokens kept = kept_writable (normal tokens) (writable_normal tokens 
 
 -- one list after another
 
-pub first_is-append : (p : Kind → Bool) (tokens more : CustomValue) → first_is p tokens ≡ true → first_is p (tokens ++ more) ≡ true
+pub first_is-append : (p : TokenKind → Bool) (tokens more : CustomValue) → first_is p tokens ≡ true → first_is p (tokens ++ more) ≡ true
 first_is-append p [] more h = absurd (false≢true h)
 first_is-append p (token ∷ tokens) more h = by (is_white token.kind) (first_is-append p tokens more) h where
   by : (b : Bool) → (first_is p tokens ≡ true → first_is p (tokens ++ more) ≡ true) → cond b (first_is p tokens) (p token.kind) ≡ true → cond b (first_is p (tokens ++ more)) (p token.kind) ≡ true
@@ -131,7 +131,7 @@ Known token = (is_broken token.kind || is_sound (unplaced token)) ≡ true
 abbrev pub AsRead : CustomValue → Type 0
 AsRead tokens = AllByRecursion Known tokens × UrlsGo is_quoted tokens
 
-quoted_fit : (kind : Kind) → is_broken kind ≡ false → is_quoted kind ≡ true → is_string kind ≡ true
+quoted_fit : (kind : TokenKind) → is_broken kind ≡ false → is_quoted kind ≡ true → is_string kind ≡ true
 quoted_fit string fit h = refl
 quoted_fit bad_string fit h = absurd (false≢true (sym fit))
 quoted_fit kind fit h = absurd (false≢true h)
@@ -152,7 +152,7 @@ kept_fit (token ∷ tokens) fit read =
 
 -- joined whitespace leaves what is broken
 
-pub white_fit : (kind : Kind) → is_white kind ≡ true → is_broken kind ≡ false
+pub white_fit : (kind : TokenKind) → is_white kind ≡ true → is_broken kind ≡ false
 white_fit whitespace h = refl
 white_fit kind h = absurd (false≢true h)
 

@@ -2,7 +2,7 @@
 use Rattle.std.proofs.Common.{◌≡◌, List, [], ◌∷◌, Bool, true, false, refl, ap, ◌∙◌}
 use Rattle.std.specs.Prelude.{if◌then◌else◌}
 use Rattle.syntax_model.specs.Token.{Said}
-use Rattle.syntax_model.specs.Kinds.{is_white}
+use Rattle.syntax_model.specs.TokenKinds.{is_white}
 use Rattle.custom_model.specs.Value.{normal, spaced, white_space}
 use Rattle.base_model.proofs.Bools.{chosen}
 

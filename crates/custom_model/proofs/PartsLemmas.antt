@@ -5,8 +5,8 @@ use Rattle.std.proofs.lemmas.Option.{none-some, same_Some}
 use Rattle.base_model.specs.Lists.{is_nil}
 use Rattle.base_model.specs.Options.{◌>>=◌}
 use Rattle.base_model.specs.Text.{Characters}
-use Rattle.syntax_model.specs.Token.{Said, Kind, function, ident, close_round, comma}
-use Rattle.syntax_model.specs.Kinds.{is_white, is_ident, is_comma, is_close_round, is_function}
+use Rattle.syntax_model.specs.Token.{Said, TokenKind, function, ident, close_round, comma}
+use Rattle.syntax_model.specs.TokenKinds.{is_white, is_ident, is_comma, is_close_round, is_function}
 use Rattle.syntax_model.specs.Brackets.{Bracket}
 use Rattle.syntax_model.specs.Written.{is_broken, is_string, is_url_function}
 use Rattle.custom_model.specs.Value.{CustomValue, unplaced}
@@ -70,27 +70,27 @@ without_white_kept (token ∷ tokens) kept = by (is_white token.kind) (without_w
   by true h = h
   by false h = kept
 
-close_fit : (kind : Kind) → is_close_round kind ≡ true → is_broken kind ≡ false
+close_fit : (kind : TokenKind) → is_close_round kind ≡ true → is_broken kind ≡ false
 close_fit close_round h = refl
 close_fit kind h = absurd (false≢true h)
 
-comma_fit : (kind : Kind) → is_comma kind ≡ true → is_broken kind ≡ false
+comma_fit : (kind : TokenKind) → is_comma kind ≡ true → is_broken kind ≡ false
 comma_fit comma h = refl
 comma_fit kind h = absurd (false≢true h)
 
-ident_fit : (kind : Kind) → is_ident kind ≡ true → is_broken kind ≡ false
+ident_fit : (kind : TokenKind) → is_ident kind ≡ true → is_broken kind ≡ false
 ident_fit ident h = refl
 ident_fit kind h = absurd (false≢true h)
 
 close_first : (token : Said) (tokens : CustomValue) → is_close_round token.kind ≡ true → first_is is_string (token ∷ tokens) ≡ false
 close_first token tokens h = by token.kind h where
-  by : (kind : Kind) → is_close_round kind ≡ true → cond (is_white kind) (first_is is_string tokens) (is_string kind) ≡ false
+  by : (kind : TokenKind) → is_close_round kind ≡ true → cond (is_white kind) (first_is is_string tokens) (is_string kind) ≡ false
   by close_round h = refl
   by kind h = absurd (false≢true h)
 
 function_first : (token : Said) (tokens : CustomValue) → is_function token.kind ≡ true → first_is is_string (token ∷ tokens) ≡ false
 function_first token tokens h = by token.kind h where
-  by : (kind : Kind) → is_function kind ≡ true → cond (is_white kind) (first_is is_string tokens) (is_string kind) ≡ false
+  by : (kind : TokenKind) → is_function kind ≡ true → cond (is_white kind) (first_is is_string tokens) (is_string kind) ≡ false
   by function h = refl
   by kind h = absurd (false≢true h)
 

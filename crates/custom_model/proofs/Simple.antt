@@ -7,7 +7,7 @@ use Rattle.std.proofs.lemmas.Bool.Decides.{nat_tests}
 use Rattle.base_model.specs.Lists.{is_nil}
 use Rattle.base_model.specs.Options.{◌>>=◌}
 use Rattle.syntax_model.specs.Token.{Said, comma}
-use Rattle.syntax_model.specs.Kinds.{is_white}
+use Rattle.syntax_model.specs.TokenKinds.{is_white}
 use Rattle.custom_model.specs.Value.{CustomValue, normal, spaced, white_space}
 use Rattle.custom_model.specs.Parts.{Parts, done, is_valid, parts, plain, reference, references, refers, with_fallback}
 use Rattle.custom_model.specs.Expand.{IsPlain, Lookup, expand, expanded, expansion, joined, token_limit, within_limit}

@@ -5,7 +5,7 @@ use Rattle.std.specs.Option.{option_map_or}
 use Rattle.std.proofs.lemmas.Bool.{false≢true, and_parts, cond-true}
 use Rattle.std.proofs.lemmas.Option.{cond_some, option_and_then_some}
 use Rattle.syntax_model.specs.Token.{Token, said}
-use Rattle.syntax_model.specs.Kinds.{begins_with, is_white, without_white}
+use Rattle.syntax_model.specs.TokenKinds.{begins_with, is_white, without_white}
 use Rattle.syntax_model.specs.Written.{is_bad_string, is_broken, is_sound, is_string, is_url_function, is_writable, url_goes_on, urls_go_on}
 use Rattle.syntax_model.proofs.UrlStrings.{is_quoted, QuoteComes}
 use Rattle.custom_model.specs.Value.{CustomValue, unplaced, normal}

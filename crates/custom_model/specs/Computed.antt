@@ -3,7 +3,7 @@ use Rattle.std.specs.Prelude.{ℕ, zero, suc, List, [], ◌∷◌, if◌then◌e
 use Rattle.std.specs.FinMap as map
 use Rattle.base_model.specs.Options.{◌>>=◌}
 use Rattle.base_model.specs.Text.{Characters}
-use Rattle.syntax_model.specs.Kinds.{is_ident}
+use Rattle.syntax_model.specs.TokenKinds.{is_ident}
 use Rattle.syntax_model.specs.Wide.{Wide, initial, wide_named}
 use Rattle.custom_model.specs.Value.{CustomValue, CustomValues}
 use Rattle.custom_model.specs.Expand.{Lookup, expansion}

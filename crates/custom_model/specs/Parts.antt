@@ -7,8 +7,9 @@ use Rattle.base_model.specs.Lists.{is_nil}
 use Rattle.base_model.specs.Options.{◌>>=◌}
 use Rattle.base_model.specs.Text.{Characters, is_word}
 use Rattle.syntax_model.specs.Signs.{exclamation_mark}
-use Rattle.syntax_model.specs.Token.{Token, Said, Kind, said}
-use Rattle.syntax_model.specs.Kinds.{is_white, is_ident, is_function, is_comma, is_semicolon, is_close_round, is_delim}
+use Rattle.syntax_model.specs.Token.{Token, Said, TokenKind, said}
+use Rattle.syntax_model.specs.TokenKinds.{is_white, is_ident, is_function, is_comma, is_semicolon, is_close_round}
+use Rattle.syntax_model.specs.TokenKinds.{is_delim}
 use Rattle.syntax_model.specs.Brackets.{Bracket, opened_by, closed_by, same_bracket, with_opened, without_closed}
 use Rattle.syntax_model.specs.Written.{is_broken}
 use Rattle.custom_model.specs.Value.{CustomValue, is_custom_name, normal}
@@ -42,7 +43,7 @@ abbrev pub is_name : Said → Bool
 is_name token = is_ident token.kind && is_custom_name token.name
 
 -- whether a closer closes nothing here
-abbrev pub is_unmatched : List Bracket → Kind → Bool
+abbrev pub is_unmatched : List Bracket → TokenKind → Bool
 is_unmatched pending kind = option_map_or (λ bracket. closes_none bracket pending) (closed_by kind) false where
   closes_none : Bracket → List Bracket → Bool
   closes_none bracket [] = true
@@ -50,13 +51,13 @@ is_unmatched pending kind = option_map_or (λ bracket. closes_none bracket pendi
 
 -- What makes a value invalid (section 2): a bad string, a bad url, a `\` alone, a closer that closes nothing, and
 -- outside brackets `;` and `!`.
-abbrev pub is_unfit : List Bracket → Kind → Bool
+abbrev pub is_unfit : List Bracket → TokenKind → Bool
 is_unfit pending kind =
     is_broken kind || (is_unmatched pending kind
     || (is_nil pending && (is_semicolon kind || is_delim exclamation_mark kind)))
 
 -- the brackets that are open after a token
-abbrev pub open_beyond : List Bracket → Kind → List Bracket
+abbrev pub open_beyond : List Bracket → TokenKind → List Bracket
 open_beyond pending kind = with_opened (opened_by kind) (without_closed pending (closed_by kind))
 
 -- The parts from here on, up to the end of the value, or in a fallback up to the `)` of its `var()`. The brackets that

@@ -6,10 +6,11 @@ use Rattle.std.specs.FinMap as map
 use Rattle.std.specs.Coded.{Coded, code_by, coded×, coded_ℕ, coded_list}
 use Rattle.base_model.specs.Ascii.{hyphen}
 use Rattle.base_model.specs.Text.{Characters}
-use Rattle.syntax_model.specs.Token.{Token, Said, Kind, ident, function, at_keyword, hash, string, bad_string, url, bad_url}
+use Rattle.syntax_model.specs.Token.{Token, Said, TokenKind, ident, function, at_keyword, hash, string, bad_string, url}
+use Rattle.syntax_model.specs.Token.{bad_url}
 use Rattle.syntax_model.specs.Token.{delim, number, percentage, dimension, whitespace, cdo, cdc, colon, semicolon, comma}
 use Rattle.syntax_model.specs.Token.{open_square, close_square, open_round, close_round, open_curly, close_curly}
-use Rattle.syntax_model.specs.Kinds.{is_white}
+use Rattle.syntax_model.specs.TokenKinds.{is_white}
 
 abbrev pub CustomValue : Type 0
 CustomValue = List Said
@@ -46,7 +47,7 @@ normal (token ∷ tokens) = if is_white token.kind then normal tokens else token
 
 -- how a proof tells two values apart
 
-abbrev pub kind_case : Kind → ℕ × ℕ
+abbrev pub kind_case : TokenKind → ℕ × ℕ
 kind_case kind = elim kind [
   | ident ↦ (0, 0)
   | function ↦ (1, 0)
@@ -78,17 +79,17 @@ kind_case kind = elim kind [
 ]
 
 -- the kinds in the order of their cases
-abbrev pub kind_among : ℕ → List Kind → Kind
+abbrev pub kind_among : ℕ → List TokenKind → TokenKind
 kind_among place [] = ident
 kind_among place (kind ∷ kinds) = if place == 0 then kind else kind_among (place - 1) kinds
 
-abbrev pub kind_from_case : ℕ × ℕ → Kind
+abbrev pub kind_from_case : ℕ × ℕ → TokenKind
 kind_from_case p = kind_among p.0
     (ident ∷ function ∷ at_keyword ∷ hash true ∷ hash false ∷ string ∷ bad_string ∷ url ∷ bad_url ∷ delim p.1
     ∷ number true ∷ number false ∷ percentage ∷ dimension true ∷ dimension false ∷ whitespace ∷ cdo ∷ cdc ∷ colon
     ∷ semicolon ∷ comma ∷ open_square ∷ close_square ∷ open_round ∷ close_round ∷ open_curly ∷ close_curly ∷ [])
 
-pub kind_back : (kind : Kind) → kind_from_case (kind_case kind) ≡ kind
+pub kind_back : (kind : TokenKind) → kind_from_case (kind_case kind) ≡ kind
 kind_back ident = refl
 kind_back function = refl
 kind_back at_keyword = refl
@@ -117,12 +118,13 @@ kind_back close_round = refl
 kind_back open_curly = refl
 kind_back close_curly = refl
 
-abbrev pub kind_code : Coded Kind
+abbrev pub kind_code : Coded TokenKind
 kind_code = code_by (ℕ × ℕ) (coded× coded_ℕ coded_ℕ) kind_case kind_from_case kind_back
 
 abbrev pub said_code : Coded Said
 said_code =
-    code_by (Kind × (Characters × Characters)) (coded× kind_code (coded× (coded_list coded_ℕ) (coded_list coded_ℕ)))
+    code_by (TokenKind × (Characters × Characters))
+    (coded× kind_code (coded× (coded_list coded_ℕ) (coded_list coded_ℕ)))
     (λ t. (t.kind, (t.name, t.spelling)))
     (λ p. record { kind = p.0; name = p.1.0; spelling = p.1.1 })
     (λ _. refl)

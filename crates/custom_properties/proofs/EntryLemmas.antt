@@ -1,14 +1,13 @@
 -- The entries of the code as those of the definitions.
-use Rattle.std.proofs.Common.{◌≡◌, ℕ, ◌<◌, List, [], length, get_or, map, Bool, true, false, Ordering, Option, Some, None, refl, sym, ap, subst, ◌∙◌, arith}
+use Rattle.std.proofs.Common.{◌≡◌, ℕ, ◌<◌, List, [], length, get_or, map, None, sym, ap, subst, ◌∙◌}
 use lib.Dec.{T}
 use Rattle.std.specs.FinMap as finmap
 use Rattle.std.proofs.lemmas.List.{get_or-map, length-map}
-use Rattle.base_model.specs.Text.{Characters}
 use Rattle.custom_model.specs.Cycles.{DeclaredValues}
 use Rattle.custom_properties.specs.Entries.{declared_entry, declared_of, AreSorted}
-use Rattle.custom_properties.specs.Place.{Entry}
+use Rattle.custom_properties.specs.Entry.{Entry}
 use Rattle.custom_properties.specs.declared.declared_map.DeclaredEntry.{DeclaredEntry}
-use Rattle.custom_properties.proofs.PlaceLemmas.{order, at}
+use Rattle.css_tokens.proofs.PlaceLemmas.{order}
 
 pub rises : (list : List DeclaredEntry) → AreSorted list → T (finmap.is_sorted order (map declared_entry list))
 rises list sorted = subst T (sym sorted) tt
@@ -20,20 +19,8 @@ length-entries list = length-map list declared_entry
 pub entry_at : (list : List DeclaredEntry) (place : ℕ) (entry : DeclaredEntry) (d : Entry) → place < length list → get_or (map declared_entry list) place d ≡ declared_entry (get_or list place entry)
 entry_at list place entry d within = get_or-map declared_entry list place entry d within
 
--- how its name compares
-pub compared_at : (list : List DeclaredEntry) (place : ℕ) (entry : DeclaredEntry) (name : Characters) (o p : Ordering) → place < length list → o ≡ order (get_or list place entry).name.now name → o ≡ p → order (at (map declared_entry list) place) name ≡ p
-compared_at list place entry name o p within e is =
-    ap (λ (x : Entry). order x.0 name) (entry_at list place entry ([], None) within) ∙ (sym e ∙ is)
-
 pub entries_of : (list : List DeclaredEntry) → AreSorted list → finmap.entries (declared_of list) ≡ map declared_entry list
 entries_of list sorted = finmap.entries-from_sorted order (map declared_entry list) (rises list sorted)
-
-pub sorted_entries : (declared : DeclaredValues) (list : List DeclaredEntry) → map declared_entry list ≡ finmap.entries declared → AreSorted list
-sorted_entries declared list e = is_true _ (subst (λ l. T (finmap.is_sorted order l)) (sym e) (finmap.entries_sorted declared))
-  where
-    is_true : (b : Bool) → T b → b ≡ true
-    is_true true h = refl
-    is_true false h = absurd h
 
 pub length_of_entries : (declared : DeclaredValues) (list : List DeclaredEntry) → map declared_entry list ≡ finmap.entries declared → length list ≡ length (finmap.entries declared)
 length_of_entries declared list e = sym (length-entries list) ∙ ap length e

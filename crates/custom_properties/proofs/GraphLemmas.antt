@@ -1,18 +1,16 @@
 -- The edges of the graph are those of the declared names.
-use Rattle.std.proofs.Common.{◌≡◌, ℕ, zero, suc, ◌+◌, ◌<◌, List, [], ◌∷◌, ◌++◌, length, get_or, Option, Some, None, option_map, is_some, true, ◌⊎◌, inl, inr, ⊎_elim, refl, sym, ap, subst, ◌∙◌, arith}
-use lib.Dec.{T}
+use Rattle.std.proofs.Common.{◌≡◌, ℕ, zero, suc, ◌+◌, ◌<◌, List, [], ◌∷◌, ◌++◌, length, get_or, Option, Some, None, is_some, ◌⊎◌, inl, inr, ⊎_elim, refl, sym, ap, subst, ◌∙◌, arith}
 use Rattle.std.specs.FinMap as finmap
 use Rattle.std.proofs.lemmas.Bool.{false≢true}
-use Rattle.std.proofs.lemmas.Option.{none-some, same_Some}
 use Rattle.base_model.specs.Text.{Characters}
-use Rattle.custom_model.specs.Value.{CustomValue}
 use Rattle.custom_model.specs.Cycles.{DeclaredValues, references_of, edges}
 use Rattle.custom_model.proofs.Among.{Among, among_left, among_right}
 use Rattle.custom_model.proofs.CycleLemmas.{is_declared}
 use Rattle.custom_properties.specs.declared.mark.Edge.{Edge}
-use Rattle.custom_properties.specs.Place.{Entry, place_in}
-use Rattle.custom_properties.specs.Graph.{edge_to, edges_to, edges_of, graph_of, graph}
-use Rattle.custom_properties.proofs.PlaceLemmas.{order, place_stands, no_place, value_at, place_of_name}
+use Rattle.custom_properties.specs.Entry.{Entry}
+use Rattle.css_tokens.specs.Place.{place_in}
+use Rattle.custom_properties.specs.Graph.{edge_to, edges_to, edges_of, graph}
+use Rattle.css_tokens.proofs.PlaceLemmas.{place_stands, no_place, value_at}
 
 abbrev pub between : ℕ → ℕ → Edge
 between from to = record { from = from; to = to }

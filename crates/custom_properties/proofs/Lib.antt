@@ -1,4 +1,3 @@
-pub mod PlaceLemmas
 pub mod EntryLemmas
 pub mod GraphLemmas
 pub mod MarkLemmas

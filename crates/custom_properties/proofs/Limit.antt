@@ -6,13 +6,13 @@ use Rattle.std.proofs.lemmas.Bool.{ltb-true, ltb-false, le-leb, lt-leb}
 use Rattle.std.specs.Prelude.{nat_lt, nat_le, option_map}
 use Rattle.base_model.specs.Options.{◌>>=◌}
 use Rattle.syntax_model.specs.Token.{Token, Said}
-use Rattle.syntax_model.specs.Kinds.{is_white}
+use Rattle.syntax_model.specs.TokenKinds.{is_white}
 use Rattle.custom_model.specs.Value.{normal, spaced, unplaced, white_space}
 use Rattle.custom_model.specs.Expand.{token_limit, within_limit}
-use Rattle.custom_properties.specs.Front.{Front, front_at, first, beyond, if_so, pushed, placed_all}
+use Rattle.custom_properties.specs.Output.{ExpansionOutput, output_at, first, beyond, if_so, pushed, output_placed_all}
 use Rattle.custom_properties.proofs.Chains.{assoc-bind}
 
-abbrev pub tokens_of : Front → Option (List Token)
+abbrev pub tokens_of : ExpansionOutput → Option (List Token)
 tokens_of f = Some f.tokens
 
 -- each of them in turn, whitespace too
@@ -23,8 +23,8 @@ filled (t ∷ ts) list = do
   filled ts more
 
 after-put : (tokens : Option (List Token)) (ts : List Said) (g : List Token → Option (List Token))
-    → ((list : List Token) → (placed_all ts (beyond list) >>= tokens_of) ≡ g list)
-    → ((option_map beyond tokens >>= (λ f. placed_all ts f)) >>= tokens_of) ≡ (tokens >>= g)
+    → ((list : List Token) → (output_placed_all ts (beyond list) >>= tokens_of) ≡ g list)
+    → ((option_map beyond tokens >>= (λ f. output_placed_all ts f)) >>= tokens_of) ≡ (tokens >>= g)
 after-put None ts g e = refl
 after-put (Some list) ts g e = e list
 
@@ -32,7 +32,7 @@ after-put (Some list) ts g e = e list
 abbrev IsFilled : List Said → Type 0
 IsFilled ts =
     (is_spaced : Bool) (list : List Token)
-    → (placed_all ts (front_at list is_spaced true) >>= tokens_of) ≡ filled (spaced is_spaced ts) list
+    → (output_placed_all ts (output_at list is_spaced true) >>= tokens_of) ≡ filled (spaced is_spaced ts) list
 
 filled-step : (t : Said) (ts : List Said) (white : Bool) → is_white t.kind ≡ white → IsFilled ts → IsFilled (t ∷ ts)
 filled-step t ts true e on is_spaced list = rw e (on true list)
@@ -46,7 +46,7 @@ put-filled (t ∷ ts) is_spaced list = filled-step t ts _ refl (put-filled ts) i
 
 -- from the start
 abbrev IsFilledFirst : List Said → Type 0
-IsFilledFirst ts = (placed_all ts first >>= tokens_of) ≡ filled (normal ts) []
+IsFilledFirst ts = (output_placed_all ts first >>= tokens_of) ≡ filled (normal ts) []
 
 first-step : (t : Said) (ts : List Said) (white : Bool) → is_white t.kind ≡ white
     → IsFilledFirst ts → IsFilledFirst (t ∷ ts)
@@ -95,5 +95,5 @@ within-room ts =
     ∙ mapped-if (nat_le (length ts) token_limit) ts)
 
 pub put-whole : (ts : List Said)
-    → (placed_all ts first >>= tokens_of) ≡ option_map (λ list. map unplaced list) (within_limit (normal ts))
+    → (output_placed_all ts first >>= tokens_of) ≡ option_map (λ list. map unplaced list) (within_limit (normal ts))
 put-whole ts = first-filled ts ∙ within-room (normal ts)

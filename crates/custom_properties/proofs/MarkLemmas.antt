@@ -1,22 +1,21 @@
 -- What the check of the marks shows: which names are on cycles, and that what the others refer to is of a lower group.
-use Rattle.std.proofs.Common.{◌≡◌, ℕ, zero, suc, ◌+◌, ◌<◌, ◌≤◌, List, [], ◌∷◌, length, get_or, Bool, true, false, cond, ◌&&◌, ◌||◌, Option, Some, None, is_some, slice_get, nat_eq, ◌⊎◌, inl, inr, ⊎_elim, refl, sym, ap, subst, ◌∙◌, arith}
+use Rattle.std.proofs.Common.{◌≡◌, ℕ, zero, suc, ◌+◌, ◌<◌, ◌≤◌, List, [], ◌∷◌, length, Bool, true, false, Option, Some, None, slice_get, nat_eq, ◌⊎◌, inl, inr, ⊎_elim, refl, sym, ap, subst, ◌∙◌, arith}
 use Rattle.std.specs.FinMap as finmap
 use Rattle.std.specs.List.{list_all}
-use Rattle.std.proofs.lemmas.Bool.{true≢false, false≢true, and_parts, or_cases, cases_Bool, false_from_ne_true, eqb-true, ltb-true, cond-true, cond-false}
-use Rattle.std.proofs.lemmas.Option.{none-some, same_Some, slice_get_within, slice_get-get_or, get_or_from_slice_get}
+use Rattle.std.proofs.lemmas.Bool.{false≢true, and_parts, or_cases, false_from_ne_true, eqb-true, ltb-true, cond-true, cond-false}
+use Rattle.std.proofs.lemmas.Option.{none-some, same_Some, slice_get_within, get_or_from_slice_get}
 use Rattle.base_model.specs.Text.{Characters}
-use Rattle.custom_model.specs.Value.{CustomValue}
-use Rattle.custom_model.specs.Cycles.{DeclaredValues, references_of, edges, walks, is_cyclic}
+use Rattle.custom_model.specs.Cycles.{DeclaredValues, edges, walks, is_cyclic}
 use Rattle.custom_model.proofs.Among.{Among}
 use Rattle.custom_model.proofs.WalkLemmas.{Walk, walk_of, walks_edge, walks_step, walks_join}
-use Rattle.custom_model.proofs.CycleLemmas.{is_declared, cyclic_walk, is_cyclic_there_and_back}
+use Rattle.custom_model.proofs.CycleLemmas.{cyclic_walk, is_cyclic_there_and_back}
 use Rattle.custom_properties.specs.declared.mark.Edge.{Edge}
 use Rattle.custom_properties.specs.declared.mark.Mark.{Mark}
 use Rattle.custom_properties.specs.Confirmed.{AreConfirmed, falls_from, falls, nears, goes_on, comes_by, arrives, stands, holds}
-use Rattle.custom_properties.specs.Place.{Entry, place_in}
+use Rattle.css_tokens.specs.Place.{place_in}
 use Rattle.custom_properties.specs.Graph.{graph}
-use Rattle.custom_properties.proofs.PlaceLemmas.{place_stands, place_of_name}
-use Rattle.custom_properties.proofs.GraphLemmas.{between, all_of, name_at, declared_at, undeclared, joins, edge_in_graph, no_entry}
+use Rattle.css_tokens.proofs.PlaceLemmas.{place_of_name}
+use Rattle.custom_properties.proofs.GraphLemmas.{all_of, name_at, joins, edge_in_graph, no_entry}
 
 among_slice : {X : Type 0} (xs : List X) (k : ℕ) (x : X) → slice_get xs k ≡ Some x → Among x xs
 among_slice [] k x e = absurd (none-some x e)

@@ -1,8 +1,8 @@
 -- Two sorted lists of entries as one.
-use Rattle.std.proofs.Common.{◌≡◌, List, [], ◌∷◌, ◌++◌, Bool, true, false, cond, ◌&&◌, Option, Some, None, Ordering, Less, Equal, Greater, ◌⊎◌, inl, inr, ⊎_elim, refl, sym, ap, ap₂, subst, ◌∙◌}
+use Rattle.std.proofs.Common.{◌≡◌, List, [], ◌∷◌, ◌++◌, Bool, true, false, cond, ◌&&◌, Option, Some, None, Ordering, Less, Equal, Greater, ◌⊎◌, inl, inr, ⊎_elim, refl, sym, ap, subst, ◌∙◌}
 use lib.Dec.{T}
 use Rattle.std.specs.Option.{option_or}
-use Rattle.std.specs.Ordering.{nat_cmp, eq_by_cmp, is_lt, is_eq, ordering_reverse}
+use Rattle.std.specs.Ordering.{eq_by_cmp, is_lt, is_eq, ordering_reverse}
 use Rattle.std.specs.Cmp.Lexicographic.{nat_list_cmp_total}
 use Rattle.std.specs.FinMap as finmap
 use Rattle.std.specs.FinMap.Entries.{below_all, by_order}
@@ -11,8 +11,8 @@ use Rattle.std.proofs.lemmas.Option.{none-some}
 use Rattle.base_model.specs.Text.{Characters}
 use Rattle.custom_model.specs.Value.{CustomValue}
 use Rattle.custom_properties.specs.Merged.{Pair, lesser, beyond, put, merged}
-use Rattle.custom_properties.specs.Place.{Entry}
-use Rattle.custom_properties.proofs.PlaceLemmas.{order, less, first_part, second_part}
+use Rattle.custom_properties.specs.Entry.{Entry}
+use Rattle.css_tokens.proofs.PlaceLemmas.{order, less, first_part, second_part}
 
 pub both : (a b : Bool) → T a → T b → T (a && b)
 both true b p q = q

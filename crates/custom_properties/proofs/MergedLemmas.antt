@@ -14,8 +14,9 @@ use Rattle.custom_model.proofs.CycleLemmas.{same_key}
 use Rattle.custom_model.proofs.ComputedLemmas.{computed-undeclared}
 use Rattle.custom_model.proofs.ResolvedLemmas.{resolved-get, resolved_only}
 use Rattle.custom_properties.specs.Merged.{Pair, lesser, beyond, put, merged, with_values}
-use Rattle.custom_properties.specs.Place.{Entry, place_in}
-use Rattle.custom_properties.proofs.PlaceLemmas.{order, first_part, second_part, place_stands}
+use Rattle.custom_properties.specs.Entry.{Entry}
+use Rattle.css_tokens.specs.Place.{place_in}
+use Rattle.css_tokens.proofs.PlaceLemmas.{order, first_part, second_part, place_stands}
 use Rattle.custom_properties.proofs.MergeLemmas.{both, over, sorted-merged, find-merged}
 use Rattle.custom_properties.proofs.GraphLemmas.{no_entry, undeclared}
 use Rattle.std.specs.FinMap.Entries.{below_all}

@@ -3,23 +3,23 @@ use Rattle.std.proofs.Common.{◌≡◌, List, [], ◌∷◌, ◌++◌, Bool, tr
 use Rattle.std.specs.Prelude.{option_map}
 use Rattle.base_model.specs.Options.{◌>>=◌}
 use Rattle.syntax_model.specs.Token.{Token, Said}
-use Rattle.syntax_model.specs.Kinds.{is_white}
+use Rattle.syntax_model.specs.TokenKinds.{is_white}
 use Rattle.custom_model.specs.Value.{normal, spaced}
-use Rattle.custom_properties.specs.Front.{Front, front_at, beyond, placed, placed_all, begun, ended}
+use Rattle.custom_properties.specs.Output.{ExpansionOutput, output_at, beyond, output_placed, output_placed_all, begun, ended}
 use Rattle.custom_properties.proofs.Chains.{assoc-bind, ap-bind}
 
-pub placed-append : (a b : List Said) (f : Front)
-    → placed_all (a ++ b) f ≡ (placed_all a f >>= (λ next. placed_all b next))
+pub placed-append : (a b : List Said) (f : ExpansionOutput)
+    → output_placed_all (a ++ b) f ≡ (output_placed_all a f >>= (λ next. output_placed_all b next))
 placed-append [] b f = refl
 placed-append (t ∷ ts) b f =
-    ap-bind (placed t f) _ _ (λ next. placed-append ts b next) ∙ sym (assoc-bind (placed t f) _ _)
+    ap-bind (output_placed t f) _ _ (λ next. placed-append ts b next) ∙ sym (assoc-bind (output_placed t f) _ _)
 
-abbrev pub finished : Bool → Front → Option Front
+abbrev pub finished : Bool → ExpansionOutput → Option ExpansionOutput
 finished had_begun f = Some (ended had_begun f)
 
-after-put : (tokens : Option (List Token)) (ts : List Said) (end : Front → Option Front) (g : Front → Option Front)
-    → ((list : List Token) → (placed_all ts (beyond list) >>= end) ≡ g (beyond list))
-    → ((option_map beyond tokens >>= (λ f. placed_all ts f)) >>= end) ≡ (option_map beyond tokens >>= g)
+after-put : (tokens : Option (List Token)) (ts : List Said) (end : ExpansionOutput → Option ExpansionOutput) (g : ExpansionOutput → Option ExpansionOutput)
+    → ((list : List Token) → (output_placed_all ts (beyond list) >>= end) ≡ g (beyond list))
+    → ((option_map beyond tokens >>= (λ f. output_placed_all ts f)) >>= end) ≡ (option_map beyond tokens >>= g)
 after-put None ts end g e = refl
 after-put (Some list) ts end g e = e list
 
@@ -27,8 +27,8 @@ after-put (Some list) ts end g e = e list
 abbrev IsSpaced : Bool → List Said → Type 0
 IsSpaced had_begun ts =
     (is_spaced : Bool) (list : List Token)
-    → (placed_all ts (front_at list is_spaced true) >>= finished had_begun)
-    ≡ placed_all (spaced is_spaced ts) (beyond list)
+    → (output_placed_all ts (output_at list is_spaced true) >>= finished had_begun)
+    ≡ output_placed_all (spaced is_spaced ts) (beyond list)
 
 spaced-step : (had_begun : Bool) (t : Said) (ts : List Said) (white : Bool) → is_white t.kind ≡ white
     → IsSpaced had_begun ts → IsSpaced had_begun (t ∷ ts)
@@ -43,7 +43,7 @@ put-spaced had_begun (t ∷ ts) is_spaced list =
 
 -- from its beginning
 abbrev IsNormal : List Said → Type 0
-IsNormal ts = (f : Front) → (placed_all ts (begun f) >>= finished f.has_begun) ≡ placed_all (normal ts) f
+IsNormal ts = (f : ExpansionOutput) → (output_placed_all ts (begun f) >>= finished f.has_begun) ≡ output_placed_all (normal ts) f
 
 normal-step : (t : Said) (ts : List Said) (white : Bool) → is_white t.kind ≡ white → IsNormal ts → IsNormal (t ∷ ts)
 normal-step t ts true e on f = rw e (on f)

@@ -1,15 +1,15 @@
 -- Values that are computed in an order in which each name comes after all that it refers to.
-use Rattle.std.proofs.Common.{◌≡◌, ◌≢◌, ℕ, zero, suc, ◌+◌, ◌<◌, ◌≤◌, List, [], ◌∷◌, ◌++◌, length, get_or, set, take, map, replicate, Bool, true, false, not, cond, ◌&&◌, Option, Some, None, slice_get, option_map, ◌⊎◌, inl, inr, ⊎_elim, refl, sym, ap, ap₂, subst, ◌∙◌, arith}
+use Rattle.std.proofs.Common.{◌≡◌, ◌≢◌, ℕ, ◌+◌, ◌<◌, List, [], ◌∷◌, ◌++◌, length, get_or, set, take, map, replicate, true, false, not, Option, Some, None, slice_get, ◌⊎◌, inl, inr, ⊎_elim, refl, sym, ap, ap₂, subst, ◌∙◌, arith}
 use Rattle.std.specs.FinMap as finmap
 use Rattle.std.specs.Option.{option_flatten}
 use Rattle.std.proofs.lemmas.Bool.{true≢false, false≢true, false_from_ne_true, cases_Bool, cases_eq, and_from, eq-eqb, eqb-true, and_parts, not-true}
-use Rattle.std.proofs.lemmas.List.{get_or-map, length-map, length-set, length-replicate, get_or-set_same, get_or-set_other, get_or-replicate, get_or_default, map_more, same_lists}
+use Rattle.std.proofs.lemmas.List.{get_or-map, length-map, get_or-set_same, get_or-set_other, get_or-replicate, get_or_default, map_more, same_lists}
 use Rattle.std.proofs.lemmas.Option.{same_Some, slice_get_within, slice_get-get_or}
 use Rattle.base_model.specs.Options.{◌>>=◌}
 use Rattle.base_model.specs.Text.{Characters}
 use Rattle.custom_model.specs.Value.{CustomValue, CustomValues}
-use Rattle.custom_model.specs.Expand.{Lookup, expansion}
-use Rattle.custom_model.specs.Cycles.{DeclaredValues, references_of, edges, walks, is_cyclic}
+use Rattle.custom_model.specs.Expand.{Lookup}
+use Rattle.custom_model.specs.Cycles.{DeclaredValues, references_of, edges, is_cyclic}
 use Rattle.custom_model.specs.Computed.{after_keyword, computed}
 use Rattle.custom_model.proofs.Among.{Among}
 use Rattle.custom_model.proofs.WalkLemmas.{Walk, walk_of}
@@ -17,16 +17,15 @@ use Rattle.custom_model.proofs.CycleLemmas.{cyclic_walk}
 use Rattle.custom_model.proofs.ExpandLemmas.{Agree, expansion_same}
 use Rattle.custom_model.proofs.ComputedLemmas.{computed-undeclared, computed-invalid, computed-cyclic, computed-declared}
 use Rattle.custom_properties.specs.declared.declared_map.DeclaredEntry.{DeclaredEntry}
-use Rattle.custom_properties.specs.declared.mark.Edge.{Edge}
 use Rattle.custom_properties.specs.declared.mark.Mark.{Mark}
 use Rattle.custom_properties.specs.Confirmed.{AreConfirmed, is_in_group}
 use Rattle.custom_properties.specs.Entries.{declared_entry}
 use Rattle.custom_properties.specs.Graph.{graph}
 use Rattle.custom_properties.specs.KnownView.{value_at, known_in}
-use Rattle.custom_properties.specs.Off.{off_cycles, off_cycles_of, off_cycles_at}
-use Rattle.custom_properties.specs.Place.{Entry, place_in}
+use Rattle.custom_properties.specs.Off.{off_cycles_of, off_cycles_at}
+use Rattle.css_tokens.specs.Place.{place_in}
 use Rattle.custom_properties.proofs.EntryLemmas.{length_of_entries, entry_at}
-use Rattle.custom_properties.proofs.PlaceLemmas.{place_stands, place_of_name}
+use Rattle.css_tokens.proofs.PlaceLemmas.{place_stands, place_of_name}
 use Rattle.custom_properties.proofs.GraphLemmas.{all_of, name_at, no_entry, declared_at, undeclared, edge_in_graph}
 use Rattle.custom_properties.proofs.MarkLemmas.{marked_cyclic, marked_free, refers_lower, stands_in_order}
 
@@ -192,9 +191,9 @@ some_item [] n l = absurd (omega arith)
 some_item (x ∷ xs) n l = x
 
 -- the value of an entry as that of its place
-pub value_seen : (declared : DeclaredValues) (inherited : CustomValues) (list : List DeclaredEntry) (place : ℕ) (values seen : List (Option CustomValue)) (v : Option CustomValue) → map declared_entry list ≡ finmap.entries declared → place < length list → seen ≡ values
+pub listed_value_seen : (declared : DeclaredValues) (inherited : CustomValues) (list : List DeclaredEntry) (place : ℕ) (values seen : List (Option CustomValue)) (v : Option CustomValue) → map declared_entry list ≡ finmap.entries declared → place < length list → seen ≡ values
     → ((d : DeclaredEntry) → v ≡ off_cycles_at (known_in declared seen inherited) inherited (declared_entry (get_or list place d))) → v ≡ off_cycles_at (known_in declared values inherited) inherited (get_or (finmap.entries declared) place no_entry)
-value_seen declared inherited list place values seen v same within is value_is =
+listed_value_seen declared inherited list place values seen v same within is value_is =
     let d = some_item list place within in
     value_is d ∙ (ap (λ l. off_cycles_at (known_in declared l inherited) inherited (declared_entry (get_or list place d))) is
     ∙ ap (off_cycles_at (known_in declared values inherited) inherited) (sym (entry_at list place d no_entry within) ∙ ap (λ l. get_or l place no_entry) same))

@@ -9,9 +9,9 @@ use Rattle.base_model.specs.Text.{Characters, same_text}
 use Rattle.custom_model.specs.Cycles.{DeclaredValues, references_of, edges, walks, is_cyclic}
 use Rattle.custom_model.proofs.Among.{Among, any_among, among_any, text_is}
 use Rattle.custom_properties.specs.Graph.{graph}
-use Rattle.custom_properties.specs.Place.{place_in}
+use Rattle.css_tokens.specs.Place.{place_in}
 use Rattle.custom_properties.specs.Plain.{AreNext, arrives, flag_at, leads}
-use Rattle.custom_properties.proofs.PlaceLemmas.{place_stands, place_of_name}
+use Rattle.css_tokens.proofs.PlaceLemmas.{place_stands, place_of_name}
 use Rattle.custom_properties.proofs.GraphLemmas.{all_of, name_at, no_entry, between, undeclared, joins, joined}
 use Rattle.base_model.proofs.Texts.{text_is_itself}
 

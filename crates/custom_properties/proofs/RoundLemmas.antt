@@ -16,10 +16,10 @@ use Rattle.custom_properties.specs.declared.declared_map.DeclaredEntry.{Declared
 use Rattle.custom_properties.specs.Entries.{declared_entry}
 use Rattle.custom_properties.specs.KnownView.{value_at, known_in}
 use Rattle.custom_properties.specs.Off.{off_cycles_of, off_cycles_at}
-use Rattle.custom_properties.specs.Place.{place_in}
+use Rattle.css_tokens.specs.Place.{place_in}
 use Rattle.custom_properties.specs.Plain.{flag_at}
 use Rattle.custom_properties.proofs.EntryLemmas.{length_of_entries, entry_at}
-use Rattle.custom_properties.proofs.PlaceLemmas.{order, place_stands}
+use Rattle.css_tokens.proofs.PlaceLemmas.{order, place_stands}
 use Rattle.custom_properties.proofs.GraphLemmas.{all_of, name_at, no_entry, declared_at, undeclared}
 
 map_alike : {X Y : Type 0} (f g : X → Y) (xs : List X) → ((x : X) → f x ≡ g x) → map f xs ≡ map g xs

@@ -4,7 +4,7 @@ use Rattle.base_model.specs.Text.{Characters}
 use Rattle.custom_model.specs.Value.{CustomValue}
 use Rattle.custom_model.specs.Steps.{Step, token, alone, begins, ends, steps_in}
 use Rattle.custom_properties.specs.declared.mark.Edge.{Edge}
-use Rattle.custom_properties.specs.Place.{Entry}
+use Rattle.custom_properties.specs.Entry.{Entry}
 use Rattle.custom_properties.specs.Graph.{edges_to}
 
 -- the names that steps refer to

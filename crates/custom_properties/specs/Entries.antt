@@ -6,7 +6,7 @@ use Rattle.std.specs.Ordering.{nat_cmp}
 use Rattle.std.specs.Coded.{Coded, coded_ℕ, coded_list, coded_option}
 use Rattle.custom_model.specs.Value.{value_code}
 use Rattle.custom_model.specs.Cycles.{DeclaredValues}
-use Rattle.custom_properties.specs.Place.{Entry}
+use Rattle.custom_properties.specs.Entry.{Entry}
 use Rattle.custom_properties.specs.declared.declared_map.DeclaredEntry.{DeclaredEntry}
 
 abbrev pub declared_entry : DeclaredEntry → Entry

@@ -3,7 +3,8 @@ use Rattle.std.specs.Prelude.{ℕ, suc, List, [], ◌∷◌, ◌++◌, Option, S
 use Rattle.std.specs.FinMap as finmap
 use Rattle.base_model.specs.Text.{Characters}
 use Rattle.custom_model.specs.Cycles.{DeclaredValues, references_of}
-use Rattle.custom_properties.specs.Place.{Entry, place_in}
+use Rattle.custom_properties.specs.Entry.{Entry}
+use Rattle.css_tokens.specs.Place.{place_in}
 use Rattle.custom_properties.specs.declared.mark.Edge.{Edge}
 
 abbrev pub edge_to : ℕ → Option ℕ → List Edge

@@ -2,11 +2,10 @@
 use Rattle.std.specs.Prelude.{ℕ, List, Option, Some, None, slice_get}
 use Rattle.std.specs.FinMap as finmap
 use Rattle.std.specs.Option.{option_flatten}
-use Rattle.base_model.specs.Text.{Characters}
 use Rattle.custom_model.specs.Value.{CustomValue, CustomValues}
 use Rattle.custom_model.specs.Expand.{Lookup}
 use Rattle.custom_model.specs.Cycles.{DeclaredValues}
-use Rattle.custom_properties.specs.Place.{place_in}
+use Rattle.css_tokens.specs.Place.{place_in}
 use Rattle.custom_properties.specs.declared.known.Known.{Known}
 
 -- the value at the place of a declared name, and else what others have

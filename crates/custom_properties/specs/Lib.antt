@@ -1,4 +1,4 @@
-pub mod Place
+pub mod Entry
 pub mod Entries
 pub mod Confirmed
 pub mod Graph
@@ -7,7 +7,7 @@ pub mod KnownView
 pub mod Off
 pub mod Plain
 pub mod Merged
-pub mod Front
-pub mod FrontView
+pub mod Output
+pub mod OutputView
 pub mod Expanding
 pub mod ExpanderView

@@ -5,9 +5,9 @@ use Rattle.std.specs.FinMap.Entries.{by_order}
 use Rattle.std.specs.Ordering.{nat_cmp}
 use Rattle.base_model.specs.Text.{Characters}
 use Rattle.custom_model.specs.Value.{CustomValue}
-use Rattle.custom_properties.specs.Place.{Entry}
+use Rattle.custom_properties.specs.Entry.{Entry}
 use Rattle.css_tokens.specs.CustomView.{entry_of}
-use Rattle.css_tokens.specs.declared.custom_map.CustomEntry.{CustomEntry}
+use Rattle.css_tokens.specs.declared.custom.map.CustomEntry.{CustomEntry}
 
 abbrev pub Pair : Type 0
 Pair = Characters × CustomValue

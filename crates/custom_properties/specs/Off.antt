@@ -3,7 +3,7 @@ use Rattle.std.specs.Prelude.{Option, Some, None}
 use Rattle.base_model.specs.Options.{◌>>=◌}
 use Rattle.custom_model.specs.Value.{CustomValue, CustomValues}
 use Rattle.std.specs.FinMap as finmap
-use Rattle.custom_properties.specs.Place.{Entry}
+use Rattle.custom_properties.specs.Entry.{Entry}
 use Rattle.custom_model.specs.Expand.{Lookup, expansion}
 use Rattle.custom_model.specs.Computed.{after_keyword}
 

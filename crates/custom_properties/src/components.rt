@@ -3,7 +3,7 @@
 //! `confirmed`, so no proof rests on it. It goes over lists, so it takes chains and cycles of any
 //! length.
 
-use crate::mark::{Edge, Found, Mark};
+use crate::mark::{Edge, GraphMarks, Mark};
 use std::alloc::Global;
 use stylo_base::NoMemory;
 
@@ -41,7 +41,7 @@ struct Walk {
 }
 
 /// The marks of so many places.
-pub(crate) fn search(alloc: Global, count: usize, edges: &[Edge]) -> Result<Found, NoMemory> {
+pub(crate) fn search(alloc: Global, count: usize, edges: &[Edge]) -> Result<GraphMarks, NoMemory> {
     let outward = outward_lists(alloc, count, edges)?;
     let inward = inward_lists(alloc, count, edges)?;
     let finished = finish_order(alloc, count, edges, &inward)?;
@@ -49,7 +49,7 @@ pub(crate) fn search(alloc: Global, count: usize, edges: &[Edge]) -> Result<Foun
     parts.group_all(alloc, edges, &outward, &finished)?;
     parts.note_inner_edges(edges);
     parts.rank_onward(alloc, edges, &inward)?;
-    parts.into_found(alloc, count)
+    parts.into_marks(alloc, count)
 }
 
 /// The edges from each place.
@@ -138,6 +138,7 @@ impl Walk {
 }
 
 impl Parts {
+    /// Nothing is found yet of so many places.
     fn new(alloc: Global, count: usize) -> Result<Parts, NoMemory> {
         let mut is_cyclic = Vec::new(alloc);
         is_cyclic.resize(count, false)?;
@@ -297,7 +298,7 @@ impl Parts {
     }
 
     /// The marks.
-    fn into_found(self, alloc: Global, count: usize) -> Result<Found, NoMemory> {
+    fn into_marks(self, alloc: Global, count: usize) -> Result<GraphMarks, NoMemory> {
         let mut order = filled(alloc, count)?;
         let mut marks = Vec::with_capacity(alloc, count)?;
         for place in 0..count {
@@ -313,7 +314,7 @@ impl Parts {
                 arrival_rank: at(&self.arrival_rank, place),
             })?;
         }
-        Ok(Found { marks, order })
+        Ok(GraphMarks { marks, order })
     }
 }
 
@@ -324,6 +325,7 @@ fn filled(alloc: Global, count: usize) -> Result<Vec<usize>, NoMemory> {
     Ok(list)
 }
 
+/// What the list has at a place.
 fn at(list: &[usize], place: usize) -> usize {
     match list.get(place) {
         None => NONE,
@@ -331,12 +333,14 @@ fn at(list: &[usize], place: usize) -> usize {
     }
 }
 
+/// Puts a number at a place.
 fn set(list: &mut Vec<usize>, place: usize, value: usize) {
     if place < list.len() {
         list[place] = value;
     }
 }
 
+/// Whether the flag at a place is set.
 fn is_true(list: &[bool], place: usize) -> bool {
     match list.get(place) {
         None => false,
@@ -344,6 +348,7 @@ fn is_true(list: &[bool], place: usize) -> bool {
     }
 }
 
+/// Sets the flag at a place.
 fn set_true(list: &mut Vec<bool>, place: usize) {
     if place < list.len() {
         list[place] = true;

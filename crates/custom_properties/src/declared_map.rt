@@ -4,12 +4,10 @@ ghost use Rattle.std.specs.Prelude.{◌≡◌, IsTrue, map};
 ghost use Rattle.std.specs.Cmp.Lexicographic.{slice_cmp};
 ghost use Rattle.std.specs.FinMap as finmap;
 ghost use Rattle.std.specs.Ordering.{nat_cmp};
-ghost use Rattle.std.specs.Str.{chars};
-ghost use Rattle.custom_properties.specs.Entries.{AreSorted, declared_entry};
-ghost use Rattle.custom_properties.specs.Place.{place_in};
+ghost use Rattle.css_tokens.specs.Place.{place_in};
+ghost use Rattle.custom_properties.specs.Entries.{declared_entry};
 
-use css_tokens::{CustomName, CustomValue};
-use std::cmp::Ordering;
+use css_tokens::{CustomName, CustomValue, NamedEntry, place_by_name};
 use std::marker::Model;
 use stylo_base::Text;
 
@@ -18,6 +16,14 @@ use stylo_base::Text;
 pub struct DeclaredEntry<'a> {
     pub name: &'a CustomName,
     pub value: Option<&'a CustomValue>,
+}
+
+impl<'a> NamedEntry for DeclaredEntry<'a> {
+    ghost name_of = { λ entry. entry.name.now };
+
+    fn name(&self) -> &CustomName {
+        self.name
+    }
 }
 
 /// What custom properties are declared to be. Contracts see a map by their names.
@@ -60,31 +66,6 @@ impl<'a> DeclaredMap<'a> {
     pub(crate) fn place(&self, name: &Text) -> Option<usize>
         ensures { result ≡ place_in (finmap.entries self.now) name.now }
     {
-        place_among(self.entries(), name)
+        place_by_name(self.entries(), name.as_str())
     }
-}
-
-/// Where a name stands among entries whose names rise.
-fn place_among(list: &[DeclaredEntry<'_>], name: &Text) -> Option<usize>
-    requires { AreSorted list.now }
-    ensures { result ≡ place_in (map declared_entry list.now) name.now }
-{
-    let mut low = 0;
-    let mut high = list.len();
-    while low < high {
-        let middle = low + (high - low) / 2;
-        match compare(list[middle].name, name) {
-            Ordering::Less => low = middle + 1,
-            Ordering::Greater => high = middle,
-            Ordering::Equal => return Some(middle),
-        }
-    }
-    None
-}
-
-/// Which of two names comes first, in the order of their characters.
-fn compare(name: &CustomName, other: &Text) -> Ordering
-    ensures { result ≡ slice_cmp nat_cmp name.now other.now }
-{
-    name.as_str().chars().cmp(other.as_str().chars())
 }

@@ -3,10 +3,10 @@
 ghost use Rattle.std.specs.Prelude.{◌≡◌, IfOk, IsTrue};
 ghost use Rattle.syntax_model.specs.Token.{said};
 ghost use Rattle.custom_properties.specs.Expanding as model;
-ghost use Rattle.custom_properties.specs.Front.{if_so};
+ghost use Rattle.custom_properties.specs.Output.{if_so};
 ghost use Rattle.custom_properties.specs.ExpanderView.{state_of};
 
-use crate::front::Front;
+use crate::output::ExpansionOutput;
 use crate::values::Values;
 use css_tokens::{PartReader, PartStep, Token};
 use std::alloc::Global;
@@ -26,8 +26,8 @@ pub(crate) enum Fallback {
 /// its own, so it takes values of any depth.
 #[derive(Debug, Drop)]
 pub(crate) struct Expander {
-    front: Front,
-    // the innermost first
+    output: ExpansionOutput,
+    /// The innermost first.
     fallbacks: VecDeque<Fallback>,
 }
 
@@ -37,16 +37,16 @@ impl Expander {
         ensures { state_of result ≡ model.started }
     {
         Expander {
-            front: Front::new(alloc),
+            output: ExpansionOutput::new(alloc),
             fallbacks: VecDeque::new(alloc),
         }
     }
 
     /// The tokens of the expansion.
     pub(crate) fn into_tokens(self) -> Vec<Token>
-        ensures { result.items ≡ (state_of self).front.tokens }
+        ensures { result.items ≡ (state_of self).output.tokens }
     {
-        self.front.into_tokens()
+        self.output.into_tokens()
     }
 
     /// Takes the steps that are left. Whether the value is valid, each name that stands for its
@@ -59,7 +59,7 @@ impl Expander {
     ) -> Result<bool, NoMemory>
         ensures { IfOk result (λ is.
             model.put_from (V.lookup values.now) (state_of self.old) reader.old.steps
-            ≡ if_so is (state_of self.new).front.tokens) }
+            ≡ if_so is (state_of self.new).output.tokens) }
     {
         loop {
             match reader.next()? {
@@ -85,14 +85,14 @@ impl Expander {
         }
     }
 
-    // Whether the innermost fallback is passed over.
+    /// Whether the innermost fallback is passed over.
     fn is_passing(&self) -> bool
         ensures { result ≡ model.is_passing (state_of self.now).fallbacks }
     {
         matches!(self.fallbacks.front(), Some(Fallback::Passed))
     }
 
-    // Goes on after a token that stands for itself. Whether there is room for it.
+    /// Goes on after a token that stands for itself. Whether there is room for it.
     fn token(&mut self, alloc: Global, token: &Token) -> Result<bool, NoMemory>
         ensures { IfOk result (λ fits. model.token_step (said token.now) (state_of self.old)
             ≡ if_so fits (state_of self.new)) }
@@ -100,10 +100,10 @@ impl Expander {
         if self.is_passing() {
             return Ok(true);
         }
-        self.front.place(alloc, token)
+        self.output.place(alloc, token)
     }
 
-    // Goes on after a `var()` without a fallback. Whether the name has a value, with room for it.
+    /// Goes on after a `var()` without a fallback. Whether the name has a value, with room for it.
     fn alone<V: Values>(&mut self, alloc: Global, name: &Text, values: &V) -> Result<bool, NoMemory>
         ensures { IfOk result (λ fits.
             model.alone_step (V.lookup values.now name.now) (state_of self.old)
@@ -114,12 +114,12 @@ impl Expander {
         }
         match values.value(name) {
             None => Ok(false),
-            Some(value) => self.front.place_value(alloc, value),
+            Some(value) => self.output.place_value(alloc, value),
         }
     }
 
-    // A `var()` with a fallback begins: its value is put and the fallback passed over, or there is
-    // no value, and the fallback is put. Whether there is room for the value.
+    /// A `var()` with a fallback begins: its value is put and the fallback passed over, or there is
+    /// no value, and the fallback is put. Whether there is room for the value.
     fn begin<V: Values>(&mut self, alloc: Global, name: &Text, values: &V) -> Result<bool, NoMemory>
         ensures { IfOk result (λ fits.
             model.begin_step (V.lookup values.now name.now) (state_of self.old)
@@ -130,21 +130,21 @@ impl Expander {
             return Ok(true);
         }
         let Some(value) = values.value(name) else {
-            let had_begun = self.front.begin();
+            let had_begun = self.output.begin();
             self.fallbacks.push_front(Fallback::Put { had_begun })?;
             return Ok(true);
         };
         self.fallbacks.push_front(Fallback::Passed)?;
-        self.front.place_value(alloc, value)
+        self.output.place_value(alloc, value)
     }
 
-    // A fallback ends.
+    /// A fallback ends.
     fn end(&mut self)
         ensures { state_of self.new ≡ model.end_step (state_of self.old) }
     {
         match self.fallbacks.pop_front() {
             None | Some(Fallback::Passed) => {}
-            Some(Fallback::Put { had_begun }) => self.front.end(had_begun),
+            Some(Fallback::Put { had_begun }) => self.output.end(had_begun),
         }
     }
 }

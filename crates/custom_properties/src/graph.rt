@@ -2,11 +2,11 @@
 
 ghost use Rattle.std.specs.Prelude.{◌≡◌, ◌++◌, IfOk, OnOk, Some};
 ghost use Rattle.std.specs.FinMap as finmap;
+ghost use Rattle.css_tokens.specs.Place.{place_in};
 ghost use Rattle.custom_model.specs.Cycles.{references_of};
 ghost use Rattle.custom_properties.specs.Entries.{declared_entry};
 ghost use Rattle.custom_properties.specs.Added.{AreAdded};
 ghost use Rattle.custom_properties.specs.Graph.{edge_to, edges_to, graph};
-ghost use Rattle.custom_properties.specs.Place.{place_in};
 
 use crate::mark::Edge;
 use crate::{DeclaredEntry, DeclaredMap};

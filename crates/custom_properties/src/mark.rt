@@ -23,9 +23,9 @@ pub(crate) struct Mark {
     pub arrival_rank: usize,
 }
 
-/// What is found of a graph.
+/// What a search finds of a graph.
 #[derive(Debug, Drop)]
-pub(crate) struct Found {
+pub(crate) struct GraphMarks {
     /// A mark for each custom property.
     pub marks: Vec<Mark>,
     /// For each group the place of its custom property, where it has but one.

@@ -12,7 +12,7 @@ ghost use Rattle.custom_properties.specs.Graph.{graph};
 
 use crate::computed::computed;
 use crate::known::Known;
-use crate::mark::{Found, Mark};
+use crate::mark::{GraphMarks, Mark};
 use crate::{DeclaredEntry, DeclaredMap};
 use css_tokens::{CustomMap, CustomValue};
 use std::alloc::Global;
@@ -40,7 +40,7 @@ pub(crate) fn values_apart(
 pub(crate) fn values_in_order(
     alloc: Global,
     declared: &DeclaredMap<'_>,
-    found: &Found,
+    found: &GraphMarks,
     inherited: &CustomMap,
 ) -> Result<Vec<Option<CustomValue>>, NoMemory>
     requires confirmed { AreConfirmed (graph declared.now) found.now.marks.items found.now.order.items }

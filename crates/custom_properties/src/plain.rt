@@ -149,6 +149,7 @@ fn no_flags(alloc: Global, count: usize) -> Result<Vec<bool>, NoMemory>
     Ok(flags)
 }
 
+/// Whether the flag at a place is set.
 fn is_set(flags: &[bool], place: usize) -> bool
     ensures { result ≡ flag_at flags.now place }
 {
@@ -158,6 +159,7 @@ fn is_set(flags: &[bool], place: usize) -> bool
     }
 }
 
+/// Sets the flag at a place.
 fn set(flags: &mut Vec<bool>, place: usize)
     ensures { flags.new.items ≡ slice_set flags.old.items place true }
 {

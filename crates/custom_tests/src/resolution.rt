@@ -10,22 +10,22 @@ fn name_of(alloc: Global, text: &str) -> Result<CustomName, NoMemory> {
     CustomName::of_text(alloc, Text::of_str(alloc, text)?)
 }
 
-fn value_of(alloc: Global, text: &str) -> Result<Option<CustomValue>, NoMemory> {
+fn custom_value(alloc: Global, text: &str) -> Result<Option<CustomValue>, NoMemory> {
     let text = preprocess(alloc, text)?;
     let list = tokens(alloc, text.as_str())?;
     CustomValue::read(alloc, list.as_slice())
 }
 
-// The map in which `--d` has this value.
+/// The map in which `--d` has this value.
 fn inherited(alloc: Global, value: &str) -> Result<CustomMap, NoMemory> {
-    let Some(value) = value_of(alloc, value)? else {
+    let Some(value) = custom_value(alloc, value)? else {
         return Ok(CustomMap::empty());
     };
     let name = name_of(alloc, "--d")?;
     CustomMap::of_entries(alloc, vec![in alloc; CustomEntry { name, value }]?)
 }
 
-// The entries of a map, each as its name and its value.
+/// The entries of a map, each as its name and its value.
 fn shown(alloc: Global, map: &CustomMap) -> Result<Text, NoMemory> {
     let mut text = Text::new(alloc);
     for entry in map.entries() {
@@ -37,10 +37,10 @@ fn shown(alloc: Global, map: &CustomMap) -> Result<Text, NoMemory> {
     Ok(text)
 }
 
-// The custom properties where one is declared, over `--d: y`.
+/// The custom properties where one is declared, over `--d: y`.
 fn resolved(alloc: Global, name: &str, value: &str) -> Result<Text, NoMemory> {
     let name = name_of(alloc, name)?;
-    let value = value_of(alloc, value)?;
+    let value = custom_value(alloc, value)?;
     let entry = DeclaredEntry {
         name: &name,
         value: value.as_ref(),

@@ -10,7 +10,7 @@ fn tokens_of(alloc: Global, text: &str) -> Result<Vec<Token>, NoMemory> {
     tokens(alloc, text.as_str())
 }
 
-// The map in which `--a` has this value.
+/// The map in which `--a` has this value.
 fn map_of(alloc: Global, value: &str) -> Result<CustomMap, NoMemory> {
     let list = tokens_of(alloc, value)?;
     let Some(value) = CustomValue::read(alloc, list.as_slice())? else {
@@ -20,7 +20,7 @@ fn map_of(alloc: Global, value: &str) -> Result<CustomMap, NoMemory> {
     CustomMap::of_entries(alloc, vec![in alloc; CustomEntry { name, value }]?)
 }
 
-// The text of a value in which `--a` has another one.
+/// The text of a value in which `--a` has another one.
 fn expanded(alloc: Global, text: &str, value: &str) -> Result<Text, NoMemory> {
     let map = map_of(alloc, value)?;
     let list = tokens_of(alloc, text)?;

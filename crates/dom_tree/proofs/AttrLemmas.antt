@@ -13,7 +13,7 @@ use Rattle.stylo_base.proofs.NameLemmas.{is_among-Decides}
 use Rattle.scene_model.specs.Element.{Characters, Attributes}
 use Rattle.scene_model.proofs.Found.{found_any}
 use Rattle.scene_model.proofs.Lists.{each_weaker}
-use Rattle.dom_tree.specs.declared.columns.AttrRow.{AttrRow}
+use Rattle.dom_tree.specs.declared.node_columns.AttrRow.{AttrRow}
 use Rattle.dom_tree.specs.Kept.{text_of, named_pair, named_attributes, name_text, put_row, AreAttrs, HaveNames, KeepsTexts}
 use Rattle.dom_tree.specs.ElementNames.{AreNamesOf}
 use Rattle.dom_tree.specs.declared.nodes.Attr.{Attr}

@@ -9,8 +9,8 @@ use Rattle.scene_model.specs.Element.{Characters}
 use Rattle.scene_model.specs.Nodes.{Node}
 use Rattle.scene_model.proofs.Lists.{each_weaker}
 use Rattle.dom_tree.specs.declared.span.Span.{Span}
-use Rattle.dom_tree.specs.declared.columns.AttrRow.{AttrRow}
-use Rattle.dom_tree.specs.declared.columns.Row.{Row}
+use Rattle.dom_tree.specs.declared.node_columns.AttrRow.{AttrRow}
+use Rattle.dom_tree.specs.declared.node_columns.NodeRow.{NodeRow}
 use Rattle.dom_tree.specs.declared.nodes.NodeInput.{NodeInput}
 use Rattle.dom_tree.specs.View.{attributes_of, node_of, states_of}
 use Rattle.std.specs.Cmp.Lexicographic.{slice_cmp}
@@ -44,28 +44,28 @@ module _ (old new : List Characters) (attrs more later : List AttrRow) (kept : K
   part_same : (span : Span) → span.first + span.count ≤ length attrs → part_of later span ≡ part_of attrs span
   part_same span h = ap (λ l. part_of l span) e ∙ part_kept attrs more span h
 
-  row_kept : (row : Row) → IsRow old attrs row → IsRow new later row
+  row_kept : (row : NodeRow) → IsRow old attrs row → IsRow new later row
   row_kept row is = record {
     tag = below_more_names old new row.tag kept is.tag;
     within = omega (arith, is.within, ap length e, length-append attrs more);
     attributes = subst (AreAttrs new) (sym (part_same row.attrs is.within)) (AreAttrs-more old new (part_of attrs row.attrs) kept is.attributes);
   }
 
-  node_kept : (row : Row) → IsRow old attrs row → node_seen new later row ≡ node_seen old attrs row
+  node_kept : (row : NodeRow) → IsRow old attrs row → node_seen new later row ≡ node_seen old attrs row
   node_kept row is =
       let tag = text_kept old new row.tag kept is.tag in
       let here = ap (named_attributes new) (part_same row.attrs is.within) ∙ attributes_kept old new (part_of attrs row.attrs) kept is.attributes in
       λ i. record { parent = row.parent; tag = tag i; attrs = here i; states = states_of row.states }
 
-  pub rows_kept : (rows : List Row) → AreRows old attrs rows → AreRows new later rows
+  pub rows_kept : (rows : List NodeRow) → AreRows old attrs rows → AreRows new later rows
   rows_kept rows are = each_weaker (IsRow old attrs) (IsRow new later) row_kept rows are
 
-  pub nodes_kept : (rows : List Row) → AreRows old attrs rows → map (node_seen new later) rows ≡ map (node_seen old attrs) rows
+  pub nodes_kept : (rows : List NodeRow) → AreRows old attrs rows → map (node_seen new later) rows ≡ map (node_seen old attrs) rows
   nodes_kept [] are = refl
   nodes_kept (row ∷ rows) are = λ i. node_kept row are.0 i ∷ nodes_kept rows are.1 i
 
   -- and a node whose attributes are the last ones
-  module _ (rows longer : List Row) (row : Row) (input : NodeInput) (are : AreRows old attrs rows) (attributes : AreAttrs new more) (is_map : named_attributes new more ≡ attributes_of input.attrs.now) (is_tag : slice_get new row.tag ≡ Some (chars input.tag.now)) (is_states : row.states ≡ input.states) (is_first : row.attrs.first ≡ length attrs) (is_count : row.attrs.count ≡ length more) (f : longer ≡ rows ++ row ∷ []) where
+  module _ (rows longer : List NodeRow) (row : NodeRow) (input : NodeInput) (are : AreRows old attrs rows) (attributes : AreAttrs new more) (is_map : named_attributes new more ≡ attributes_of input.attrs.now) (is_tag : slice_get new row.tag ≡ Some (chars input.tag.now)) (is_states : row.states ≡ input.states) (is_first : row.attrs.first ≡ length attrs) (is_count : row.attrs.count ≡ length more) (f : longer ≡ rows ++ row ∷ []) where
     last_part : part_of later row.attrs ≡ more
     last_part = ap (λ l. part_of l row.attrs) e ∙ part_last attrs more row.attrs is_first is_count
 
@@ -95,7 +95,7 @@ on_ok (Err e) P h = tt
 
 -- what the columns show of the node at an index
 
-module _ (names : List Characters) (attrs : List AttrRow) (rows : List Row) (are : AreRows names attrs rows) (table : Table) (view : record { names = names; nodes = map (node_seen names attrs) rows } ≡ table) (i : ℕ) (row : Row) (l : i < length table.nodes) (is : row ≡ get_or rows i row) where
+module _ (names : List Characters) (attrs : List AttrRow) (rows : List NodeRow) (are : AreRows names attrs rows) (table : Table) (view : record { names = names; nodes = map (node_seen names attrs) rows } ≡ table) (i : ℕ) (row : NodeRow) (l : i < length table.nodes) (is : row ≡ get_or rows i row) where
   here : slice_get rows i ≡ Some row
   here = slice_get_read rows (length rows) i row refl (omega (arith, ap (λ (t : Table). length t.nodes) view, length-map rows (node_seen names attrs))) is
 
@@ -126,8 +126,8 @@ module _ (names : List Characters) (attrs : List AttrRow) (rows : List Row) (are
       seen (λ node. AreNamesOf (finmap.get node.attrs) shown)
       (subst (AreNamesOf (finmap.get (named_attributes names (part_of attrs row.attrs)))) (sym (f ∙ ap (map (name_text names)) e)) are)
 
-  pub value_seen : (name : ℕ) (value : Option ℕ) (part : List AttrRow) (text : Characters) → slice_get table.names name ≡ Some text → StandOnce table.names → part ≡ part_of attrs row.attrs → value ≡ option_map (λ row. row.value) (find (λ row. row.name == name) part) → IfSome (slice_get table.nodes i) (λ node. option_map (text_of table.names) value ≡ finmap.get node.attrs text)
-  value_seen name value part text at once e f =
+  pub value_found : (name : ℕ) (value : Option ℕ) (part : List AttrRow) (text : Characters) → slice_get table.names name ≡ Some text → StandOnce table.names → part ≡ part_of attrs row.attrs → value ≡ option_map (λ row. row.value) (find (λ row. row.name == name) part) → IfSome (slice_get table.nodes i) (λ node. option_map (text_of table.names) value ≡ finmap.get node.attrs text)
+  value_found name value part text at once e f =
       let here : slice_get names name ≡ Some text = ap (λ n. slice_get n name) names_are ∙ at in
       seen (λ node. option_map (text_of table.names) value ≡ finmap.get node.attrs text)
       (subst (λ n. option_map (text_of n) value ≡ finmap.get (named_attributes names (part_of attrs row.attrs)) text) names_are
@@ -158,7 +158,7 @@ module _ (names : List Characters) (attrs : List AttrRow) (rows : List Row) (are
       (ap Some (sym (text_is names value text at)) ∙ (h ∙ (ap (λ l. finmap.find (slice_cmp nat_cmp) atom (map (named_pair names) l)) e ∙ sym (finmap.get-from_entries nat_list_cmp_total (map (named_pair names) (part_of attrs row.attrs)) atom))))
 
 -- two nodes have the same attributes where their rows are equal
-module _ (names : List Characters) (attrs : List AttrRow) (rows : List Row) (are : AreRows names attrs rows) (table : Table) (view : record { names = names; nodes = map (node_seen names attrs) rows } ≡ table) (i j : ℕ) (one other : Row) (l : i < length table.nodes) (m : j < length table.nodes) (is : one ≡ get_or rows i one) (also : other ≡ get_or rows j other) where
+module _ (names : List Characters) (attrs : List AttrRow) (rows : List NodeRow) (are : AreRows names attrs rows) (table : Table) (view : record { names = names; nodes = map (node_seen names attrs) rows } ≡ table) (i j : ℕ) (one other : NodeRow) (l : i < length table.nodes) (m : j < length table.nodes) (is : one ≡ get_or rows i one) (also : other ≡ get_or rows j other) where
   pub same_attributes_seen : (b : Bool) (xs ys : List AttrRow) → StandOnce table.names → xs ≡ part_of attrs one.attrs → ys ≡ part_of attrs other.attrs → (IsTrue b ↔ (xs ≡ ys)) → IfSome (slice_get table.nodes i) (λ n. IfSome (slice_get table.nodes j) (λ m. IsTrue b ↔ (n.attrs ≡ m.attrs)))
   same_attributes_seen b xs ys once e f h =
       seen names attrs rows are table view i one l is (λ n. IfSome (slice_get table.nodes j) (λ m. IsTrue b ↔ (n.attrs ≡ m.attrs)))

@@ -14,7 +14,7 @@ use Rattle.scene_model.specs.Valid.{IsValid}
 use Rattle.scene_model.proofs.Listed.{length-listed}
 use Rattle.scene_model.proofs.TreeOrder.{IsValid-scene_of, numbers-scene_of, length-tree_order, length-scene_of, decides-scene_of, children-scene_of, place_of-scene_of}
 use Rattle.dom_tree.specs.declared.labels.Label.{Label}
-use Rattle.dom_tree.specs.declared.links.Link.{Link}
+use Rattle.dom_tree.specs.declared.links.NodeLink.{NodeLink}
 use Rattle.dom_tree.specs.Kept.{Table}
 use Rattle.dom_tree.specs.Labels.{AreLabels}
 use Rattle.dom_tree.specs.Links.{AreLinks}
@@ -36,7 +36,7 @@ within-Decides x n = (
 )
 
 module _ (list : List Node) (v : IsNodeList list) where
-  links_in_tree : (links : List Link) → AreLinks (listed list) links → AreLinks (scene_of list) links
+  links_in_tree : (links : List NodeLink) → AreLinks (listed list) links → AreLinks (scene_of list) links
   links_in_tree links are =
       let so_many : length (listed list) ≡ length (scene_of list) = length-listed list ∙ sym (length-scene_of list v) in
       record {
@@ -44,7 +44,7 @@ module _ (list : List Node) (v : IsNodeList list) where
         each = λ x l h. are.each x l (omega (arith, so_many)) ∙ (λ i. Some (record { children = sym (children-scene_of list v x) i; place = sym (place_of-scene_of list v x) i }));
       }
 
-  pub whole_of_list : (table : Table) (links : List Link) (before after : List ℕ) (labels : List Label) (lists : List (List Characters)) (order : List ℕ) → table.nodes ≡ list → length list ≤ element_limit → AreLinks (listed list) links → AreTypePlaces (scene_of table.nodes) false before → AreTypePlaces (scene_of table.nodes) true after → StandOnce table.names → AreLabels table lists labels → order ≡ tree_order list → IsWhole table links before after labels lists order
+  pub whole_of_list : (table : Table) (links : List NodeLink) (before after : List ℕ) (labels : List Label) (lists : List (List Characters)) (order : List ℕ) → table.nodes ≡ list → length list ≤ element_limit → AreLinks (listed list) links → AreTypePlaces (scene_of table.nodes) false before → AreTypePlaces (scene_of table.nodes) true after → StandOnce table.names → AreLabels table lists labels → order ≡ tree_order list → IsWhole table links before after labels lists order
   whole_of_list table links before after labels lists order nodes few are types_before types_after once labelled f =
       let same : in_order table.nodes order ≡ scene_of list = ap (λ l. in_order l order) nodes ∙ in_order_of_list list order f in
       let so_many : length list ≡ length table.nodes = ap length (sym nodes) in

@@ -3,7 +3,7 @@ use Rattle.std.proofs.Common.{◌≡◌, ℕ, ◌+◌, ◌<◌, ◌≤◌, List,
 use Rattle.std.proofs.lemmas.List.{map-append, take_more}
 use Rattle.std.proofs.lemmas.Option.{slice_get-map, slice_get_read}
 use Rattle.scene_model.proofs.Lists.{each_weaker}
-use Rattle.dom_tree.specs.declared.links.Link.{Link}
+use Rattle.dom_tree.specs.declared.links.NodeLink.{NodeLink}
 use Rattle.dom_tree.specs.declared.links.LinkRow.{LinkRow}
 use Rattle.dom_tree.specs.Kept.{part_of}
 use Rattle.dom_tree.specs.Links.{AreWithin, link_seen}
@@ -15,7 +15,7 @@ seen_kept : (flat more : List ℕ) (rows : List LinkRow) → AreWithin flat rows
 seen_kept flat more [] are = refl
 seen_kept flat more (row ∷ rows) are = λ i. record { children = part_kept flat more row.children are.0 i; place = row.place } ∷ seen_kept flat more rows are.1 i
 
-module _ (flat later more : List ℕ) (rows longer : List LinkRow) (row : LinkRow) (found : List Link) (k : ℕ) (link : Link) (are : AreWithin flat rows) (seen : map (link_seen flat) rows ≡ take k found) (l : k < length found) (is : link ≡ get_or found k link) (same : more ≡ link.children) (is_first : row.children.first ≡ length flat) (is_count : row.children.count ≡ length more) (is_place : row.place ≡ link.place) (e : later ≡ flat ++ more) (f : longer ≡ rows ++ row ∷ []) where
+module _ (flat later more : List ℕ) (rows longer : List LinkRow) (row : LinkRow) (found : List NodeLink) (k : ℕ) (link : NodeLink) (are : AreWithin flat rows) (seen : map (link_seen flat) rows ≡ take k found) (l : k < length found) (is : link ≡ get_or found k link) (same : more ≡ link.children) (is_first : row.children.first ≡ length flat) (is_count : row.children.count ≡ length more) (is_place : row.place ≡ link.place) (e : later ≡ flat ++ more) (f : longer ≡ rows ++ row ∷ []) where
   pub within_next : AreWithin later longer
   within_next =
       subst (AreWithin later) (sym f) (each-append (λ (row : LinkRow). row.children.first + row.children.count ≤ length later) rows (row ∷ [])
@@ -34,7 +34,7 @@ module _ (flat later more : List ℕ) (rows longer : List LinkRow) (row : LinkRo
       ∙ sym (take_more found k link l ∙ ap (λ x. take k found ++ x ∷ []) (sym is))))
 
 -- what the links show of an element
-module _ (flat : List ℕ) (rows : List LinkRow) (are : AreWithin flat rows) (links : List Link) (view : map (link_seen flat) rows ≡ links) (i : ℕ) (row : LinkRow) (l : i < length rows) (is : row ≡ get_or rows i row) where
+module _ (flat : List ℕ) (rows : List LinkRow) (are : AreWithin flat rows) (links : List NodeLink) (view : map (link_seen flat) rows ≡ links) (i : ℕ) (row : LinkRow) (l : i < length rows) (is : row ≡ get_or rows i row) where
   here : slice_get rows i ≡ Some row
   here = slice_get_read rows (length rows) i row refl l is
 
@@ -44,5 +44,5 @@ module _ (flat : List ℕ) (rows : List LinkRow) (are : AreWithin flat rows) (li
   pub link_at : slice_get links i ≡ Some (link_seen flat row)
   link_at = sym (ap (λ l. slice_get l i) view) ∙ (slice_get-map (link_seen flat) rows i ∙ ap (option_map (link_seen flat)) here)
 
-  pub shown : (P : Link → Type 0) → P (link_seen flat row) → IfSome (slice_get links i) P
+  pub shown : (P : NodeLink → Type 0) → P (link_seen flat row) → IfSome (slice_get links i) P
   shown P h = subst (λ o. IfSome o P) (sym link_at) h

@@ -17,7 +17,7 @@ use Rattle.scene_model.specs.Nodes.{IsParentAt}
 use Rattle.scene_model.proofs.Listed.{parent_at, numbered, element_at-listed_some}
 use Rattle.scene_model.proofs.Numbers.{is_in}
 use Rattle.dom_tree.specs.declared.labels.Label.{Label}
-use Rattle.dom_tree.specs.declared.links.Link.{Link}
+use Rattle.dom_tree.specs.declared.links.NodeLink.{NodeLink}
 use Rattle.dom_tree.specs.Classes.{list_of}
 use Rattle.dom_tree.specs.ElementNames.{AreNamesOf}
 use Rattle.dom_tree.specs.Kept.{Table, text_of}
@@ -38,7 +38,7 @@ element_at-in_order nodes order x h =
     let some : is_some (cond (is_in x order) (element_at (listed nodes) x) None) ≡ true = ap is_some (sym at) ∙ (sym (is_element-at (in_order nodes order) x) ∙ h) in
     at ∙ kept_some (is_in x order) (element_at (listed nodes) x) some
 
-module _ (table : Table) (links : List Link) (before after : List ℕ) (labels : List Label) (lists : List (List Characters)) (order : List ℕ) (now : Document) (x : ℕ) (whole : IsWhole table links before after labels lists order) (view : document table order ≡ now) (is : IsElement now.elements x) where
+module _ (table : Table) (links : List NodeLink) (before after : List ℕ) (labels : List Label) (lists : List (List Characters)) (order : List ℕ) (now : Document) (x : ℕ) (whole : IsWhole table links before after labels lists order) (view : document table order ≡ now) (is : IsElement now.elements x) where
   there : IsElement (in_order table.nodes order) x
   there = ap (λ (d : Document). is_element d.elements x) view ∙ is
 
@@ -110,10 +110,10 @@ module _ (table : Table) (links : List Link) (before after : List ℕ) (labels :
       whole.links_of.each x within.0 (omega (arith, link_within, whole.links_of.count)) ∙ ap (λ (d : Document). Some (link_of d.elements x)) view
 
   pub children_are : (shown : List ℕ) → IfSome (slice_get links (x - 1)) (λ link. shown ≡ link.children) → shown ≡ children now.elements x
-  children_are shown h = subst (λ o. IfSome o (λ (link : Link). shown ≡ link.children)) linked h
+  children_are shown h = subst (λ o. IfSome o (λ (link : NodeLink). shown ≡ link.children)) linked h
 
   pub place_is : (place : ℕ) → IfSome (slice_get links (x - 1)) (λ link. place ≡ link.place) → place ≡ place_of now.elements x
-  place_is place h = subst (λ o. IfSome o (λ (link : Link). place ≡ link.place)) linked h
+  place_is place h = subst (λ o. IfSome o (λ (link : NodeLink). place ≡ link.place)) linked h
 
   -- places among the siblings of its type
 
@@ -172,7 +172,7 @@ module _ (table : Table) (links : List Link) (before after : List ℕ) (labels :
         ∙ ap (λ t. option_and_then id_text (attribute_of now.elements x t)) (chars-ascii (codes "id") refl))
 
 -- the attributes of two elements
-module _ (table : Table) (links : List Link) (before after : List ℕ) (labels : List Label) (lists : List (List Characters)) (order : List ℕ) (now : Document) (x y : ℕ) (whole : IsWhole table links before after labels lists order) (view : document table order ≡ now) (is : IsElement now.elements x) (also : IsElement now.elements y) where
+module _ (table : Table) (links : List NodeLink) (before after : List ℕ) (labels : List Label) (lists : List (List Characters)) (order : List ℕ) (now : Document) (x y : ℕ) (whole : IsWhole table links before after labels lists order) (view : document table order ≡ now) (is : IsElement now.elements x) (also : IsElement now.elements y) where
   pub same_attributes_are : (b : Bool) → IfSome (slice_get table.nodes (x - 1)) (λ n. IfSome (slice_get table.nodes (y - 1)) (λ m. IsTrue b ↔ (n.attrs ≡ m.attrs))) → IsTrue b ↔ (attributes_of now.elements x ≡ attributes_of now.elements y)
   same_attributes_are b h =
       let (n, at, rest) = item table links before after labels lists order now x whole view is (λ n. IfSome (slice_get table.nodes (y - 1)) (λ m. IsTrue b ↔ (n.attrs ≡ m.attrs))) h in

@@ -3,7 +3,7 @@ use Rattle.std.proofs.Common.{◌≡◌, ◌≢◌, ℕ, zero, suc, ◌+◌, ◌
 use Rattle.std.specs.List.{prefix_len, insert}
 use Rattle.std.proofs.lemmas.Bool.{cond-true, cond-false, eq-eqb, ne_eqb, eqb-false, eqb-true}
 use Rattle.std.proofs.lemmas.Option.{get_or_from_slice_get, slice_get_within, slice_get_read}
-use Rattle.dom_tree.specs.declared.columns.AttrRow.{AttrRow}
+use Rattle.dom_tree.specs.declared.node_columns.AttrRow.{AttrRow}
 use Rattle.dom_tree.specs.Kept.{put_row}
 
 abbrev pub place : ℕ → List AttrRow → ℕ

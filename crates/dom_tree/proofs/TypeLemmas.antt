@@ -21,7 +21,7 @@ use Rattle.scene_model.proofs.Numbers.{is_in, copies, differs, each_is_in, in_co
 use Rattle.scene_model.proofs.Siblings.{left_here, once_before, right_of_split, siblings-children}
 use Rattle.scene_model.proofs.TreeOrder.{IsValid-scene_of, children-scene_of, length-scene_of, tag_of-scene_of, within-scene_of}
 use Rattle.stylo_base.specs.NameList.{StandOnce}
-use Rattle.dom_tree.specs.declared.links.Link.{Link}
+use Rattle.dom_tree.specs.declared.links.NodeLink.{NodeLink}
 use Rattle.dom_tree.specs.Kept.{text_of}
 use Rattle.dom_tree.specs.Links.{AreLinks}
 use Rattle.dom_tree.specs.TypePlaces.{AreSiblings, AreTypePlaces, AreWritten, IsTally, has_tag_named}
@@ -287,7 +287,7 @@ none_tallied es names counts all = record {
 
 -- the siblings that were read
 
-pub read_children : (nodes : List Node) (links : List Link) (k : ℕ) (shown : List ℕ) → IsNodeList nodes → AreLinks (listed nodes) links → k < length nodes → IfSome (slice_get links (k + 1 - 1)) (λ link. shown ≡ link.children) → shown ≡ children (scene_of nodes) (k + 1)
+pub read_children : (nodes : List Node) (links : List NodeLink) (k : ℕ) (shown : List ℕ) → IsNodeList nodes → AreLinks (listed nodes) links → k < length nodes → IfSome (slice_get links (k + 1 - 1)) (λ link. shown ≡ link.children) → shown ≡ children (scene_of nodes) (k + 1)
 read_children nodes links k shown v are l told =
     linked_children nodes links (k + 1) shown are (omega arith, omega (arith, l)) told ∙ sym (children-scene_of nodes v (k + 1))
 

@@ -8,7 +8,7 @@ use Rattle.scene_model.specs.Nodes.{Node, IsNodeList, listed, subtree, tree_orde
 use Rattle.scene_model.proofs.Lists.{each_weaker}
 use Rattle.scene_model.proofs.Listed.{length-listed, each_child}
 use Rattle.scene_model.proofs.TreeOrder.{subtree-listed}
-use Rattle.dom_tree.specs.declared.links.Link.{Link}
+use Rattle.dom_tree.specs.declared.links.NodeLink.{NodeLink}
 use Rattle.dom_tree.specs.Links.{AreLinks}
 use Rattle.base_model.proofs.Lists.{each-append}
 
@@ -65,6 +65,6 @@ walk_ends list order ahead walk e =
     sym (append-nil order) ∙ (ap (λ l. order ++ still list l) (sym e) ∙ walk.whole)
 
 -- the children that the links have
-pub linked_children : (list : List Node) (links : List Link) (x : ℕ) (shown : List ℕ) → AreLinks (listed list) links → (0 < x) × (x ≤ length list) → IfSome (slice_get links (x - 1)) (λ link. shown ≡ link.children) → shown ≡ children (listed list) x
+pub linked_children : (list : List Node) (links : List NodeLink) (x : ℕ) (shown : List ℕ) → AreLinks (listed list) links → (0 < x) × (x ≤ length list) → IfSome (slice_get links (x - 1)) (λ link. shown ≡ link.children) → shown ≡ children (listed list) x
 linked_children list links x shown are inside is =
-    subst (λ o. IfSome o (λ (link : Link). shown ≡ link.children)) (are.each x inside.0 (omega (arith, length-listed list, inside.1))) is
+    subst (λ o. IfSome o (λ (link : NodeLink). shown ≡ link.children)) (are.each x inside.0 (omega (arith, length-listed list, inside.1))) is

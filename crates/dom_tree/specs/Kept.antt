@@ -9,8 +9,8 @@ use Rattle.scene_model.specs.Element.{Characters, Attributes}
 use Rattle.scene_model.specs.Nodes.{Node, nodes_code}
 use Rattle.stylo_base.specs.NameList.{is_among}
 use Rattle.dom_tree.specs.declared.span.Span.{Span}
-use Rattle.dom_tree.specs.declared.columns.AttrRow.{AttrRow}
-use Rattle.dom_tree.specs.declared.columns.Row.{Row}
+use Rattle.dom_tree.specs.declared.node_columns.AttrRow.{AttrRow}
+use Rattle.dom_tree.specs.declared.node_columns.NodeRow.{NodeRow}
 use Rattle.dom_tree.specs.View.{states_of}
 
 -- the text of a name
@@ -72,7 +72,7 @@ table_code =
     (λ p. record { names = p.0; nodes = p.1 })
     (λ _. refl)
 
-abbrev pub node_seen : List Characters → List AttrRow → Row → Node
+abbrev pub node_seen : List Characters → List AttrRow → NodeRow → Node
 node_seen names attrs row = record {
   parent = row.parent;
   tag = text_of names row.tag;
@@ -80,12 +80,12 @@ node_seen names attrs row = record {
   states = states_of row.states;
 }
 
-pub record IsRow (names : List Characters) (attrs : List AttrRow) (row : Row) : Type 0 where
+pub record IsRow (names : List Characters) (attrs : List AttrRow) (row : NodeRow) : Type 0 where
   pub tag : row.tag < length names
   pub within : row.attrs.first + row.attrs.count ≤ length attrs
   pub attributes : AreAttrs names (part_of attrs row.attrs)
 
-abbrev pub AreRows : List Characters → List AttrRow → List Row → Type 0
+abbrev pub AreRows : List Characters → List AttrRow → List NodeRow → Type 0
 AreRows names attrs rows = AllByRecursion (IsRow names attrs) rows
 
 -- names that were given keep their texts

@@ -9,7 +9,7 @@ use Rattle.scene_model.specs.Document.{Document}
 use Rattle.scene_model.specs.Nodes.{Node, IsNodeList, listed}
 use Rattle.scene_model.specs.Valid.{IsValid}
 use Rattle.dom_tree.specs.declared.labels.Label.{Label}
-use Rattle.dom_tree.specs.declared.links.Link.{Link}
+use Rattle.dom_tree.specs.declared.links.NodeLink.{NodeLink}
 use Rattle.dom_tree.specs.Kept.{Table}
 use Rattle.dom_tree.specs.Labels.{AreLabels}
 use Rattle.dom_tree.specs.Links.{AreLinks}
@@ -25,7 +25,7 @@ document table order = record { elements = in_order table.nodes order; last = le
 
 -- what holds of what is kept: each node is an element and found at its number, and the links, the places among the
 -- siblings of its type, from the first and from the last, and the labels are its own
-pub record IsWhole (table : Table) (links : List Link) (before after : List ℕ) (labels : List Label)
+pub record IsWhole (table : Table) (links : List NodeLink) (before after : List ℕ) (labels : List Label)
     (lists : List (List Characters)) (order : List ℕ) : Type 0 where
   pub few : length table.nodes ≤ element_limit
   pub shape : IsNodeList table.nodes

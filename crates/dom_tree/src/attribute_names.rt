@@ -5,7 +5,7 @@ ghost use Rattle.std.specs.Str.{chars};
 ghost use Rattle.stylo_base.specs.NameKey.{key_of};
 ghost use Rattle.dom_tree.specs.Kept.{HaveNames, name_text};
 
-use crate::columns::AttrRow;
+use crate::node_columns::AttrRow;
 use std::marker::Model;
 use stylo_base::Names;
 

@@ -16,11 +16,11 @@ ghost use Rattle.dom_tree.specs.NameBits.{HasNameBits};
 use crate::attribute_names::AttributeNames;
 use crate::class_lists::ClassLists;
 use crate::class_names::ClassNames;
-use crate::columns::Columns;
 use crate::element_names::ElementNames;
 use crate::labels::{Label, label_nodes};
 use crate::links::Links;
 use crate::name_bits::{bit_if_some, bit_of};
+use crate::node_columns::NodeColumns;
 use crate::nodes::NodeList;
 use crate::start::walk;
 use crate::type_places::{TypePlaces, place_types};
@@ -33,7 +33,7 @@ use stylo_base::{Atom, NoMemory, State};
 #[derive(Drop)]
 pub struct Doc {
     /// By number, from 1.
-    columns: Columns,
+    columns: NodeColumns,
     /// By number, from 1.
     links: Links,
     types: TypePlaces,
@@ -185,7 +185,7 @@ impl Doc {
 
     /// Whether `x` has this tag.
     #[inline]
-    pub fn has_tag(&self, x: u32, tag: &Atom) -> bool
+    pub fn has_tag_atom(&self, x: u32, tag: &Atom) -> bool
         requires { IsElement self.now.elements x }
         ensures { result ≡ same_text (tag_of self.now.elements x) tag.now }
     {

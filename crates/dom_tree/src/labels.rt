@@ -8,7 +8,7 @@ ghost use Rattle.dom_tree.specs.Kept.{IsNameOf, text_of};
 ghost use Rattle.dom_tree.specs.Labels.{AreCuts, AreLabels, KeepsLists, class_words, id_text};
 
 use crate::class_lists::ClassLists;
-use crate::columns::Columns;
+use crate::node_columns::NodeColumns;
 use std::alloc::Global;
 use stylo_base::{Name, Names, NoMemory};
 
@@ -32,7 +32,7 @@ struct Asked {
 /// value of `class`.
 pub(crate) fn label_nodes(
     alloc: Global,
-    columns: &Columns,
+    columns: &NodeColumns,
     lists: &mut ClassLists,
 ) -> Result<Vec<Label>, NoMemory>
     ensures labels { IfOk result (λ labels. AreLabels columns.now lists.new labels.items) }
@@ -50,7 +50,7 @@ pub(crate) fn label_nodes(
 /// The labels of all nodes, where the attributes that are asked for have these names.
 fn label_rows(
     alloc: Global,
-    columns: &Columns,
+    columns: &NodeColumns,
     asked: &Asked,
     lists: &mut ClassLists,
     cuts: &mut Vec<Option<u32>>,

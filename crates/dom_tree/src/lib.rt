@@ -4,7 +4,6 @@
 mod attribute_names;
 mod class_lists;
 mod class_names;
-mod columns;
 mod depths;
 mod doc;
 mod element_names;
@@ -12,6 +11,7 @@ mod labels;
 mod links;
 mod name_bits;
 mod naming;
+mod node_columns;
 mod nodes;
 mod numbers;
 mod span;

@@ -14,7 +14,7 @@ use stylo_base::NoMemory;
 
 /// The children of an element, in tree order, and its sibling index.
 #[derive(Drop)]
-pub(crate) struct Link {
+pub(crate) struct NodeLink {
     pub children: Numbers,
     /// How many siblings are before it.
     pub place: u32,
@@ -36,10 +36,10 @@ pub(crate) struct Links {
 
 impl Model for Links {
     ghost use Rattle.std.specs.Prelude.{List, map as mapped};
-    ghost use Rattle.dom_tree.specs.declared.links.Link.{Link};
+    ghost use Rattle.dom_tree.specs.declared.links.NodeLink.{NodeLink};
     ghost use Rattle.dom_tree.specs.Links.{AreWithin, link_seen};
 
-    ghost Value = { List Link };
+    ghost Value = { List NodeLink };
 
     ghost view = { λ l. mapped (link_seen l.children.items) l.rows.items };
 
@@ -57,7 +57,7 @@ impl Links {
     }
 
     /// These links, with the children in one flat list.
-    fn of_links(alloc: Global, found: &[Link]) -> Result<Links, NoMemory>
+    fn of_links(alloc: Global, found: &[NodeLink]) -> Result<Links, NoMemory>
         ensures { IfOk result (λ links. links ≡ found.now) }
     {
         let mut rows = Vec::with_capacity(alloc, found.len())?;
@@ -103,7 +103,7 @@ impl Links {
 }
 
 /// The children and the sibling index of each node, by number.
-fn link_nodes(alloc: Global, list: &NodeList) -> Result<Vec<Link>, NoMemory>
+fn link_nodes(alloc: Global, list: &NodeList) -> Result<Vec<NodeLink>, NoMemory>
     requires { length list.now ≤ element_limit }
     ensures { IfOk result (λ links. AreLinks (listed list.now) links.items) }
 {
@@ -114,7 +114,7 @@ fn link_nodes(alloc: Global, list: &NodeList) -> Result<Vec<Link>, NoMemory>
             Some(parent) => append_child(&mut links, parent as usize, number)?,
             None => 0,
         };
-        links.push(Link {
+        links.push(NodeLink {
             children: Numbers::new(alloc),
             place,
         })?;
@@ -123,7 +123,7 @@ fn link_nodes(alloc: Global, list: &NodeList) -> Result<Vec<Link>, NoMemory>
 }
 
 /// Appends a child to the children of the node at the index `parent`. The answer is its sibling index.
-fn append_child(links: &mut Vec<Link>, parent: usize, child: u32) -> Result<u32, NoMemory>
+fn append_child(links: &mut Vec<NodeLink>, parent: usize, child: u32) -> Result<u32, NoMemory>
     requires there { parent < length links.old.items }
     requires few { IfSome (slice_get links.old.items parent) (λ link. length link.children < 2 ^ 32) }
     ensures place { IfOk result (λ place.

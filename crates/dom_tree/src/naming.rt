@@ -5,7 +5,7 @@ ghost use Rattle.std.specs.List.{AllByRecursion, prefix_len};
 ghost use Rattle.dom_tree.specs.View.{attributes_of};
 ghost use Rattle.dom_tree.specs.Kept.{AreAttrs, KeepsTexts, named_attributes, put_row};
 
-use crate::columns::AttrRow;
+use crate::node_columns::AttrRow;
 use crate::nodes::Attr;
 use stylo_base::{Name, Names, NoMemory};
 

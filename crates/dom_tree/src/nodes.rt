@@ -4,7 +4,7 @@ ghost use Rattle.std.specs.Prelude.{◌≡◌, ◌<◌, ◌++◌, ◌∷◌, [],
 ghost use Rattle.scene_model.specs.Nodes.{IsNodeList};
 ghost use Rattle.dom_tree.specs.View.{node_of};
 
-use crate::columns::Columns;
+use crate::node_columns::NodeColumns;
 use std::alloc::Global;
 use std::marker::Model;
 use stylo_base::NoMemory;
@@ -36,7 +36,7 @@ pub struct NodeInput<'a> {
 /// parent. Contracts see the list of its nodes.
 #[derive(Drop)]
 pub struct NodeList {
-    columns: Columns,
+    columns: NodeColumns,
 }
 
 impl Model for NodeList {
@@ -57,7 +57,7 @@ impl NodeList {
     pub fn of_root(alloc: Global, root: NodeInput) -> Result<NodeList, NoMemory>
         ensures { IfOk result (λ list. list ≡ node_of None root.entry ∷ []) }
     {
-        let mut columns = Columns::new(alloc);
+        let mut columns = NodeColumns::new(alloc);
         columns.push(None, root)?;
         Ok(NodeList { columns })
     }
@@ -97,7 +97,7 @@ impl NodeList {
     }
 
     /// What is kept of the nodes.
-    pub(crate) fn into_columns(self) -> Columns
+    pub(crate) fn into_columns(self) -> NodeColumns
         ensures nodes { result.nodes ≡ self }
         ensures shape { IsNodeList self }
     {

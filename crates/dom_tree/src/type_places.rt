@@ -8,8 +8,8 @@ ghost use Rattle.stylo_base.specs.NameList.{StandOnce};
 ghost use Rattle.dom_tree.specs.Links.{AreLinks};
 ghost use Rattle.dom_tree.specs.TypePlaces.{AreSiblings, AreTypePlaces, AreWritten, IsTally};
 
-use crate::columns::Columns;
 use crate::links::Links;
+use crate::node_columns::NodeColumns;
 use std::alloc::Global;
 use stylo_base::NoMemory;
 
@@ -24,7 +24,7 @@ pub(crate) struct TypePlaces {
 /// those of its type that are before it, and then, as they are counted down again, those after it.
 pub(crate) fn place_types(
     alloc: Global,
-    columns: &Columns,
+    columns: &NodeColumns,
     links: &Links,
 ) -> Result<TypePlaces, NoMemory>
     requires few { length columns.now.nodes ≤ element_limit }
@@ -46,7 +46,7 @@ pub(crate) fn place_types(
 }
 
 /// Counts siblings by tag, from none. Each is told how many of its type were before it.
-fn count_up(columns: &Columns, siblings: &[u32], counts: &mut Vec<u32>, before: &mut Vec<u32>)
+fn count_up(columns: &NodeColumns, siblings: &[u32], counts: &mut Vec<u32>, before: &mut Vec<u32>)
     requires shape { IsNodeList columns.now.nodes }
     requires once { StandOnce columns.now.names }
     requires siblings { AreSiblings (scene_of columns.now.nodes) siblings.now }
@@ -66,7 +66,7 @@ fn count_up(columns: &Columns, siblings: &[u32], counts: &mut Vec<u32>, before: 
 }
 
 /// Counts siblings by tag down to none. Each is told how many of its type are still to come.
-fn count_down(columns: &Columns, siblings: &[u32], counts: &mut Vec<u32>, after: &mut Vec<u32>)
+fn count_down(columns: &NodeColumns, siblings: &[u32], counts: &mut Vec<u32>, after: &mut Vec<u32>)
     requires shape { IsNodeList columns.now.nodes }
     requires once { StandOnce columns.now.names }
     requires siblings { AreSiblings (scene_of columns.now.nodes) siblings.now }

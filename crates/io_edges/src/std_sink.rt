@@ -92,7 +92,7 @@ impl<W: Write + Drop> Sink for StdSink<W> {
     }
 }
 
-// One more, as far as 64 bits can count.
+/// One more, as far as 64 bits can count.
 fn one_more(faults: u64) -> u64
     ensures { result ≡ next_count faults }
 {

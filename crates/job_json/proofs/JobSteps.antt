@@ -16,7 +16,7 @@ use Rattle.job_json.specs.Values.{whole, is_one, is_empty_list, is_version, node
 use Rattle.job_json.specs.Fits.{are_nodes_within, are_sheets_within}
 use Rattle.job_json.specs.Within.{nodes_within, sheets_within, job_within}
 use Rattle.job_json.specs.Fits.{node_items, items_or_none}
-use Rattle.job_json.specs.Within.{nodes_in}
+use Rattle.job_json.specs.Within.{node_list_within}
 use Rattle.job_json.specs.Kept.{IsJobOf}
 
 abbrev Sheets : Type 0
@@ -51,7 +51,7 @@ items_within : (items : Option Items) (sheets : Option Sheets)
 items_within None sheets = refl
 items_within (Some js) sheets = parts_within (are_nodes_within js) are_sheets_within (nodes_of js) sheets
 
-joined : (o : Option Data) → option_and_then nodes_within (option_and_then as_array o) ≡ option_and_then nodes_in o
+joined : (o : Option Data) → option_and_then nodes_within (option_and_then as_array o) ≡ option_and_then node_list_within o
 joined None = refl
 joined (Some d) = refl
 
@@ -67,7 +67,7 @@ job_is s ms kept =
     let sheets = sheets_from (get_member (codes "sheets") ms) in
     let good = is_one (option_and_then whole (get_member (codes "version") ms)) && is_empty_list (get_member (codes "batches") ms) in
     let inner : option_and_then (λ (j : Job). cond (are_nodes_within (items_or_none items) j.nodes && are_sheets_within j.sheets) (Some j) None) (from_items items sheets)
-    ≡ job_of (option_and_then nodes_in (get_member (codes "nodes") ms)) (sheets_within (get_member (codes "sheets") ms)) =
+    ≡ job_of (option_and_then node_list_within (get_member (codes "nodes") ms)) (sheets_within (get_member (codes "sheets") ms)) =
     items_within items sheets ∙ ap (λ o. job_of o (sheets_within (get_member (codes "sheets") ms))) (joined (get_member (codes "nodes") ms)) in
     outline_within good items (from_items items sheets) ∙ (ap (λ o. cond good o None) inner ∙ rw (kept.version, kept.batches, kept.nodes, kept.sheets) refl)
 

@@ -12,7 +12,7 @@ use Rattle.scene_model.specs.Nodes.{Node}
 use Rattle.job_json.specs.Values.{node_at, nodes_from, nodes_of}
 use Rattle.job_json.specs.Fits.{are_attrs_within, are_items_within, are_depths_within, are_nodes_within}
 use Rattle.job_json.specs.Within.{nodes_within}
-use Rattle.job_json.specs.Within.{node_within, nodes_in}
+use Rattle.job_json.specs.Within.{node_within, node_list_within}
 use Rattle.job_json.specs.declared.node_list.Nodes.{Nodes}
 use Rattle.job_json.specs.Kept.{AreNodesOf, AreGoodNodes, HasNodes, IsAppended, flat_nodes, nodes_or_none}
 use Rattle.job_json.proofs.SheetSteps.{none_kept}
@@ -164,11 +164,11 @@ nodes_end (d ∷ ds) (Some l) good some =
     let fits : nat_le (length l) element_limit ≡ true = let few = good.few in let count = good.count in grind (arith, nat_tests) in
     ap (option_and_then (λ ns. cond (are_nodes_within (items_of (d ∷ ds)) ns) (Some ns) None)) good.said ∙ rw (fits, good.within) refl
 
-pub nodes_of_array : (d : Data) (ds : List Data) (s : Nodes) → AreNodesOf s ds → as_array d ≡ Some (items_of ds) → s.is_good ≡ true → nodes_in d ≡ option_and_then flat_nodes s.list
+pub nodes_of_array : (d : Data) (ds : List Data) (s : Nodes) → AreNodesOf s ds → as_array d ≡ Some (items_of ds) → s.is_good ≡ true → node_list_within d ≡ option_and_then flat_nodes s.list
 nodes_of_array d ds s kept is good = ap (option_and_then nodes_within) is ∙ nodes_end ds s.list (kept.good good).0 (kept.good good).1
 
-pub nodes_past : (d : Data) (ds : List Data) (s : Nodes) → AreNodesOf s ds → as_array d ≡ Some (items_of ds) → s.is_good ≡ false → nodes_in d ≡ None
+pub nodes_past : (d : Data) (ds : List Data) (s : Nodes) → AreNodesOf s ds → as_array d ≡ Some (items_of ds) → s.is_good ≡ false → node_list_within d ≡ None
 nodes_past d ds s kept is bad = ap (option_and_then nodes_within) is ∙ (ap (λ es. nodes_within (items_of es)) (sym (append-nil ds)) ∙ kept.bad bad [])
 
-pub no_nodes : (d : Data) → as_array d ≡ None → nodes_in d ≡ None
+pub no_nodes : (d : Data) → as_array d ≡ None → node_list_within d ≡ None
 no_nodes d is = ap (option_and_then nodes_within) is

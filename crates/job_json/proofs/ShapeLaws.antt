@@ -11,7 +11,7 @@ use Rattle.layer_order.specs.declared.origin.Origin.{Origin}
 use Rattle.layer_order.specs.declared.sheet_input.SheetInput.{SheetInput}
 use Rattle.job_json.specs.declared.Job.{Job}
 use Rattle.job_json.specs.Checked.{Checked, got, bad, ◌>>=◌, wanted, right, step_to}
-use Rattle.job_json.specs.Sheets.{origin_from, enabled_from, sheet_from, sheets_from, sheets_in as sheets_old}
+use Rattle.job_json.specs.Sheets.{origin_from, enabled_from, sheet_from, sheets_from, sheets_from_items as sheets_old}
 use Rattle.job_json.specs.Values as old
 use Rattle.job_json.specs.Shape as shape
 

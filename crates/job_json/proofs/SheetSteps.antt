@@ -11,10 +11,10 @@ use Rattle.serde_json.specs.Find.{as_array}
 use Rattle.serde_json.specs.View.{items_of}
 use Rattle.base_model.specs.Limits.{sheet_limit}
 use Rattle.layer_order.specs.declared.sheet_input.SheetInput.{SheetInput}
-use Rattle.job_json.specs.Sheets.{sheet_from, sheets_in}
+use Rattle.job_json.specs.Sheets.{sheet_from, sheets_from_items}
 use Rattle.job_json.specs.Fits.{is_text_within, are_sheets_within}
 use Rattle.job_json.specs.Within.{sheets_within}
-use Rattle.job_json.specs.declared.sheets.Sheets.{Sheets}
+use Rattle.job_json.specs.declared.sheet_items.SheetItems.{SheetItems}
 use Rattle.job_json.specs.Kept.{AreSheetsOf}
 
 abbrev cons_all : Option SheetInput → Option (List SheetInput) → Option (List SheetInput)
@@ -34,9 +34,9 @@ join_cons (Some s) None b = refl
 join_cons (Some s) (Some l) None = refl
 join_cons (Some s) (Some l) (Some r) = refl
 
-sheets_in-append : (ds es : List Data) → sheets_in (items_of (ds ++ es)) ≡ join (sheets_in (items_of ds)) (sheets_in (items_of es))
-sheets_in-append [] es = join_nothing (sheets_in (items_of es))
-sheets_in-append (d ∷ ds) es = ap (cons_all (sheet_from d)) (sheets_in-append ds es) ∙ join_cons (sheet_from d) (sheets_in (items_of ds)) (sheets_in (items_of es))
+sheets_from_items-append : (ds es : List Data) → sheets_from_items (items_of (ds ++ es)) ≡ join (sheets_from_items (items_of ds)) (sheets_from_items (items_of es))
+sheets_from_items-append [] es = join_nothing (sheets_from_items (items_of es))
+sheets_from_items-append (d ∷ ds) es = ap (cons_all (sheet_from d)) (sheets_from_items-append ds es) ∙ join_cons (sheet_from d) (sheets_from_items (items_of ds)) (sheets_from_items (items_of es))
 
 pub none_kept : {A : Type 0} (p : A → Bool) (o : Option A) → ((a : A) → o ≡ Some a → p a ≡ false) → option_and_then (λ a. cond (p a) (Some a) None) o ≡ None
 none_kept p None h = refl
@@ -77,9 +77,9 @@ one_more a s few within fits =
 
 -- ---- a sheet after others
 
-module _ (old new : Sheets) (ds : List Data) (d : Data) (kept : AreSheetsOf old ds) where
-  split : (more : List Data) → sheets_in (items_of ((ds ++ d ∷ []) ++ more)) ≡ join (sheets_in (items_of ds)) (cons_all (sheet_from d) (sheets_in (items_of more)))
-  split more = ap (λ es. sheets_in (items_of es)) (append_assoc ds (d ∷ []) more) ∙ sheets_in-append ds (d ∷ more)
+module _ (old new : SheetItems) (ds : List Data) (d : Data) (kept : AreSheetsOf old ds) where
+  split : (more : List Data) → sheets_from_items (items_of ((ds ++ d ∷ []) ++ more)) ≡ join (sheets_from_items (items_of ds)) (cons_all (sheet_from d) (sheets_from_items (items_of more)))
+  split more = ap (λ es. sheets_from_items (items_of es)) (append_assoc ds (d ∷ []) more) ∙ sheets_from_items-append ds (d ∷ more)
 
   past_more : old.is_good ≡ false → (more : List Data) → sheets_within (Some (array (items_of ((ds ++ d ∷ []) ++ more)))) ≡ None
   past_more bad more = ap (λ es. sheets_within (Some (array (items_of es)))) (append_assoc ds (d ∷ []) more) ∙ kept.bad bad (d ∷ more)
@@ -87,8 +87,8 @@ module _ (old new : Sheets) (ds : List Data) (d : Data) (kept : AreSheetsOf old 
   many_more : (b : Bool) → old.is_good ≡ b → sheet_limit ≤ length old.list.items → (more : List Data) → sheets_within (Some (array (items_of ((ds ++ d ∷ []) ++ more)))) ≡ None
   many_more false is some more = past_more is more
   many_more true is some more =
-      none_kept are_sheets_within (sheets_in (items_of ((ds ++ d ∷ []) ++ more))) (λ l e.
-      too_many old.list.items (sheet_from d) (sheets_in (items_of more)) l some (ap (λ o. join o (cons_all (sheet_from d) (sheets_in (items_of more)))) (sym (kept.good is).0) ∙ (sym (split more) ∙ e)))
+      none_kept are_sheets_within (sheets_from_items (items_of ((ds ++ d ∷ []) ++ more))) (λ l e.
+      too_many old.list.items (sheet_from d) (sheets_from_items (items_of more)) l some (ap (λ o. join o (cons_all (sheet_from d) (sheets_from_items (items_of more)))) (sym (kept.good is).0) ∙ (sym (split more) ∙ e)))
 
   pub sheets_full : new.is_good ≡ false → old.is_good ≡ false ⊎ sheet_limit ≤ length old.list.items → AreSheetsOf new (ds ++ d ∷ [])
   sheets_full is (inl bad) = record { good = λ e. absurd (true≢false (sym e ∙ is)); bad = λ e. past_more bad }
@@ -97,13 +97,13 @@ module _ (old new : Sheets) (ds : List Data) (d : Data) (kept : AreSheetsOf old 
   pub no_sheet : new.is_good ≡ false → sheet_from d ≡ None → AreSheetsOf new (ds ++ d ∷ [])
   no_sheet is none = record {
     good = λ e. absurd (true≢false (sym e ∙ is));
-    bad = λ e more. ap (option_and_then (λ l. cond (are_sheets_within l) (Some l) None)) (split more ∙ (ap (λ o. join (sheets_in (items_of ds)) (cons_all o (sheets_in (items_of more)))) none ∙ join_no_first (sheets_in (items_of ds)) (sheets_in (items_of more))));
+    bad = λ e more. ap (option_and_then (λ l. cond (are_sheets_within l) (Some l) None)) (split more ∙ (ap (λ o. join (sheets_from_items (items_of ds)) (cons_all o (sheets_from_items (items_of more)))) none ∙ join_no_first (sheets_from_items (items_of ds)) (sheets_from_items (items_of more))));
   }
 
   sheet_at : (b : Bool) (s : SheetInput) → new.is_good ≡ b → is_text_within s ≡ b → old.is_good ≡ true → length old.list.items < sheet_limit → sheet_from d ≡ Some s → new.list.items ≡ old.list.items ++ s ∷ [] → AreSheetsOf new (ds ++ d ∷ [])
   sheet_at true s is fits good few said list = record {
     good = λ e. (
-      sheets_in-append ds (d ∷ []) ∙ (ap₂ (λ o f. join o (cons_all f (Some []))) (kept.good good).0 said ∙ ap (λ l. Some l) (sym list)),
+      sheets_from_items-append ds (d ∷ []) ∙ (ap₂ (λ o f. join o (cons_all f (Some []))) (kept.good good).0 said ∙ ap (λ l. Some l) (sym list)),
       ap are_sheets_within list ∙ one_more old.list.items s few (kept.good good).1 fits,
     );
     bad = λ e. absurd (true≢false (sym is ∙ e));
@@ -111,8 +111,8 @@ module _ (old new : Sheets) (ds : List Data) (d : Data) (kept : AreSheetsOf old 
   sheet_at false s is long good few said list = record {
     good = λ e. absurd (true≢false (sym e ∙ is));
     bad = λ e more.
-        none_kept are_sheets_within (sheets_in (items_of ((ds ++ d ∷ []) ++ more))) (λ l f.
-        too_long old.list.items s (sheets_in (items_of more)) l long (ap₂ (λ o g. join o (cons_all g (sheets_in (items_of more)))) (sym (kept.good good).0) (sym said) ∙ (sym (split more) ∙ f)));
+        none_kept are_sheets_within (sheets_from_items (items_of ((ds ++ d ∷ []) ++ more))) (λ l f.
+        too_long old.list.items s (sheets_from_items (items_of more)) l long (ap₂ (λ o g. join o (cons_all g (sheets_from_items (items_of more)))) (sym (kept.good good).0) (sym said) ∙ (sym (split more) ∙ f)));
   }
 
   pub one_sheet : (s : SheetInput) → new.is_good ≡ is_text_within s → old.is_good ≡ true → length old.list.items < sheet_limit → sheet_from d ≡ Some s → new.list.items ≡ old.list.items ++ s ∷ [] → AreSheetsOf new (ds ++ d ∷ [])
@@ -120,13 +120,13 @@ module _ (old new : Sheets) (ds : List Data) (d : Data) (kept : AreSheetsOf old 
 
 -- ---- the whole list
 
-pub sheets_of_array : (d : Data) (ds : List Data) (list : List SheetInput) → as_array d ≡ Some (items_of ds) → sheets_in (items_of ds) ≡ Some list → are_sheets_within list ≡ true → sheets_within (Some d) ≡ Some list
+pub sheets_of_array : (d : Data) (ds : List Data) (list : List SheetInput) → as_array d ≡ Some (items_of ds) → sheets_from_items (items_of ds) ≡ Some list → are_sheets_within list ≡ true → sheets_within (Some d) ≡ Some list
 sheets_of_array d ds list is said within =
-    ap (λ o. option_and_then (λ l. cond (are_sheets_within l) (Some l) None) (option_and_then sheets_in o)) is ∙ (ap (option_and_then (λ l. cond (are_sheets_within l) (Some l) None)) said ∙ rw within refl)
+    ap (λ o. option_and_then (λ l. cond (are_sheets_within l) (Some l) None) (option_and_then sheets_from_items o)) is ∙ (ap (option_and_then (λ l. cond (are_sheets_within l) (Some l) None)) said ∙ rw within refl)
 
 pub sheets_past : (d : Data) (ds : List Data) → as_array d ≡ Some (items_of ds) → ((more : List Data) → sheets_within (Some (array (items_of (ds ++ more)))) ≡ None) → sheets_within (Some d) ≡ None
 sheets_past d ds is past =
-    ap (λ o. option_and_then (λ l. cond (are_sheets_within l) (Some l) None) (option_and_then sheets_in o)) is ∙ (ap (λ es. sheets_within (Some (array (items_of es)))) (sym (append-nil ds)) ∙ past [])
+    ap (λ o. option_and_then (λ l. cond (are_sheets_within l) (Some l) None) (option_and_then sheets_from_items o)) is ∙ (ap (λ es. sheets_within (Some (array (items_of es)))) (sym (append-nil ds)) ∙ past [])
 
 pub no_sheets : (d : Data) → as_array d ≡ None → sheets_within (Some d) ≡ None
-no_sheets d is = ap (λ o. option_and_then (λ l. cond (are_sheets_within l) (Some l) None) (option_and_then sheets_in o)) is
+no_sheets d is = ap (λ o. option_and_then (λ l. cond (are_sheets_within l) (Some l) None) (option_and_then sheets_from_items o)) is

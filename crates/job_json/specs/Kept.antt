@@ -15,14 +15,14 @@ use Rattle.job_json.specs.declared.states.StateWords.{StateWords}
 use Rattle.job_json.specs.declared.node.NodeParts.{NodeParts}
 use Rattle.job_json.specs.declared.node_list.Nodes.{Nodes}
 use Rattle.job_json.specs.declared.sheet.SheetParts.{SheetParts}
-use Rattle.job_json.specs.declared.sheets.Sheets.{Sheets}
+use Rattle.job_json.specs.declared.sheet_items.SheetItems.{SheetItems}
 use Rattle.job_json.specs.declared.outline.Nothing.{Nothing}
 use Rattle.job_json.specs.declared.document.JobParts.{JobParts}
-use Rattle.job_json.specs.Sheets.{origin_from, enabled_from, sheets_in}
+use Rattle.job_json.specs.Sheets.{origin_from, enabled_from, sheets_from_items}
 use Rattle.job_json.specs.Values.{whole, name_of, no_states, states_with, states_from, nodes_from, is_one, has_no_items, is_empty_list}
 use Rattle.job_json.specs.Fits.{count_of, are_items_within, are_depths_within, are_sheets_within}
 use Rattle.job_json.specs.Within.{nodes_within, sheets_within}
-use Rattle.job_json.specs.Within.{named_parent, parent_at, attrs_within, nodes_in}
+use Rattle.job_json.specs.Within.{named_parent, parent_at, attrs_within, node_list_within}
 use Rattle.job_json.specs.Slots.{slot_pair, slots_of}
 
 -- the members of an object of attributes
@@ -90,8 +90,9 @@ pub record IsSheetOf (s : SheetParts) (ms : Members) : Type 0 where
   pub text : option_map (λ t. t.now) s.text ≡ (get_member (codes "text") ms >>= as_str)
 
 -- the items of a list of sheets
-pub record AreSheetsOf (s : Sheets) (ds : List Data) : Type 0 where
-  pub good : s.is_good ≡ true → (sheets_in (items_of ds) ≡ Some s.list.items) × (are_sheets_within s.list.items ≡ true)
+pub record AreSheetsOf (s : SheetItems) (ds : List Data) : Type 0 where
+  pub good : s.is_good ≡ true
+      → (sheets_from_items (items_of ds) ≡ Some s.list.items) × (are_sheets_within s.list.items ≡ true)
   pub bad : s.is_good ≡ false → (more : List Data) → sheets_within (Some (array (items_of (ds ++ more)))) ≡ None
 
 -- the items of a list
@@ -102,5 +103,5 @@ IsNothingOf s ds = s.is_empty ≡ has_no_items (Some (items_of ds))
 pub record IsJobOf (s : JobParts) (ms : Members) : Type 0 where
   pub version : s.is_version ≡ is_one (get_member (codes "version") ms >>= whole)
   pub batches : s.has_no_batches ≡ is_empty_list (get_member (codes "batches") ms)
-  pub nodes : s.nodes ≡ (get_member (codes "nodes") ms >>= nodes_in)
+  pub nodes : s.nodes ≡ (get_member (codes "nodes") ms >>= node_list_within)
   pub sheets : s.sheets ≡ sheets_within (get_member (codes "sheets") ms)

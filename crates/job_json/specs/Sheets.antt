@@ -36,14 +36,14 @@ sheet_from value = do
   Some (record { origin = origin; enabled = enabled; text = chars text })
 
 -- each entry of the list is a sheet
-abbrev pub sheets_in : Items → Option (List SheetInput)
-sheets_in no_items = Some []
-sheets_in (item value rest) = do
+abbrev pub sheets_from_items : Items → Option (List SheetInput)
+sheets_from_items no_items = Some []
+sheets_from_items (item value rest) = do
   sheet ← sheet_from value
-  sheets ← sheets_in rest
+  sheets ← sheets_from_items rest
   Some (sheet ∷ sheets)
 
 -- the list may be absent
 abbrev pub sheets_from : Option Data → Option (List SheetInput)
 sheets_from None = Some []
-sheets_from (Some value) = as_array value >>= sheets_in
+sheets_from (Some value) = as_array value >>= sheets_from_items

@@ -56,5 +56,5 @@ job_within value = do
   if are_nodes_within (node_items value) job.nodes && are_sheets_within job.sheets then Some job else None
 
 -- the nodes that an array says, where they pass no limit
-abbrev pub nodes_in : Data → Option (List Node)
-nodes_in value = as_array value >>= nodes_within
+abbrev pub node_list_within : Data → Option (List Node)
+node_list_within value = as_array value >>= nodes_within

@@ -23,7 +23,7 @@ use stylo_base::limits::{ATTRIBUTE_LIMIT, VALUE_LIMIT};
 
 /// A member of the object of attributes.
 #[derive(Clone, Copy)]
-pub struct Slot<'a> {
+pub(crate) struct Slot<'a> {
     pub name: &'a str,
     /// None: the value is no text.
     pub value: Option<&'a str>,
@@ -31,7 +31,7 @@ pub struct Slot<'a> {
 
 /// The members of the object of attributes, each key once, in the order of the keys.
 #[derive(Drop)]
-pub struct Slots<'a> {
+pub(crate) struct Slots<'a> {
     list: Vec<Slot<'a>>,
     /// There were more keys than an element may have, and the list is of no use.
     is_full: bool,
@@ -103,7 +103,7 @@ fn place_of(slots: &[Slot<'_>], name: &str) -> Result<usize, usize>
 
 /// The attributes of a node, and the room to read them.
 #[derive(Drop)]
-pub struct AttrList<'a> {
+pub(crate) struct AttrList<'a> {
     /// Whether they are attributes within their limits.
     is_good: bool,
     list: Vec<Attr<'a>>,

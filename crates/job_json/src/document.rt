@@ -7,8 +7,8 @@ ghost use Rattle.job_json.specs.Within.{job_within};
 use crate::Job;
 use crate::node_list::take_nodes;
 use crate::outline::{is_one, take_empty_array};
+use crate::sheet_items::take_sheets;
 use crate::sheet_list::SheetList;
-use crate::sheets::take_sheets;
 use dom_tree::NodeList;
 use json::Reader;
 use json_reader::{KeepMembers, Stop, object, pass, whole};
@@ -42,7 +42,11 @@ impl<'a> KeepMembers<'a> for JobParts {
 }
 
 /// Takes a job within its limits. None: the value is none.
-pub fn take_job(alloc: Global, reader: &mut Reader<'_>, depth: usize) -> Result<Option<Job>, Stop>
+pub(crate) fn take_job(
+    alloc: Global,
+    reader: &mut Reader<'_>,
+    depth: usize,
+) -> Result<Option<Job>, Stop>
     ensures ok { IfOk result (λ job. Says job_within job (taken depth reader.old) reader.new) }
     ensures shorter { OnOk result (length reader.new < length reader.old) }
     ensures err { result ≡ Err Stop.NotJson → taken depth reader.old ≡ None }

@@ -21,7 +21,7 @@ use stylo_base::limits::{SHEET_LIMIT, TEXT_LIMIT};
 use stylo_base::{Kind, NoMemory, PathText};
 
 /// Why a text that is JSON is no job.
-pub fn fault_in(alloc: Global, text: &str) -> Result<JobFault, NoMemory>
+pub(crate) fn fault_in(alloc: Global, text: &str) -> Result<JobFault, NoMemory>
     requires { (d : Data) → read_json text.now ≡ Some d → job_within d ≡ None }
     ensures { IfOk result (λ fault. (d : Data) → read_json text.now ≡ Some d
         → Err fault ≡ answer_to (verdict_on d)) }

@@ -13,8 +13,8 @@ mod node_walk;
 mod outline;
 mod pointer;
 mod sheet;
+mod sheet_items;
 mod sheet_list;
-mod sheets;
 mod states;
 mod walk;
 
@@ -82,7 +82,7 @@ pub fn read(alloc: Global, bytes: &[u8]) -> Result<Job, JobFault>
     let Ok(text) = str::from_utf8(bytes) else {
         return Err(JobFault::NotJson);
     };
-    match job_in(alloc, text) {
+    match job_of_text(alloc, text) {
         Ok(Some(job)) => Ok(job),
         Ok(None) => match fault_in(alloc, text) {
             Ok(fault) => Err(fault),
@@ -94,7 +94,7 @@ pub fn read(alloc: Global, bytes: &[u8]) -> Result<Job, JobFault>
 }
 
 /// The job that a text says. None: its value says none.
-fn job_in(alloc: Global, text: &str) -> Result<Option<Job>, Stop>
+fn job_of_text(alloc: Global, text: &str) -> Result<Option<Job>, Stop>
     ensures ok { IfOk result (λ job. (d : Data) × (read_json text.now ≡ Some d)
         × (job_within d ≡ job)) }
     ensures err { result ≡ Err Stop.NotJson → read_json text.now ≡ None }

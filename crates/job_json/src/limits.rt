@@ -11,7 +11,7 @@ use stylo_base::limits::{DEPTH_LIMIT, TEXT_LIMIT};
 use stylo_base::{Kind, NoMemory};
 
 /// Whether no node is too deep.
-pub fn are_depths_within(alloc: Global, nodes: &NodeList) -> Result<bool, NoMemory>
+pub(crate) fn are_depths_within(alloc: Global, nodes: &NodeList) -> Result<bool, NoMemory>
     ensures { IfOk result (λ within. within ≡ are_depths_within nodes.now) }
 {
     let depths = nodes.depths(alloc)?;
@@ -19,14 +19,14 @@ pub fn are_depths_within(alloc: Global, nodes: &NodeList) -> Result<bool, NoMemo
 }
 
 /// Whether the text of a sheet is not too long.
-pub fn is_text_within(sheet: &SheetInput) -> bool
+pub(crate) fn is_text_within(sheet: &SheetInput) -> bool
     ensures { result ≡ is_text_within sheet.now }
 {
     sheet.text.byte_len() <= TEXT_LIMIT
 }
 
 /// The limit, where the amount is past it.
-pub fn past(kind: Kind, most: usize, amount: usize) -> Option<(Kind, u64)>
+pub(crate) fn past(kind: Kind, most: usize, amount: usize) -> Option<(Kind, u64)>
     ensures { result ≡ past kind most amount }
 {
     if amount <= most {

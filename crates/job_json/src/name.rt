@@ -9,7 +9,7 @@ ghost use Rattle.job_json.specs.Within.{name_said};
 use stylo_base::limits::NAME_LIMIT;
 
 /// The text where it is a name.
-pub fn name_in<'a>(text: Option<&'a str>) -> Option<&'a str>
+pub(crate) fn name_in<'a>(text: Option<&'a str>) -> Option<&'a str>
     ensures { option_map (λ t. chars t.now) result
         ≡ option_and_then name_said (option_map (λ t. t.now) text.entry) }
 {
@@ -18,7 +18,7 @@ pub fn name_in<'a>(text: Option<&'a str>) -> Option<&'a str>
 }
 
 /// Whether the text is a name.
-pub fn is_name(text: &str) -> bool
+pub(crate) fn is_name(text: &str) -> bool
     ensures { result ≡ is_name text.now }
 {
     let bytes = text.as_bytes();

@@ -16,7 +16,7 @@ use std::alloc::Global;
 
 /// What is kept of the members of a node. One is used again for each node.
 #[derive(Drop)]
-pub struct NodeParts<'a> {
+pub(crate) struct NodeParts<'a> {
     pub tag: Option<&'a str>,
     /// The number that is named, which may be none. None: another shape is there.
     pub parent: Option<Option<u64>>,
@@ -88,7 +88,7 @@ fn named(parent: Option<u64>) -> Option<Option<u64>>
 
 /// The parent of the node at `index`. None: it names none where it must, or another number than
 /// that of an earlier node.
-pub fn parent_at(index: u32, parent: Option<u64>) -> Option<Option<u32>>
+pub(crate) fn parent_at(index: u32, parent: Option<u64>) -> Option<Option<u32>>
     ensures { result ≡ parent_at index parent }
 {
     match parent {

@@ -15,7 +15,7 @@ use stylo_base::limits::{ATTRIBUTE_LIMIT, DEPTH_LIMIT, ELEMENT_LIMIT, VALUE_LIMI
 use stylo_base::{Kind, NoMemory};
 
 /// The limit that is passed first by nodes whose shape is right.
-pub fn nodes_passed(alloc: Global, nodes: &[Value]) -> Result<Option<(Kind, u64)>, NoMemory>
+pub(crate) fn nodes_passed(alloc: Global, nodes: &[Value]) -> Result<Option<(Kind, u64)>, NoMemory>
     ensures { (list : List Node) → nodes_of (items_view nodes.now) ≡ Some list
         → IfOk result (λ passed. passed ≡ nodes_passed (items_view nodes.now) list) }
 {

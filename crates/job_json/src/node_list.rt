@@ -4,7 +4,7 @@ ghost use Rattle.std.specs.Prelude.{◌≡◌, ◌<◌, ◌++◌, ◌∷◌, [],
 ghost use Rattle.json_reader.specs.Taken.{taken, Says};
 ghost use Rattle.scene_model.specs.Nodes.{IsParentAt};
 ghost use Rattle.dom_tree.specs.View.{node_of};
-ghost use Rattle.job_json.specs.Within.{nodes_in};
+ghost use Rattle.job_json.specs.Within.{node_list_within};
 ghost use Rattle.base_model.specs.Limits.{element_limit};
 ghost use Rattle.job_json.specs.Kept.{nodes_or_none, node_kept, flat_nodes, IsAppended};
 
@@ -19,7 +19,7 @@ use stylo_base::limits::ELEMENT_LIMIT;
 
 /// What is kept of the items of a list of nodes.
 #[derive(Drop)]
-pub struct Nodes<'a> {
+pub(crate) struct Nodes<'a> {
     alloc: Global,
     /// Whether each item so far is a node within its limits, and there are not too many.
     is_good: bool,
@@ -47,12 +47,12 @@ impl<'a> KeepItems<'a> for Nodes<'a> {
 }
 
 /// Takes a list of nodes within their limits. None: it is none.
-pub fn take_nodes(
+pub(crate) fn take_nodes(
     alloc: Global,
     reader: &mut Reader<'_>,
     depth: usize,
 ) -> Result<Option<NodeList>, Stop>
-    ensures ok { IfOk result (λ list. Says nodes_in list (taken depth reader.old) reader.new) }
+    ensures ok { IfOk result (λ list. Says node_list_within list (taken depth reader.old) reader.new) }
     ensures shorter { OnOk result (length reader.new < length reader.old) }
     ensures err { result ≡ Err Stop.NotJson → taken depth reader.old ≡ None }
 {

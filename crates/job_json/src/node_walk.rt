@@ -15,7 +15,11 @@ use std::alloc::Global;
 use stylo_base::{NoMemory, Text};
 
 /// The first bad place of the node at an index of the list.
-pub fn bad_in_node(alloc: Global, index: usize, value: &Value) -> Result<Option<Text>, NoMemory>
+pub(crate) fn bad_in_node(
+    alloc: Global,
+    index: usize,
+    value: &Value,
+) -> Result<Option<Text>, NoMemory>
     ensures { IfOk result (λ path. path ≡ first_bad (node_in index (view value.now))) }
 {
     if !value.is_object() {

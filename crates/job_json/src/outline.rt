@@ -8,7 +8,7 @@ use json::Reader;
 use json_reader::{KeepItems, Stop, array, pass};
 
 /// Whether the version is there and is 1.
-pub fn is_one(version: Option<u64>) -> bool
+pub(crate) fn is_one(version: Option<u64>) -> bool
     ensures { result ≡ is_one version }
 {
     match version {
@@ -35,7 +35,7 @@ impl<'a> KeepItems<'a> for Nothing {
 }
 
 /// Takes a value: whether it is a list with nothing in it.
-pub fn take_empty_array(reader: &mut Reader<'_>, depth: usize) -> Result<bool, Stop>
+pub(crate) fn take_empty_array(reader: &mut Reader<'_>, depth: usize) -> Result<bool, Stop>
     ensures ok { IfOk result (λ is. Says is_empty_array is (taken depth reader.old) reader.new) }
     ensures shorter { OnOk result (length reader.new < length reader.old) }
     ensures err { result ≡ Err Stop.NotJson → taken depth reader.old ≡ None }

@@ -8,7 +8,7 @@ use std::alloc::Global;
 use stylo_base::{NoMemory, Text};
 
 /// The bad place of a part that is right or bad itself.
-pub fn here(alloc: Global, is_right: bool) -> Option<Text>
+pub(crate) fn here(alloc: Global, is_right: bool) -> Option<Text>
     ensures { result ≡ first_bad (right is_right) }
 {
     if is_right {
@@ -19,7 +19,11 @@ pub fn here(alloc: Global, is_right: bool) -> Option<Text>
 }
 
 /// The bad place in the member `key`, as that of the object.
-pub fn at_member(alloc: Global, key: &str, path: Option<Text>) -> Result<Option<Text>, NoMemory>
+pub(crate) fn at_member(
+    alloc: Global,
+    key: &str,
+    path: Option<Text>,
+) -> Result<Option<Text>, NoMemory>
     ensures { IfOk result (λ found. found ≡ option_map (below (escaped (chars key.now))) path) }
 {
     let Some(path) = path else {
@@ -32,7 +36,11 @@ pub fn at_member(alloc: Global, key: &str, path: Option<Text>) -> Result<Option<
 }
 
 /// The bad place in the item `index`, as that of the array.
-pub fn at_index(alloc: Global, index: usize, path: Option<Text>) -> Result<Option<Text>, NoMemory>
+pub(crate) fn at_index(
+    alloc: Global,
+    index: usize,
+    path: Option<Text>,
+) -> Result<Option<Text>, NoMemory>
     ensures { IfOk result (λ found. found ≡ option_map (below (decimal index)) path) }
 {
     let Some(path) = path else {

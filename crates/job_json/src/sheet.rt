@@ -35,7 +35,7 @@ impl<'a> KeepMembers<'a> for SheetParts<'a> {
 }
 
 /// Takes a sheet. None: the value is none.
-pub fn take_sheet(
+pub(crate) fn take_sheet(
     alloc: Global,
     reader: &mut Reader<'_>,
     depth: usize,
@@ -69,7 +69,7 @@ pub fn take_sheet(
 }
 
 /// The origin that a word names.
-pub fn origin_in(word: Option<&str>) -> Option<Origin>
+pub(crate) fn origin_in(word: Option<&str>) -> Option<Origin>
     ensures { result ≡ option_and_then origin_named (option_map (λ t. t.now) word.entry) }
 {
     origin_named(word?)

@@ -28,7 +28,7 @@ impl<'a> KeepItems<'a> for StateWords {
 }
 
 /// Takes the list of the states of a node. None: it is none.
-pub fn take_states(reader: &mut Reader<'_>, depth: usize) -> Result<Option<States>, Stop>
+pub(crate) fn take_states(reader: &mut Reader<'_>, depth: usize) -> Result<Option<States>, Stop>
     ensures ok { IfOk result (λ s. Says (λ d. states_from (Some d)) (option_map states_of s)
         (taken depth reader.old) reader.new) }
     ensures shorter { OnOk result (length reader.new < length reader.old) }
@@ -45,7 +45,7 @@ pub fn take_states(reader: &mut Reader<'_>, depth: usize) -> Result<Option<State
 }
 
 /// The states with the one that `word` names. None: it names none.
-pub fn with_word(states: Option<States>, word: Option<&str>) -> Option<States>
+pub(crate) fn with_word(states: Option<States>, word: Option<&str>) -> Option<States>
     ensures { option_map states_of result ≡ option_and_then
         (λ s. option_and_then (with_state s) (option_map (λ t. t.now) word.entry))
         (option_map states_of states) }

@@ -16,7 +16,7 @@ use std::alloc::Global;
 use stylo_base::{NoMemory, Text};
 
 /// The first bad place of a job.
-pub fn bad_in_job(alloc: Global, value: &Value) -> Result<Option<Text>, NoMemory>
+pub(crate) fn bad_in_job(alloc: Global, value: &Value) -> Result<Option<Text>, NoMemory>
     ensures { IfOk result (λ path. path ≡ first_bad (job_in (view value.now))) }
 {
     if !value.is_object() {

@@ -69,6 +69,7 @@ fn items<'a, K: KeepItems<'a>>(
     ensures err { result ≡ Err Stop.NotJson
         → items_taken depth (length reader.old) reader.old ≡ None }
 {
+    // The proof calls the loop by this label.
     'items: while !reader.take_end_array() {
         kept.item(reader, depth)?;
     }

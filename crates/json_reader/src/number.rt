@@ -7,7 +7,7 @@ ghost use Rattle.json_reader.specs.Parts.{whole_of};
 use fast_float::Numeral;
 
 /// Whether the number is one that `serde_json` takes: it takes none that is past every float.
-pub fn is_number_in_range(text: &str) -> bool
+pub(crate) fn is_number_in_range(text: &str) -> bool
     ensures { result ≡ is_some (number_of text.now) }
 {
     let bytes = text.as_bytes();
@@ -42,7 +42,7 @@ fn is_finite(negative: bool, numeral: &Numeral<'_>) -> bool
 }
 
 /// The whole number from 0 to 2^64 minus 1 that is written, with neither a point nor an exponent.
-pub fn whole_number(text: &str) -> Option<u64>
+pub(crate) fn whole_number(text: &str) -> Option<u64>
     ensures { result ≡ whole_of text.now }
 {
     let bytes = text.as_bytes();

@@ -68,6 +68,7 @@ fn members<'a, K: KeepMembers<'a>>(
     ensures err { result ≡ Err Stop.NotJson
         → members_taken depth no_members (length reader.old) reader.old ≡ None }
 {
+    // The proof calls the loop by this label.
     'members: while let Some(key) = reader.next_key()? {
         kept.member(key, reader, depth)?;
     }

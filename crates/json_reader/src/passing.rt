@@ -64,6 +64,7 @@ fn pass_items(reader: &mut Reader<'_>, depth: usize) -> Result<(), Invalid>
     ensures shorter { OnOk result (length reader.new < length reader.old) }
     ensures err { OnErr result (items_taken depth (length reader.old) reader.old ≡ None) }
 {
+    // The proof calls the loop by this label.
     'items: while !reader.take_end_array() {
         pass(reader, depth)?;
     }
@@ -79,6 +80,7 @@ fn pass_members(reader: &mut Reader<'_>, depth: usize) -> Result<(), Invalid>
     ensures err { OnErr result
         (members_taken depth no_members (length reader.old) reader.old ≡ None) }
 {
+    // The proof calls the loop by this label.
     'members: while let Some(_key) = reader.next_key()? {
         pass(reader, depth)?;
     }

@@ -7,7 +7,7 @@ use Rattle.layer_model.specs.Name.{Part, LayerName, same_part, same_name, part_l
 use Rattle.layer_order.specs.Chain.{part_of}
 use Rattle.layer_order.specs.Key.{key_of, key_after}
 use Rattle.layer_order.specs.LinkView.{named_by, Keeps}
-use Rattle.layer_order.specs.declared.name.Link.{Link}
+use Rattle.layer_order.specs.declared.name.NameLink.{NameLink}
 
 -- the key of a name with one more part
 pub key_of-within : (name : LayerName) (part : Part) → key_of (name ++ part ∷ []) ≡ key_after (key_of name) part
@@ -23,7 +23,7 @@ pub false_from_keys : (a b : LayerName) → key_of a ≢ key_of b → false ≡ 
 false_from_keys a b h = sym (false_from_ne_true (same_name a b) (λ e. h (ap key_of ((same_name-Decides a b).0 e))))
 
 -- the link of a longer name
-pub Keeps-within : (link : Link) (name : LayerName) (part : Part) → link.outer ≡ name → part_of link.part ≡ part → link.depth ≡ length name + 1 → length name < part_limit → link.key ≡ key_after (key_of name) part → Keeps link
+pub Keeps-within : (link : NameLink) (name : LayerName) (part : Part) → link.outer ≡ name → part_of link.part ≡ part → link.depth ≡ length name + 1 → length name < part_limit → link.key ≡ key_after (key_of name) part → Keeps link
 Keeps-within link name part o p d few k =
     let e : named_by link ≡ name ++ part ∷ [] = ap (λ n. n ++ part_of link.part ∷ []) o ∙ ap (λ q. name ++ q ∷ []) p in
     let depth : link.depth ≡ length link.outer + 1 = d ∙ ap (λ (n : LayerName). length n + 1) (sym o) in

@@ -18,7 +18,7 @@ pub(crate) fn key_after(outer: u64, part: &Part) -> u64
     state.finish()
 }
 
-// What a step feeds to a hash.
+/// What a step feeds to a hash.
 fn feed(part: &Part, state: &mut DefaultHasher)
     ensures { state.new ≡ fed_more state.old (part_input (part_of part.now)) }
 {

@@ -27,7 +27,7 @@ pub(crate) fn declared_in(
     Ok(known)
 }
 
-// Adds a layer, and before it those that it is in. Of a layer that is known all of these are known.
+/// Adds a layer, and before it those that it is in. Of a layer that is known all of these are known.
 fn add(known: &mut IndexSet<LayerName>, name: &LayerName) -> Result<(), NoMemory>
     requires { AreDeclared known.old.keys }
     ensures { OnOk result (known.new.keys ≡ with_names known.old.keys (fronts name.now)) }

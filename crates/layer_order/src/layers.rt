@@ -53,7 +53,7 @@ impl Layers {
     }
 }
 
-// The layers of one origin, lowest first; what is in no layer is last.
+/// The layers of one origin, lowest first; what is in no layer is last.
 #[derive(Drop)]
 struct Order {
     names: IndexSet<LayerName>,
@@ -93,7 +93,7 @@ impl Order {
     }
 }
 
-// All layers of a nesting, lowest first, and last what is in no layer.
+/// All layers of a nesting, lowest first, and last what is in no layer.
 fn in_order(alloc: Global, nesting: &Nesting) -> Result<IndexSet<LayerName>, NoMemory>
     requires { IsNesting nesting.now }
     ensures { IfOk result (λ order. order.keys ≡ with_names [] (below_none nesting.now)) }

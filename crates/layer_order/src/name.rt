@@ -22,12 +22,12 @@ use stylo_base::NoMemory;
 #[cycle(layer_name)]
 #[derive(Debug, Drop)]
 pub struct LayerName {
-    last: Option<Arc<Link>>,
+    last: Option<Arc<NameLink>>,
 }
 
 #[cycle(layer_name)]
 #[derive(Debug, Drop)]
-struct Link {
+struct NameLink {
     outer: LayerName,
     depth: u32,
     key: u64,
@@ -84,7 +84,7 @@ impl LayerName {
         requires { length self.now < part_limit }
         ensures { IfOk result (λ n. n ≡ self.now ++ part_of part ∷ []) }
     {
-        let link = Link {
+        let link = NameLink {
             outer: self.share()?,
             depth: self.len() as u32 + 1,
             key: key::key_after(self.key(), &part),
@@ -145,10 +145,10 @@ impl LayerName {
     }
 }
 
-impl Link {
-    // Whether both end one name.
+impl NameLink {
+    /// Whether both end one name.
     #[cycle(same_name)]
-    fn is(&self, other: &Link) -> bool
+    fn is(&self, other: &NameLink) -> bool
         ensures { result ≡ same_name (named_by self.now) (named_by other.now) }
     {
         self.part.is(&other.part) && self.outer.is(&other.outer)

@@ -52,7 +52,7 @@ impl Nesting {
         Ok(())
     }
 
-    // Adds those that are directly in the layer of this place, each after all that are in it.
+    /// Adds those that are directly in the layer of this place, each after all that are in it.
     #[cycle(below)]
     fn add_inner(
         &self,
@@ -73,7 +73,7 @@ impl Nesting {
         Ok(())
     }
 
-    // The layer of this place; past the last stands what is in no layer.
+    /// The layer of this place; past the last stands what is in no layer.
     fn layer_at(&self, place: usize) -> Result<LayerName, NoMemory>
         ensures { IfOk result (λ name. name ≡ layer_at self.now.layers.keys place) }
     {
@@ -84,7 +84,7 @@ impl Nesting {
     }
 }
 
-// For each layer the places of those directly in it, and last of those in none.
+/// For each layer the places of those directly in it, and last of those in none.
 fn inner_of(alloc: Global, layers: &IndexSet<LayerName>) -> Result<Vec<Vec<u32>>, NoMemory>
     requires declared { AreDeclared layers.now.keys }
     requires few { length layers.now.keys < 2 ^ 32 }
@@ -98,7 +98,7 @@ fn inner_of(alloc: Global, layers: &IndexSet<LayerName>) -> Result<Vec<Vec<u32>>
     Ok(inner)
 }
 
-// Adds a layer to the list of the one that it is directly in.
+/// Adds a layer to the list of the one that it is directly in.
 fn put_inside(
     inner: &mut Vec<Vec<u32>>,
     layers: &IndexSet<LayerName>,
@@ -115,7 +115,7 @@ fn put_inside(
     Ok(())
 }
 
-// This many empty lists.
+/// This many empty lists.
 fn empty_lists(alloc: Global, count: usize) -> Result<Vec<Vec<u32>>, NoMemory>
     ensures { IfOk result (λ lists. map (λ v. v.items) lists.items ≡ replicate count []) }
 {
@@ -126,7 +126,7 @@ fn empty_lists(alloc: Global, count: usize) -> Result<Vec<Vec<u32>>, NoMemory>
     Ok(lists)
 }
 
-// The place of the layer that a layer is directly in.
+/// The place of the layer that a layer is directly in.
 fn outer_place(layers: &IndexSet<LayerName>, place: usize) -> usize
     requires declared { AreDeclared layers.now.keys }
     requires within { place < length layers.now.keys }

@@ -1,7 +1,7 @@
 pub mod Walk
-pub mod MemoLemmas
+pub mod CacheLemmas
 pub mod Places
 pub mod MatchLemmas
 pub mod AppliedLemmas
 pub mod RootLemmas
-pub mod HitLemmas
+pub mod MatchedRuleLemmas

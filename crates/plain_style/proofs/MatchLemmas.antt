@@ -1,9 +1,9 @@
 -- The declarations of a rule, and those of the rules before and after it.
-use Rattle.std.proofs.Common.{◌≡◌, ℕ, ◌+◌, ◌<◌, ◌||◌, List, [], ◌∷◌, ◌++◌, cond, false, true, length, map, get_or, slice_get, drop, None, Some, refl, sym, ap, ◌∙◌, append-nil}
+use Rattle.std.proofs.Common.{◌≡◌, ℕ, zero, suc, ◌+◌, ◌<◌, ◌||◌, List, [], ◌∷◌, ◌++◌, cond, false, true, length, map, get_or, slice_get, drop, None, Some, refl, sym, ap, ◌∙◌, append-nil, arith}
 use Rattle.std.specs.Prelude.{Bool, Vec}
 use Rattle.std.specs.List.{flat_map, list_any}
 use Rattle.std.proofs.lemmas.List.{get_or-map}
-use Rattle.std.proofs.lemmas.Option.{get_or_from_slice_get, slice_get_within}
+use Rattle.std.proofs.lemmas.Option.{get_or_from_slice_get, same_Some, slice_get_within}
 use Rattle.base_model.proofs.Lists.{slice_get_some}
 use Rattle.std.specs.declared.alloc.Global.{Global}
 use Rattle.scene_model.specs.Element.{Element}
@@ -14,30 +14,22 @@ use Rattle.selector_types.specs.View.{selector_of}
 use Rattle.selector_match.specs.Filter.{filter_of}
 use Rattle.selector_types.specs.declared.selector.Selector.{Selector as Chosen}
 use Rattle.sheet_set.specs.declared.sheet_rule.SheetRule.{SheetRule}
-use Rattle.sheet_set.specs.View.{rule_of, rules_with}
+use Rattle.sheet_set.specs.View.{placed_rule_of, rules_with}
 use Rattle.sheet_set.proofs.Left.{item_at}
 use Rattle.std.specs.Option.{option_map_or}
 use Rattle.selector_model.specs.Selector.{Selector}
 use Rattle.base_model.specs.Specificity.{Specificity}
 use Rattle.cascade_model.specs.Key.{Matched}
-use Rattle.sheet_model.specs.Declared.{Declared}
 use Rattle.sheet_model.specs.Sources.{PlacedRule, Sources}
-use Rattle.cascade_model.specs.Matching.{matched, all_matched, greatest_by, rule_matched, matching_rules, with_greater}
-use Rattle.sheet_set.specs.declared.sheets.Sheets.{Sheets}
+use Rattle.cascade_model.specs.Matching.{all_matched, greatest_by, rule_matched, matching_rules, with_greater}
 use Rattle.std.proofs.lemmas.Grind.{flat_map-append}
-use Rattle.plain_style.specs.Filters.{AreFilters, rule_filter}
-use Rattle.plain_style.specs.Hits.{declarations_of, declares_at, hit_declares}
-use Rattle.plain_style.specs.declared.hits.Hit.{Hit}
+use Rattle.plain_style.specs.Prepared.{AreFilters, rule_filter}
+use Rattle.plain_style.specs.MatchedRules.{declarations_of, rule_declares}
+use Rattle.plain_style.specs.declared.matched_rules.MatchedRule.{MatchedRule}
 
--- the selectors of a rule are not looked at any more
-pub all_matched-same : (layers : Layers) (a b : PlacedRule) (specificity : Specificity) (index : ℕ) (ds : List Declared) → a.origin ≡ b.origin → a.layer ≡ b.layer → a.sheet ≡ b.sheet → a.position ≡ b.position → all_matched layers a specificity index ds ≡ all_matched layers b specificity index ds
-all_matched-same layers a b specificity index [] o l s p = refl
-all_matched-same layers a b specificity index (d ∷ ds) o l s p =
-    let head : matched layers a specificity index d ≡ matched layers b specificity index d = same_head layers a b specificity index d o l s p in
-    let tail : all_matched layers a specificity (index + 1) ds ≡ all_matched layers b specificity (index + 1) ds = all_matched-same layers a b specificity (index + 1) ds o l s p in cc
-  where
-    same_head : (layers : Layers) (a b : PlacedRule) (specificity : Specificity) (index : ℕ) (d : Declared) → a.origin ≡ b.origin → a.layer ≡ b.layer → a.sheet ≡ b.sheet → a.position ≡ b.position → matched layers a specificity index d ≡ matched layers b specificity index d
-    same_head layers a b specificity index d o l s p = cc
+-- the filter of a list of selectors
+abbrev pub list_filter : Vec Chosen Global → ℕ
+list_filter list = filter_of (map selector_of list.items)
 
 -- a rule with no selector that passes adds nothing
 pub rule_none : (layers : Layers) (passes : Selector → Bool) (rule : PlacedRule) → greatest_by passes None rule.selectors ≡ None → rule_matched layers passes rule ≡ []
@@ -50,7 +42,7 @@ rule_some layers passes rule s h =
 
 -- the rules from an index on
 pub rules_at : (rules : List SheetRule) (lists : List (Vec Chosen Global)) (i : ℕ) (rule : SheetRule) (list : Vec Chosen Global) → i < length rules → i < length lists → rule ≡ get_or rules i rule → list ≡ get_or lists i list
-    → rules_with (drop i rules) (drop i lists) ≡ rule_of rule list.items ∷ rules_with (drop (i + 1) rules) (drop (i + 1) lists)
+    → rules_with (drop i rules) (drop i lists) ≡ placed_rule_of rule list.items ∷ rules_with (drop (i + 1) rules) (drop (i + 1) lists)
 rules_at rules lists i rule list below within is same =
     ap (λ l. rules_with l (drop i lists)) (item_at rules i rule below is) ∙ ap (rules_with (rule ∷ drop (i + 1) rules)) (item_at lists i list within same)
 
@@ -63,36 +55,73 @@ no_greatest passes (selector ∷ selectors) h = by (passes selector) h (no_great
     by true h rest = absurd (cc)
     by false h rest = rest h
 
+-- and the one at an index
+pub rule_at : (rules : List SheetRule) (lists : List (Vec Chosen Global)) (i : ℕ) (rule : SheetRule) (list : Vec Chosen Global) → slice_get rules i ≡ Some rule → slice_get lists i ≡ Some list → slice_get (rules_with rules lists) i ≡ Some (placed_rule_of rule list.items)
+rule_at [] lists i rule list at here = absurd (cc)
+rule_at (r ∷ rules) [] i rule list at here = absurd (cc)
+rule_at (r ∷ rules) (l ∷ lists) zero rule list at here =
+    ap (λ x. Some (placed_rule_of x l.items)) (same_Some r rule at) ∙ ap (λ (v : Vec Chosen Global). Some (placed_rule_of rule v.items)) (same_Some l list here)
+rule_at (r ∷ rules) (l ∷ lists) (suc i) rule list at here = rule_at rules lists i rule list at here
+
+-- there is none where there is no rule
+pub no_rule_at : (rules : List SheetRule) (lists : List (Vec Chosen Global)) (i : ℕ) → slice_get rules i ≡ None → slice_get (rules_with rules lists) i ≡ None
+no_rule_at [] lists i none = refl
+no_rule_at (r ∷ rules) [] i none = refl
+no_rule_at (r ∷ rules) (l ∷ lists) zero none = absurd (cc)
+no_rule_at (r ∷ rules) (l ∷ lists) (suc i) none = no_rule_at rules lists i none
+
+pub length-rules_with : (rules : List SheetRule) (lists : List (Vec Chosen Global)) → length lists ≡ length rules → length (rules_with rules lists) ≡ length lists
+length-rules_with [] [] same = refl
+length-rules_with [] (l ∷ lists) same = absurd (omega (arith, same))
+length-rules_with (r ∷ rules) [] same = absurd (omega (arith, same))
+length-rules_with (r ∷ rules) (l ∷ lists) same =
+    let rest : length (rules_with rules lists) ≡ length lists = length-rules_with rules lists (omega (arith, same)) in omega (arith, rest)
+
+-- the filters of lists of selectors are those of the rules that have them
+pub filters_of_rules : (rules : List SheetRule) (lists : List (Vec Chosen Global)) → length rules ≡ length lists → AreFilters (map list_filter lists) (rules_with rules lists)
+filters_of_rules [] [] same = refl
+filters_of_rules [] (l ∷ lists) same = absurd (omega (arith, same))
+filters_of_rules (r ∷ rules) [] same = absurd (omega (arith, same))
+filters_of_rules (r ∷ rules) (l ∷ lists) same =
+    ap (λ rest. list_filter l ∷ rest) (filters_of_rules rules lists (omega (arith, same)))
+
 -- the filter of the rule at an index
-pub filter_at : (filters : List ℕ) (lists of : List (Vec Chosen Global)) (i : ℕ) (list : Vec Chosen Global) → AreFilters filters of → lists ≡ of → slice_get lists i ≡ Some list → get_or filters i 0 ≡ filter_of (map selector_of list.items)
-filter_at filters lists of i list are same at =
-    ap (λ l. get_or l i 0) (are ∙ ap (map rule_filter) (sym same))
-    ∙ (get_or-map rule_filter lists i list 0 (slice_get_within lists i list at) ∙ ap rule_filter (get_or_from_slice_get lists i list list at))
+pub filter_at : (filters : List ℕ) (rules : List PlacedRule) (i : ℕ) (rule : PlacedRule) → AreFilters filters rules → slice_get rules i ≡ Some rule → get_or filters i 0 ≡ filter_of rule.selectors
+filter_at filters rules i rule are at =
+    ap (λ l. get_or l i 0) are
+    ∙ (get_or-map rule_filter rules i rule 0 (slice_get_within rules i rule at) ∙ ap rule_filter (get_or_from_slice_get rules i rule rule at))
 
 -- a rule that adds nothing is passed over
-pub rule_passed : (f : PlacedRule → List Matched) (found whole : List Matched) (rules : List SheetRule) (lists : List (Vec Chosen Global)) (i : ℕ) → i < length rules → i < length lists → ((rule : SheetRule) (list : Vec Chosen Global) → slice_get lists i ≡ Some list → f (rule_of rule list.items) ≡ [])
+pub rule_passed : (f : PlacedRule → List Matched) (found whole : List Matched) (rules : List SheetRule) (lists : List (Vec Chosen Global)) (i : ℕ) → i < length rules → i < length lists → ((rule : PlacedRule) → slice_get (rules_with rules lists) i ≡ Some rule → f rule ≡ [])
     → found ++ flat_map f (rules_with (drop i rules) (drop i lists)) ≡ whole → found ++ flat_map f (rules_with (drop (i + 1) rules) (drop (i + 1) lists)) ≡ whole
 rule_passed f found whole rules lists i below within adds so_far =
     let (rule, at) = slice_get_some rules i below in
     let (list, here) = slice_get_some lists i within in
-    let own : PlacedRule = rule_of rule list.items in
+    let own : PlacedRule = placed_rule_of rule list.items in
     let left : List PlacedRule = rules_with (drop (i + 1) rules) (drop (i + 1) lists) in
     let next : rules_with (drop i rules) (drop i lists) ≡ own ∷ left = rules_at rules lists i rule list below within (sym (get_or_from_slice_get rules i rule rule at)) (sym (get_or_from_slice_get lists i list list here)) in
-    sym (ap (λ l. found ++ flat_map f l) next ∙ ap (λ l. found ++ (l ++ flat_map f left)) (adds rule list here)) ∙ so_far
+    sym (ap (λ l. found ++ flat_map f l) next ∙ ap (λ l. found ++ (l ++ flat_map f left)) (adds own (rule_at rules lists i rule list at here))) ∙ so_far
 
 pub matched_all : (found : List Matched) (doc : List Element) (sources : Sources) (left : List PlacedRule) (x : ℕ) → left ≡ [] → found ++ flat_map (rule_matched sources.layers (λ s. holds doc s x)) left ≡ flat_map (rule_matched sources.layers (λ s. holds doc s x)) sources.rules → found ≡ matching_rules doc sources x
 unfolding matching_rules
 matched_all found doc sources left x none all =
     sym (append-nil found) ∙ (ap (λ l. found ++ flat_map (rule_matched sources.layers (λ s. holds doc s x)) l) (sym none) ∙ all)
 
+-- what a rule declares that is found by its place
+pub declares_at : (sources : Sources) (rule : PlacedRule) (one : MatchedRule) → slice_get sources.rules one.rule ≡ Some rule → rule_declares sources one ≡ all_matched sources.layers rule one.specificity rule.first_index rule.declarations
+declares_at sources rule one at =
+    ap (λ o. option_map_or (λ (r : PlacedRule). all_matched sources.layers r one.specificity r.first_index r.declarations) o []) at
+
+pub declares_none : (sources : Sources) (one : MatchedRule) → slice_get sources.rules one.rule ≡ None → rule_declares sources one ≡ []
+declares_none sources one at =
+    ap (λ o. option_map_or (λ (r : PlacedRule). all_matched sources.layers r one.specificity r.first_index r.declarations) o []) at
+
 -- what a rule of which a selector of this specificity holds gives
-pub rule_hit : (sheets : Sheets) (passes : Selector → Bool) (rule : SheetRule) (list : List Chosen) (hit : Hit) → greatest_by passes None (map selector_of list) ≡ Some hit.specificity → slice_get sheets.rules.items hit.rule ≡ Some rule → rule_matched sheets.layers passes (rule_of rule list) ≡ hit_declares sheets hit
-rule_hit sheets passes rule list hit best at =
-    let own : PlacedRule = rule_of rule list in
-    rule_some sheets.layers passes own hit.specificity best
-    ∙ (all_matched-same sheets.layers own (rule_of rule []) hit.specificity own.first_index own.declarations refl refl refl refl ∙ sym (ap (declares_at sheets.layers hit.specificity) at))
+pub rule_found : (sources : Sources) (passes : Selector → Bool) (rule : PlacedRule) (one : MatchedRule) → greatest_by passes None rule.selectors ≡ Some one.specificity → slice_get sources.rules one.rule ≡ Some rule → rule_matched sources.layers passes rule ≡ rule_declares sources one
+rule_found sources passes rule one best at =
+    rule_some sources.layers passes rule one.specificity best ∙ sym (declares_at sources rule one at)
 
 -- one rule more that was found
-pub hits_more : (sheets : Sheets) (found more : List Hit) (hit : Hit) → more ≡ found ++ hit ∷ [] → declarations_of sheets more ≡ declarations_of sheets found ++ hit_declares sheets hit
-hits_more sheets found more hit is =
-    ap (declarations_of sheets) is ∙ (flat_map-append (hit_declares sheets) found (hit ∷ []) ∙ ap (λ l. declarations_of sheets found ++ l) (append-nil (hit_declares sheets hit)))
+pub found_more : (sources : Sources) (found more : List MatchedRule) (one : MatchedRule) → more ≡ found ++ one ∷ [] → declarations_of sources more ≡ declarations_of sources found ++ rule_declares sources one
+found_more sources found more one is =
+    ap (declarations_of sources) is ∙ (flat_map-append (rule_declares sources) found (one ∷ []) ∙ ap (λ l. declarations_of sources found ++ l) (append-nil (rule_declares sources one)))

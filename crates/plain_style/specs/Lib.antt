@@ -1,4 +1,5 @@
-pub mod Filters
-pub mod Hits
+pub mod Cache
+pub mod Fits
 pub mod Known
-pub mod Memo
+pub mod MatchedRules
+pub mod Prepared

@@ -1,16 +1,15 @@
 //! The style of every element, computed from nothing, from the root down.
 #![tactic(auto)]
 
-mod filters;
-mod hits;
-mod inputs;
+mod all_styles;
+mod cache;
+mod matched_rules;
 mod matching;
-mod memo;
-mod root_size;
+mod prepared;
 mod style_attribute;
-mod styled;
 mod styler;
-mod styles;
 
+pub use all_styles::style_all;
 pub use matching::match_rules;
-pub use styles::style_all;
+pub use prepared::{Inputs, Prepared};
+pub use styler::{RootStyle, Styler};

@@ -1,17 +1,18 @@
 //! The declarations that apply to an element.
 
-ghost use Rattle.std.specs.Prelude.{◌≡◌, ◌++◌, [], IfOk, OnOk, flat_map};
+ghost use Rattle.std.specs.Prelude.{◌≡◌, ◌++◌, List, IfOk, OnOk, flat_map};
 ghost use Rattle.scene_model.specs.Lookups.{IsElement};
 ghost use Rattle.cascade_model.specs.Matching.{all_matched, matching_rules};
 ghost use Rattle.cascade_core.specs.View.{matched_of};
 ghost use Rattle.layer_model.specs.Order.{Layers};
+ghost use Rattle.selector_types.specs.declared.selector.Selector.{Selector};
 ghost use Rattle.shorthands.specs.View.{declared_of};
 ghost use Rattle.sheet_set.specs.Ranks.{rank_seen};
-ghost use Rattle.sheet_set.specs.View.{rule_of, sources_seen};
-ghost use Rattle.plain_style.specs.Hits.{declarations_of};
+ghost use Rattle.sheet_set.specs.View.{placed_rule_of, sources_seen};
+ghost use Rattle.plain_style.specs.MatchedRules.{declarations_of};
 
-use crate::filters::rule_filters;
-use crate::hits::{Hit, hits_into};
+use crate::matched_rules::{self, MatchedRule};
+use crate::prepared::rule_filters;
 use cascade_core::Matched;
 use dom_tree::Doc;
 use selector_types::Specificity;
@@ -32,30 +33,40 @@ pub fn match_rules<'a>(
         flat_map matched_of list.items ≡ matching_rules doc.now.elements (sources_seen sheets.now) x) }
 {
     let filters = rule_filters(alloc, sheets)?;
-    let mut hits = Vec::new(alloc);
-    hits_into(&mut hits, doc, sheets, &filters, x)?;
-    let mut list = Vec::new(alloc);
-    declarations_into(&mut list, sheets, &hits)?;
+    let mut found = Vec::new(alloc);
+    matched_rules::matching_rules(&mut found, doc, sheets, &filters, x)?;
+    declarations(alloc, sheets, &found)
+}
+
+/// The declarations of these rules, in their order.
+pub(crate) fn declarations<'a>(
+    alloc: Global,
+    sheets: &'a Sheets,
+    found: &[MatchedRule],
+) -> Result<Vec<Matched<'a>>, NoMemory>
+    ensures { IfOk result (λ list.
+        flat_map matched_of list.items ≡ declarations_of (sources_seen sheets.now) found.now) }
+{
+    let rules = sheets.rules();
+    let ranks = sheets.ranks();
+    let mut list = Vec::with_capacity(alloc, room(rules, found))?;
+    for one in found {
+        if let Some(rule) = rules.get(one.rule) {
+            add_declarations(&mut list, rule, ranks[one.rule], one.specificity)?;
+        }
+    }
     Ok(list)
 }
 
-/// Puts the declarations of these rules in place of what is in the list.
-pub(crate) fn declarations_into<'a>(
-    list: &mut Vec<Matched<'a>>,
-    sheets: &'a Sheets,
-    hits: &[Hit],
-) -> Result<(), NoMemory>
-    ensures { OnOk result (flat_map matched_of list.new.items ≡ declarations_of sheets.now hits.now) }
-{
-    list.clear();
-    let rules = sheets.rules();
-    let ranks = sheets.ranks();
-    for hit in hits {
-        if let Some(rule) = rules.get(hit.rule) {
-            add_declarations(list, rule, ranks[hit.rule], hit.specificity)?;
+/// For how many declarations of these rules there is to be room.
+fn room(rules: &[SheetRule], found: &[MatchedRule]) -> usize {
+    let mut room: usize = 0;
+    for one in found {
+        if let Some(rule) = rules.get(one.rule) {
+            room = room.saturating_add(rule.declarations().len());
         }
     }
-    Ok(())
+    room
 }
 
 /// Adds the declarations of a rule whose layer has this rank.
@@ -65,9 +76,9 @@ fn add_declarations<'a>(
     rank: u32,
     specificity: Specificity,
 ) -> Result<(), NoMemory>
-    ensures { (layers : Layers) → rank ≡ rank_seen layers rule.now
+    ensures { (layers : Layers) (selectors : List Selector) → rank ≡ rank_seen layers rule.now
         → OnOk result (flat_map matched_of list.new.items ≡ flat_map matched_of list.old.items
-        ++ all_matched layers (rule_of rule.now []) specificity rule.now.first_index
+        ++ all_matched layers (placed_rule_of rule.now selectors) specificity rule.now.first_index
         (flat_map declared_of rule.now.declarations.items)) }
 {
     let mut index = rule.first_index();

@@ -1,32 +1,25 @@
 //! The declarations of `style` attributes.
 
-ghost use Rattle.std.specs.Prelude.{◌≡◌, [], IfOk, flat_map};
-ghost use Rattle.std.specs.Option.{option_map_or};
-ghost use Rattle.scene_model.specs.Lookups.{IsElement, attribute_of};
-ghost use Rattle.sheet_model.specs.Declared.{style_declared};
-ghost use Rattle.cascade_model.specs.Matching.{all_attached};
+ghost use Rattle.std.specs.Prelude.{◌≡◌, [], IfOk, flat_map, option_map};
 ghost use Rattle.cascade_core.specs.View.{matched_of};
+ghost use Rattle.sheet_model.specs.Declared.{style_declared};
+ghost use Rattle.std.specs.Option.{option_map_or};
+ghost use Rattle.std.specs.Str.{chars};
+ghost use Rattle.cascade_model.specs.Matching.{all_attached};
 ghost use Rattle.shorthands.specs.View.{declared_of};
 
 use cascade_core::Matched;
-use dom_tree::Doc;
 use layer_order::{LayerName, Layers, Origin};
 use sheet_set::{Declared, parse_style};
 use std::alloc::Global;
-use stylo_base::{Atom, NoMemory, Specificity};
+use stylo_base::{NoMemory, Specificity};
 
-/// What the attribute of `x` that `name` names declares, as a `style` attribute.
-pub(crate) fn declared_at(
-    alloc: Global,
-    doc: &Doc,
-    name: &Atom,
-    x: u32,
-) -> Result<Vec<Declared>, NoMemory>
-    requires { IsElement doc.now.elements x }
+/// What a `style` attribute with this text declares. None: the element has none.
+pub(crate) fn declared_in(alloc: Global, text: Option<&str>) -> Result<Vec<Declared>, NoMemory>
     ensures { IfOk result (λ list. flat_map declared_of list.items
-        ≡ option_map_or style_declared (attribute_of doc.now.elements x name.now) []) }
+        ≡ option_map_or style_declared (option_map (λ t. chars t.now) text.entry) []) }
 {
-    match doc.attribute_atom(x, name) {
+    match text {
         Some(text) => parse_style(alloc, text),
         None => Ok(Vec::new(alloc)),
     }
@@ -42,7 +35,7 @@ pub(crate) fn attach<'a>(
     ensures { IfOk result (λ attached. flat_map matched_of attached.items
         ≡ all_attached layers.now 0 (flat_map declared_of list.now)) }
 {
-    let mut attached = Vec::new(alloc);
+    let mut attached = Vec::with_capacity(alloc, list.len())?;
     if list.is_empty() {
         return Ok(attached);
     }

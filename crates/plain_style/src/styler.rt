@@ -1,122 +1,197 @@
 //! The style of an element over that of its parent, which most often is known from another element.
 
-ghost use Rattle.std.specs.Prelude.{◌≡◌, ◌<◌, ℤ, List, IfOk, false, OnOk, Some, [], codes, length, slice_get, take};
-ghost use Rattle.scene_model.specs.Lookups.{IsElement};
+ghost use Rattle.std.specs.Prelude.{◌≡◌, ◌<◌, ℤ, IfOk, OnOk, Some, [], true, false, length, option_map, slice_get, take};
+ghost use Rattle.cascade_model.specs.Matching.{matching};
+ghost use Rattle.cascade_model.specs.StyleOf.{root_size_at};
 ghost use Rattle.cascade_model.specs.Cascade.{cascaded};
-ghost use Rattle.cascade_model.specs.Matching.{matching, matching_rules};
-ghost use Rattle.value_model.specs.Style.{Style as Computed};
+ghost use Rattle.std.specs.Str.{chars};
+ghost use Rattle.std.specs.Arc.{arc_value};
+ghost use Rattle.value_model.specs.Style.{Style as Computed, font_size_of, initial_size, initial_style};
+ghost use Rattle.sheet_model.specs.Sources.{Sources};
 ghost use Rattle.sheet_set.specs.View.{sources_seen};
-ghost use Rattle.sheet_set.specs.declared.sheets.Sheets.{Sheets};
-ghost use Rattle.plain_style.specs.Filters.{AreFilters};
-ghost use Rattle.plain_style.specs.Hits.{declarations_of};
-ghost use Rattle.plain_style.specs.Memo.{AllRight};
+ghost use Rattle.scene_model.specs.Lookups.{IsElement};
+ghost use Rattle.plain_style.specs.MatchedRules.{declared_by};
+ghost use Rattle.plain_style.specs.Prepared.{IsPrepared};
+ghost use Rattle.plain_style.specs.declared.prepared.Prepared.{Prepared};
+ghost use Rattle.plain_style.specs.Fits.{Fits};
 
-use crate::hits::{Hit, hits_into};
-use crate::inputs::Inputs;
-use crate::memo::Memo;
-use crate::styled::styled;
-use cascade_core::Matched;
+use crate::cache::MatchedRulesCache;
+use crate::matched_rules::{MatchedRule, matching_rules};
+use crate::matching::declarations;
+use crate::prepared::Inputs;
+use crate::style_attribute::{attach, declared_in};
+use cascade_core::{Declarations, cascade_draft};
+use property_table::{PropId, initial_size};
 use std::alloc::Global;
-use style_value::StyleTable;
+use std::sync::Arc;
+use style_value::{Style, StyleDraft, StyleTable};
 use stylo_base::{Fixed, NoMemory};
 
-/// The styles that were computed, what they were computed from, and two lists that are used again from
-/// element to element.
+/// Styles elements one by one, each after its parent. It keeps the styles in a table, each once, and
+/// gives them by their numbers there. What it knows of them holds for one list of sheets and one font
+/// size of the root: that it fits these is asked of each call.
 #[derive(Drop)]
-pub(crate) struct Styler<'a> {
-    pub(crate) table: StyleTable,
-    memo: Memo,
-    hits: Vec<Hit>,
-    list: Vec<Matched<'a>>,
+pub struct Styler {
+    table: StyleTable,
+    cache: MatchedRulesCache,
+    /// The rules that match the element that is at hand.
+    matched: Vec<MatchedRule>,
 }
 
-impl<'a> Styler<'a> {
+/// The style of the root, by its number, and its font size, which `rem` stands for (css-values-4,
+/// section 6.1).
+#[derive(Clone, Copy, Debug)]
+pub struct RootStyle {
+    /// The number of the style.
+    pub style: usize,
+    /// The font size.
+    pub size: Fixed,
+}
+
+impl Styler {
     /// No style yet.
-    pub(crate) fn start(alloc: Global) -> Result<Styler<'a>, NoMemory>
+    pub fn start(alloc: Global) -> Result<Styler, NoMemory>
         ensures table { IfOk result (λ styler. styler.table ≡ []) }
-        ensures memo { (sheets : Sheets) (size : ℤ) (table : List Computed) → IfOk result (λ styler.
-            AllRight sheets size table styler.memo) }
+        ensures fits { (sources : Sources) (size : ℤ) (prepared : Prepared) → IsPrepared sources prepared
+            → IfOk result (λ styler. Fits sources size prepared styler) }
     {
         Ok(Styler {
             table: StyleTable::start(alloc)?,
-            memo: Memo::start(alloc)?,
-            hits: Vec::new(alloc),
-            list: Vec::new(alloc),
+            cache: MatchedRulesCache::start(alloc)?,
+            matched: Vec::new(alloc),
         })
+    }
+
+    /// The style with a number.
+    pub fn style(&self, number: usize) -> &Arc<Style>
+        requires { number < length self.now.table }
+        ensures { slice_get self.now.table number ≡ Some (arc_value result.now) }
+    {
+        self.table.style(number)
+    }
+
+    /// Styles an element without a parent: over all initial values, with the initial font size for `rem`
+    /// in `font-size`.
+    pub fn root(&mut self, inputs: &Inputs<'_>, number: u32) -> Result<RootStyle, NoMemory>
+        requires element { IsElement inputs.now.doc.now.elements number }
+        requires prepared { IsPrepared (sources_seen inputs.now.sheets.now) inputs.now.prepared.now }
+        ensures style { IfOk result (λ root. slice_get self.new.table root.style
+            ≡ Some (cascaded true initial_style initial_size
+            (matching inputs.now.doc.now.elements (sources_seen inputs.now.sheets.now) number))) }
+        ensures size { IfOk result (λ root. root.size
+            ≡ root_size_at inputs.now.doc.now.elements (sources_seen inputs.now.sheets.now) number) }
+        ensures kept { OnOk result (take (length self.old.table) self.new.table ≡ self.old.table) }
+        ensures fits { (size : ℤ) → Fits (sources_seen inputs.now.sheets.now) size inputs.now.prepared.now self.old
+            → OnOk result (Fits (sources_seen inputs.now.sheets.now) size inputs.now.prepared.now self.new) }
+    {
+        matching_rules(
+            &mut self.matched,
+            inputs.doc,
+            inputs.sheets,
+            &inputs.prepared.filters,
+            number,
+        )?;
+        let text = inputs
+            .doc
+            .attribute_atom(number, &inputs.prepared.style_name);
+        let initial = Style::initial(inputs.alloc)?;
+        let draft = self.draft(inputs, text, &initial, initial_size(), true)?;
+        let size = font_size(&draft);
+        let style = self.table.add(inputs.alloc, draft)?;
+        Ok(RootStyle { style, size })
     }
 
     /// The number of the style of an element over the style `parent` of its parent, where `rem` stands
     /// for `size`. Without a `style` attribute it is looked for among what was computed before.
-    pub(crate) fn child(
+    pub fn child(
         &mut self,
-        inputs: &Inputs<'a>,
+        inputs: &Inputs<'_>,
         number: u32,
         parent: usize,
         size: Fixed,
     ) -> Result<usize, NoMemory>
         requires element { IsElement inputs.now.doc.now.elements number }
-        requires name { inputs.now.style_name.now ≡ codes "style" }
-        requires filters { AreFilters inputs.now.filters.now inputs.now.sheets.now.selectors.items }
         requires parent { parent < length self.old.table }
-        requires memo { AllRight inputs.now.sheets.now size self.old.table self.old.memo }
+        requires fits { Fits (sources_seen inputs.now.sheets.now) size inputs.now.prepared.now self.old }
         ensures style { (over : Computed) → slice_get self.old.table parent ≡ Some over
             → IfOk result (λ style. slice_get self.new.table style ≡ Some (cascaded false over size
             (matching inputs.now.doc.now.elements (sources_seen inputs.now.sheets.now) number))) }
         ensures kept { OnOk result (take (length self.old.table) self.new.table ≡ self.old.table) }
-        ensures memo { OnOk result (AllRight inputs.now.sheets.now size self.new.table self.new.memo) }
+        ensures fits { OnOk result
+            (Fits (sources_seen inputs.now.sheets.now) size inputs.now.prepared.now self.new) }
     {
-        hits_into(
-            &mut self.hits,
+        matching_rules(
+            &mut self.matched,
             inputs.doc,
             inputs.sheets,
-            inputs.filters,
+            &inputs.prepared.filters,
             number,
         )?;
-        if inputs
+        let text = inputs
             .doc
-            .attribute_atom(number, inputs.style_name)
-            .is_some()
-        {
-            return self.compute(inputs, number, parent, size);
+            .attribute_atom(number, &inputs.prepared.style_name);
+        if text.is_some() {
+            return self.compute(inputs, text, parent, size);
         }
-        if let Some(style) = self.memo.find(parent, &self.hits) {
+        if let Some(style) = self.cache.find(parent, &self.matched) {
             return Ok(style);
         }
-        let style = self.compute(inputs, number, parent, size)?;
-        self.memo.keep(parent, &self.hits, style)?;
+        let style = self.compute(inputs, None, parent, size)?;
+        self.cache.keep(parent, &self.matched, style)?;
         Ok(style)
     }
 
-    /// The number of the style of an element that these rules match, computed.
+    /// The number of the style of an element that the rules at hand match, and whose `style` attribute
+    /// has this text, over the style `parent`: it is computed.
     fn compute(
         &mut self,
-        inputs: &Inputs<'a>,
-        number: u32,
+        inputs: &Inputs<'_>,
+        text: Option<&str>,
         parent: usize,
         size: Fixed,
     ) -> Result<usize, NoMemory>
-        requires element { IsElement inputs.now.doc.now.elements number }
-        requires name { inputs.now.style_name.now ≡ codes "style" }
         requires parent { parent < length self.old.table }
-        requires hits { declarations_of inputs.now.sheets.now self.old.hits.items
-            ≡ matching_rules inputs.now.doc.now.elements (sources_seen inputs.now.sheets.now) number }
         ensures style { (over : Computed) → slice_get self.old.table parent ≡ Some over
             → IfOk result (λ style. slice_get self.new.table style ≡ Some (cascaded false over size
-            (matching inputs.now.doc.now.elements (sources_seen inputs.now.sheets.now) number))) }
+            (declared_by (sources_seen inputs.now.sheets.now) self.old.matched.items
+            (option_map (λ t. chars t.now) text.entry)))) }
         ensures kept { OnOk result (take (length self.old.table) self.new.table ≡ self.old.table) }
-        ensures memo { self.new.memo ≡ self.old.memo }
-        ensures hits { self.new.hits ≡ self.old.hits }
+        ensures cache { self.new.cache ≡ self.old.cache }
+        ensures matched { self.new.matched ≡ self.old.matched }
     {
         let over = self.table.style(parent);
-        let draft = styled(
-            inputs,
-            number,
-            &self.hits,
-            &mut self.list,
-            over,
-            size,
-            false,
-        )?;
+        let draft = self.draft(inputs, text, over, size, false)?;
         self.table.add(inputs.alloc, draft)
     }
+
+    /// The style over another one of an element that the rules at hand match, and whose `style`
+    /// attribute has this text, where `rem` stands for `size`.
+    fn draft(
+        &self,
+        inputs: &Inputs<'_>,
+        text: Option<&str>,
+        over: &Style,
+        size: Fixed,
+        is_root: bool,
+    ) -> Result<StyleDraft, NoMemory>
+        ensures { IfOk result (λ draft. draft ≡ cascaded is_root over.now size
+            (declared_by (sources_seen inputs.now.sheets.now) self.now.matched.items
+            (option_map (λ t. chars t.now) text.entry))) }
+    {
+        let list = declarations(inputs.alloc, inputs.sheets, &self.matched)?;
+        let declared = declared_in(inputs.alloc, text)?;
+        let attached = attach(inputs.alloc, inputs.sheets.layers(), &declared)?;
+        let declarations = Declarations {
+            matched: &list,
+            attached: &attached,
+        };
+        cascade_draft(inputs.alloc, declarations, over, size, is_root)
+    }
+}
+
+/// The font size that a draft has.
+fn font_size(draft: &StyleDraft) -> Fixed
+    ensures { result ≡ font_size_of draft.now.values }
+{
+    draft.value(PropId::FontSize).font_size()
 }

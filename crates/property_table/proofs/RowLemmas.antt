@@ -11,7 +11,7 @@ use Rattle.value_model.specs.Table as model
 use Rattle.property_table.specs.View.{property_of, row_seen}
 use Rattle.property_table.specs.declared.property.PropId.{PropId}
 use Rattle.property_table.specs.declared.property.TheConstants.{COUNT}
-use Rattle.property_table.specs.declared.property.Row.{Row}
+use Rattle.property_table.specs.declared.property.PropertyRow.{PropertyRow}
 use Rattle.property_table.specs.contracts.property.PropId.{the_type}
 
 -- no two properties have one row
@@ -23,20 +23,20 @@ unfolding model.table
 length-table = refl
 
 -- there are as many rows as in the table
-pub length-rows : (rows : List Row) → map row_seen rows ≡ model.table → length rows ≡ length model.table
+pub length-rows : (rows : List PropertyRow) → map row_seen rows ≡ model.table → length rows ≡ length model.table
 length-rows rows h = sym (length-map rows row_seen) ∙ ap length h
 
 -- the row of the table at an index
-pub row_at : (rows : List Row) (i : ℕ) (d : Row) → map row_seen rows ≡ model.table → i < length rows → slice_get model.table i ≡ Some (row_seen (get_or rows i d))
+pub row_at : (rows : List PropertyRow) (i : ℕ) (d : PropertyRow) → map row_seen rows ≡ model.table → i < length rows → slice_get model.table i ≡ Some (row_seen (get_or rows i d))
 row_at rows i d h lt =
     ap (λ list. slice_get list i) (sym h)
     ∙ (slice_get-map row_seen rows i ∙ ap (option_map row_seen) (slice_get-get_or rows i d lt))
 
-abbrev property_of_row : Row → ℕ
+abbrev property_of_row : PropertyRow → ℕ
 property_of_row row = property_of row.id
 
 -- the property of the row at an index is that index
-pub property_at : (rows : List Row) (i : ℕ) (d : Row) → map (λ (row : Row). property_of row.id) rows ≡ range_with_len 0 (length model.table) → i < length rows → property_of (get_or rows i d).id ≡ i
+pub property_at : (rows : List PropertyRow) (i : ℕ) (d : PropertyRow) → map (λ (row : PropertyRow). property_of row.id) rows ≡ range_with_len 0 (length model.table) → i < length rows → property_of (get_or rows i d).id ≡ i
 property_at rows i d h lt =
     let within : i < length model.table =
     omega (arith, length-map rows property_of_row, ap length h, length-range_with_len 0 (length model.table)) in
@@ -56,17 +56,17 @@ alike_at f g xs i x same at =
     let other : slice_get (map g xs) i ≡ Some (g x) = slice_get-map g xs i ∙ ap (option_map g) at in
     same_Some (f x) (g x) (sym one ∙ (ap (λ l. slice_get l i) same ∙ other))
 
-abbrev label_of : Row → Characters
+abbrev label_of : PropertyRow → Characters
 label_of row = chars row.label.now
 
-abbrev label_in : model.Row → Characters
+abbrev label_in : model.PropertyRow → Characters
 label_in row = row.name ++ codes ": "
 
-pub length-labelled : (rows : List Row) → map label_of rows ≡ map label_in model.table → length rows ≡ length model.table
+pub length-labelled : (rows : List PropertyRow) → map label_of rows ≡ map label_in model.table → length rows ≡ length model.table
 length-labelled rows same = sym (length-map rows label_of) ∙ (ap length same ∙ length-map model.table label_in)
 
 -- what is printed before a value, at the row of a property
-pub label_at : (rows : List Row) (i property : ℕ) (d : Row) → map label_of rows ≡ map label_in model.table → i ≡ property → i < length model.table → chars (get_or rows i d).label.now ≡ (get_or model.table property model.color_row).name ++ codes ": "
+pub label_at : (rows : List PropertyRow) (i property : ℕ) (d : PropertyRow) → map label_of rows ≡ map label_in model.table → i ≡ property → i < length model.table → chars (get_or rows i d).label.now ≡ (get_or model.table property model.color_row).name ++ codes ": "
 label_at rows i property d same at lt =
     let within : i < length rows = omega (arith, lt, length-labelled rows same) in
     sym (get_or-map label_of rows i d [] within)

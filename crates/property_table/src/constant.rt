@@ -2,7 +2,7 @@
 
 ghost use Rattle.std.specs.Prelude.{◌≡◌};
 ghost use Rattle.value_model.specs.Style.{initial_size};
-ghost use Rattle.property_table.specs.View.{constant_of, value_of};
+ghost use Rattle.property_table.specs.View.{constant_of, value_seen};
 
 use crate::{Color, Keyword, Value};
 use stylo_base::Fixed;
@@ -31,7 +31,7 @@ pub enum Constant {
 impl Constant {
     /// The value.
     pub fn value(self) -> Value
-        ensures { value_of result ≡ constant_of self }
+        ensures { value_seen result ≡ constant_of self }
     {
         match self {
             Constant::Keyword(keyword) => Value::Keyword(keyword),

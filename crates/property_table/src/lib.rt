@@ -4,18 +4,18 @@
 #![tactic(auto)]
 
 mod color;
-mod columns;
 mod constant;
 mod keyword;
 mod property;
 mod rows;
 mod value;
 mod value_form;
+mod value_parts;
 pub mod word;
 
 pub use color::Color;
 pub use constant::{Constant, INITIAL_SIZE, initial_size};
 pub use keyword::{KEYWORDS, Keyword};
-pub use property::{COUNT, PropId, Row, by_name, inherited, initial, label, standing};
+pub use property::{COUNT, PropId, PropertyRow, by_name, inherited, initial, label, standing};
 pub use value::Value;
-pub use value_form::{Rule, ValueForm};
+pub use value_form::{ComputeRule, ValueForm};

@@ -4,10 +4,10 @@ ghost use Rattle.std.specs.Prelude.{◌≡◌, ◌<◌, ◌++◌, Some, codes, l
 ghost use Rattle.std.specs.List.{range_with_len};
 ghost use Rattle.std.specs.Str.{chars};
 ghost use Rattle.value_model.specs.Table.{property_named, table};
-ghost use Rattle.property_table.specs.View.{inherited_properties, value_of, property_of, row_of, row_seen};
+ghost use Rattle.property_table.specs.View.{inherited_properties, value_seen, property_of, row_of, row_seen};
 
 use crate::rows::ROWS;
-use crate::{Constant, Rule, Value, ValueForm};
+use crate::{ComputeRule, Constant, Value, ValueForm};
 use stylo_base::eq_ascii_case;
 
 /// A property.
@@ -57,7 +57,7 @@ pub enum PropId {
 
 /// What is known of one property.
 #[derive(Clone, Copy, Debug)]
-pub struct Row {
+pub struct PropertyRow {
     /// The property.
     pub id: PropId,
     /// Its name, in lower-case ASCII.
@@ -73,7 +73,7 @@ pub struct Row {
     /// What it takes.
     pub forms: &'static [ValueForm],
     /// How a value of it is computed.
-    pub rule: Rule,
+    pub rule: ComputeRule,
 }
 
 /// The number of properties.
@@ -100,9 +100,9 @@ impl PropId {
     }
 }
 
-impl Row {
+impl PropertyRow {
     /// All rows, in the order of the table.
-    pub fn all() -> &'static [Row]
+    pub fn all() -> &'static [PropertyRow]
         ensures rows { map row_seen result.now ≡ table }
         ensures order { map (λ row. property_of row.id) result.now
             ≡ range_with_len 0 (length table) }
@@ -118,12 +118,12 @@ impl Row {
     }
 
     /// The row of a property.
-    pub fn of(id: PropId) -> &'static Row
+    pub fn of(id: PropId) -> &'static PropertyRow
         ensures found { slice_get table (property_of id) ≡ Some (row_of id) }
         ensures row { row_seen result.now ≡ row_of id }
         ensures id { result.now.id ≡ id }
     {
-        &Row::all()[id.row()]
+        &PropertyRow::all()[id.row()]
     }
 }
 
@@ -131,7 +131,7 @@ impl Row {
 pub fn by_name(name: &str) -> Option<PropId>
     ensures { option_map property_of result ≡ property_named (chars name.now) }
 {
-    for row in Row::all() {
+    for row in PropertyRow::all() {
         if eq_ascii_case(name, row.name) {
             return Some(row.id);
         }
@@ -141,23 +141,23 @@ pub fn by_name(name: &str) -> Option<PropId>
 
 /// What the property is where nothing sets it.
 pub fn initial(id: PropId) -> Value
-    ensures { value_of result ≡ (row_of id).initial }
+    ensures { value_seen result ≡ (row_of id).initial }
 {
-    Row::of(id).initial.value()
+    PropertyRow::of(id).initial.value()
 }
 
 /// The value of the property that is not printed.
 pub fn standing(id: PropId) -> Value
-    ensures { value_of result ≡ (row_of id).standing }
+    ensures { value_seen result ≡ (row_of id).standing }
 {
-    Row::of(id).standing.value()
+    PropertyRow::of(id).standing.value()
 }
 
 /// Whether an element takes the property from its parent where nothing sets it.
 pub fn inherited(id: PropId) -> bool
     ensures { result ≡ (row_of id).inherited }
 {
-    Row::of(id).inherited
+    PropertyRow::of(id).inherited
 }
 
 /// What is printed before a value of the property: its name, a colon and a blank.
@@ -167,8 +167,8 @@ pub fn label(id: PropId) -> &'static str
     labelled_rows()[id.row()].label
 }
 
-/// All rows, as `Row::all` gives them, with what is said of their labels.
-fn labelled_rows() -> &'static [Row]
+/// All rows, as `PropertyRow::all` gives them, with what is said of their labels.
+fn labelled_rows() -> &'static [PropertyRow]
     ensures { map (λ row. chars row.label.now) result.now ≡ map (λ row. row.name ++ codes ": ") table }
 {
     ROWS

@@ -1,6 +1,6 @@
 //! The rows of the table, in the order in which they are printed.
 
-use crate::{Color, Constant, INITIAL_SIZE, Keyword, PropId, Row, Rule, ValueForm};
+use crate::{Color, ComputeRule, Constant, INITIAL_SIZE, Keyword, PropId, PropertyRow, ValueForm};
 
 const BLACK: Constant = Constant::Color(Color {
     red: 0,
@@ -28,7 +28,7 @@ const MOST: i64 = 2_000_000_000_000;
 /// takes and how it is computed.
 macro_rules! row {
     ($id:ident, $name:literal, $inherited:literal, $initial:expr, $standing:expr, $rule:ident, $forms:expr) => {
-        Row {
+        PropertyRow {
             id: PropId::$id,
             name: $name,
             label: concat!($name, ": "),
@@ -36,7 +36,7 @@ macro_rules! row {
             initial: $initial,
             standing: $standing,
             forms: $forms,
-            rule: Rule::$rule,
+            rule: ComputeRule::$rule,
         }
     };
 }
@@ -137,7 +137,7 @@ macro_rules! border_style {
 }
 
 /// A row for each property.
-pub(crate) const ROWS: &[Row] = &[
+pub(crate) const ROWS: &[PropertyRow] = &[
     row!(
         Color,
         "color",

@@ -1,9 +1,9 @@
 //! What a property can be set or computed to be.
 
 ghost use Rattle.std.specs.Prelude.{◌≡◌, ◌++◌, ◌↔◌, IsTrue, OnErr, OnOk};
-ghost use Rattle.value_model.specs.Value.{same_value, written};
+ghost use Rattle.value_model.specs.Value.{same_value, printed_value};
 ghost use Rattle.value_model.specs.Style.{size_in};
-ghost use Rattle.property_table.specs.View.{value_of};
+ghost use Rattle.property_table.specs.View.{value_seen};
 
 use crate::{Color, Keyword, initial_size};
 use stylo_base::{Fixed, NUMBER_ROOM, NoMemory, Text};
@@ -39,15 +39,15 @@ pub enum Value {
 impl Value {
     /// Whether the two are the same value.
     pub fn is_same(self, other: Value) -> bool
-        ensures same { IsTrue result ↔ (value_of self ≡ value_of other) }
-        ensures test { result ≡ same_value (value_of self) (value_of other) }
+        ensures same { IsTrue result ↔ (value_seen self ≡ value_seen other) }
+        ensures test { result ≡ same_value (value_seen self) (value_seen other) }
     {
         self == other
     }
 
     /// The size that a value of `font-size` is.
     pub fn font_size(self) -> Fixed
-        ensures { result ≡ size_in (value_of self) }
+        ensures { result ≡ size_in (value_seen self) }
     {
         match self {
             Value::Pixels(size) => size,
@@ -57,7 +57,7 @@ impl Value {
 
     /// Appends the value to `text`, as it is printed.
     pub fn write(self, text: &mut Text) -> Result<(), NoMemory>
-        ensures ok { OnOk result (text.new ≡ text.old ++ written (value_of self)) }
+        ensures ok { OnOk result (text.new ≡ text.old ++ printed_value (value_seen self)) }
         ensures err { OnErr result (text.new ≡ text.old) }
     {
         match self {

@@ -32,7 +32,7 @@ pub enum ValueForm {
 
 /// How a value of a property is computed.
 #[derive(Clone, Copy, Debug, PartialEq, Eq)]
-pub enum Rule {
+pub enum ComputeRule {
     /// Lengths become pixels.
     Plain,
     /// `currentcolor` is the inherited colour (css-color-4, section 9).

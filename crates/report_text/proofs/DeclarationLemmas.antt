@@ -5,8 +5,8 @@ use Rattle.std.specs.Str.{chars, IsUtf8}
 use Rattle.std.specs.FinMap as finmap
 use lib.Utf8.{encodes}
 use Rattle.base_model.specs.Text.{Characters}
-use Rattle.value_model.specs.Value.{Value, same_value, written}
-use Rattle.value_model.specs.Table.{Row, table}
+use Rattle.value_model.specs.Value.{Value, same_value, printed_value}
+use Rattle.value_model.specs.Table.{PropertyRow, table}
 use Rattle.custom_model.specs.Value.{CustomValue}
 use Rattle.custom_model.specs.Printed.{custom_declarations, custom_text, custom_texts, each_after, joined, value_text}
 use Rattle.syntax_model.specs.Written.{ident_text}
@@ -46,18 +46,18 @@ joined-append ((c ∷ x) ∷ xs) ((d ∷ y) ∷ ys) some more =
     ∙ ap (λ l. (c ∷ x) ++ l) (sym (each-append xs ((d ∷ y) ∷ ys)))
 
 -- a declaration's text has a colon
-some_declaration : (row : Row) (value : Value) → 0 < length (declaration_text row value)
+some_declaration : (row : PropertyRow) (value : Value) → 0 < length (declaration_text row value)
 some_declaration row value =
-    let rest : Characters = codes ": " ++ written value in
+    let rest : Characters = codes ": " ++ printed_value value in
     omega (arith, length-append row.name rest)
 
-declarations_first : (rows : List Row) (values : List Value) → IsSomeFirst (declaration_texts rows values)
+declarations_first : (rows : List PropertyRow) (values : List Value) → IsSomeFirst (declaration_texts rows values)
 declarations_first [] values = tt
 declarations_first (row ∷ rows) [] = tt
 declarations_first (row ∷ rows) (value ∷ values) =
     one row rows value values (same_value value row.standing) (declarations_first rows values)
   where
-    one : (row : Row) (rows : List Row) (value : Value) (values : List Value) (standing : Bool) → IsSomeFirst (declaration_texts rows values) → IsSomeFirst (if standing then declaration_texts rows values else declaration_text row value ∷ declaration_texts rows values)
+    one : (row : PropertyRow) (rows : List PropertyRow) (value : Value) (values : List Value) (standing : Bool) → IsSomeFirst (declaration_texts rows values) → IsSomeFirst (if standing then declaration_texts rows values else declaration_text row value ∷ declaration_texts rows values)
     one row rows value values true rest = rest
     one row rows value values false rest = some_declaration row value
 

@@ -1,22 +1,22 @@
-//! What trying a selector at an element tells.
+//! The answer of the matcher: whether a selector matches an element, and if not, where the search may go on.
 
 ghost use Rattle.std.specs.Prelude.{◌≡◌};
 ghost use Rattle.selector_match.specs.Results.{told_of, weakest as model_weakest};
 
-/// What trying a selector at an element tells. The cases are those of Servo's matcher: a failed try says to which
-/// combinator to the right the search goes back, so that no combinator is tried twice for the same reason.
+/// Whether a selector matches an element. Where it does not, the case says how far back the search has to go before it
+/// can succeed, so that nothing is tried twice for the same reason. The cases are those of Servo's matcher.
 #[derive(Clone, Copy, Debug, PartialEq, Eq)]
 pub(crate) enum MatchResult {
-    /// It holds there (Servo's `Matched`).
+    /// The selector matches (Servo's `Matched`).
     Matched,
-    /// It does not hold there. The closest `~` to the right goes on with the sibling before, a descendant combinator
-    /// with the parent (Servo's `NotMatchedAndRestartFromClosestLaterSibling`).
+    /// It does not match this element. The closest `~` to the right goes on with the sibling before, a descendant
+    /// combinator with the parent (Servo's `NotMatchedAndRestartFromClosestLaterSibling`).
     RestartFromSibling,
-    /// It holds neither there nor at a sibling before. So a `~` to the right has nothing more to try, and the closest
-    /// descendant combinator goes on with the parent (Servo's `NotMatchedAndRestartFromClosestDescendant`).
+    /// It matches neither this element nor a sibling before it. So a `~` to the right has nothing more to try, and the
+    /// closest descendant combinator goes on with the parent (Servo's `NotMatchedAndRestartFromClosestDescendant`).
     RestartFromDescendant,
-    /// It holds neither there nor at any element whose ancestors are among those of this one. So no combinator to the
-    /// right has anything more to try (Servo's `NotMatchedGlobally`).
+    /// It matches neither this element nor any other whose ancestors are among those of this one. So no combinator
+    /// to the right has anything more to try (Servo's `NotMatchedGlobally`).
     NotMatchedGlobally,
 }
 

@@ -16,7 +16,7 @@ pub(crate) fn passes(doc: &Doc, test: &Simple, x: u32) -> bool
     ensures { result ≡ model_passes doc.now.elements (simple_of test.now) x }
 {
     match test {
-        Simple::Type(tag) => doc.has_tag(x, tag),
+        Simple::Type(tag) => doc.has_tag_atom(x, tag),
         Simple::Id(id) => doc.has_id_atom(x, id),
         Simple::Class(class) => doc.has_class_atom(x, class),
         Simple::Attribute(name) => doc.attribute_atom(x, name).is_some(),

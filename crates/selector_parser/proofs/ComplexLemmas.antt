@@ -4,7 +4,7 @@ use Rattle.std.proofs.lemmas.Bool.Decides.{nat_tests}
 use Rattle.syntax_model.specs.Token.{Token}
 use Rattle.selector_model.specs.Compounds.{compound_limit, compounds_in, compounds_within}
 use Rattle.selector_model.specs.Selector.{Selector, subject, Combinator, Compound}
-use Rattle.syntax_model.specs.Kinds.{trimmed}
+use Rattle.syntax_model.specs.TokenKinds.{trimmed}
 use Rattle.sheet_model.specs.SelectorsIn.{Reader, combinator_at, complex_in, compound_at, function_by, more_after, reader_of, within_limit}
 
 -- the selector so far has so many compounds, and with what is left it is the whole; fewer compounds than that may follow

@@ -3,10 +3,10 @@ use Rattle.std.proofs.Common.{◌≡◌, ℕ, ◌+◌, ◌<◌, true, false, con
 use Rattle.std.proofs.lemmas.Bool.{cond-true, cond-false}
 use Rattle.std.proofs.lemmas.List.{drop-drop, drop_all, drop_more}
 use Rattle.base_model.specs.Lists.{is_nil}
-use Rattle.syntax_model.specs.Token.{Token, Kind, open_square, function}
+use Rattle.syntax_model.specs.Token.{Token, TokenKind, open_square, function}
 use Rattle.syntax_model.specs.Brackets.{Bracket, square, round, open_past}
 use Rattle.sheet_model.specs.SelectorTokens.{inside_len, is_open_square}
-use Rattle.syntax_model.specs.Kinds.{is_function}
+use Rattle.syntax_model.specs.TokenKinds.{is_function}
 
 -- so many are counted, and these brackets are open after them
 abbrev pub IsCounted : List Bracket → List Token → ℕ → List Bracket → Type 0
@@ -39,14 +39,14 @@ counted_all start tokens n pending so_far is =
 pub square_opens : (token : Token) → is_open_square token.kind ≡ true → open_past [] token ≡ square ∷ []
 square_opens token is = of_kind token.kind is
   where
-    of_kind : (kind : Kind) → is_open_square kind ≡ true → open_past [] (record token { kind = kind }) ≡ square ∷ []
+    of_kind : (kind : TokenKind) → is_open_square kind ≡ true → open_past [] (record token { kind = kind }) ≡ square ∷ []
     of_kind open_square e = refl
     of_kind kind e = absurd (cc)
 
 pub round_opens : (token : Token) → is_function token.kind ≡ true → open_past [] token ≡ round ∷ []
 round_opens token is = of_kind token.kind is
   where
-    of_kind : (kind : Kind) → is_function kind ≡ true → open_past [] (record token { kind = kind }) ≡ round ∷ []
+    of_kind : (kind : TokenKind) → is_function kind ≡ true → open_past [] (record token { kind = kind }) ≡ round ∷ []
     of_kind function e = refl
     of_kind kind e = absurd (cc)
 

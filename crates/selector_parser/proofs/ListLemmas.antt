@@ -5,7 +5,7 @@ use Rattle.std.specs.List.{cons_option, filter_map}
 use Rattle.std.proofs.lemmas.List.{map-append, append-nil}
 use Rattle.base_model.specs.Lists.{every}
 use Rattle.syntax_model.specs.Token.{Token}
-use Rattle.syntax_model.specs.Kinds.{is_comma}
+use Rattle.syntax_model.specs.TokenKinds.{is_comma}
 use Rattle.syntax_model.specs.Outside.{from_first, up_to, parts_between}
 use Rattle.syntax_model.proofs.OutsideLemmas.{parts_after, parts_split}
 use Rattle.selector_model.specs.Selector.{Selector}

@@ -17,7 +17,7 @@ use stylo_base::{NoMemory, Text};
 
 /// Reads tokens as An+B, with whitespace around it. None: they are none.
 #[tactic(auto, unfolding(sheet_model::specs::AnPlusB::an_plus_b_in))]
-pub fn an_plus_b(alloc: Global, tokens: &[Token]) -> Result<Option<AnB>, NoMemory>
+pub(crate) fn an_plus_b(alloc: Global, tokens: &[Token]) -> Result<Option<AnB>, NoMemory>
     ensures { IfOk result (λ found. option_map formula_of found ≡ an_plus_b_in tokens.now) }
 {
     let tokens = trimmed(tokens);
@@ -30,7 +30,7 @@ pub fn an_plus_b(alloc: Global, tokens: &[Token]) -> Result<Option<AnB>, NoMemor
     linear(alloc, tokens)
 }
 
-// `odd` or `even`.
+/// `odd` or `even`.
 fn word(tokens: &[Token]) -> Option<AnB>
     ensures { option_map formula_of result ≡ word_in tokens.now }
 {
@@ -41,7 +41,7 @@ fn word(tokens: &[Token]) -> Option<AnB>
     formula_word(name_of(first))
 }
 
-// `odd` or `even`, by its name.
+/// `odd` or `even`, by its name.
 fn formula_word(name: &Text) -> Option<AnB>
     ensures { option_map formula_of result ≡ named name.now formula_words }
 {
@@ -54,7 +54,7 @@ fn formula_word(name: &Text) -> Option<AnB>
     }
 }
 
-// An integer: B alone.
+/// An integer: B alone.
 fn integer_alone(tokens: &[Token]) -> Option<AnB>
     ensures { option_map formula_of result ≡ integer_in tokens.now }
 {
@@ -68,7 +68,7 @@ fn integer_alone(tokens: &[Token]) -> Option<AnB>
     })
 }
 
-// A and B.
+/// A and B.
 fn linear(alloc: Global, tokens: &[Token]) -> Result<Option<AnB>, NoMemory>
     ensures { IfOk result (λ found. option_map formula_of found ≡ linear_in tokens.now) }
 {

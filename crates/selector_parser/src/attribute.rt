@@ -14,7 +14,7 @@ use stylo_base::{Atom, NoMemory, Text};
 
 /// Reads what stands in the brackets of an attribute selector. None: it is none.
 #[tactic(auto, unfolding(sheet_model::specs::AttributeIn::attribute_in))]
-pub fn attribute(alloc: Global, tokens: &[Token]) -> Result<Option<Simple>, NoMemory>
+pub(crate) fn attribute(alloc: Global, tokens: &[Token]) -> Result<Option<Simple>, NoMemory>
     ensures { IfOk result (λ found. option_map simple_of found ≡ attribute_in tokens.now) }
 {
     let Some(Named { name, rest }) = ident(trimmed(tokens)) else {
@@ -23,7 +23,7 @@ pub fn attribute(alloc: Global, tokens: &[Token]) -> Result<Option<Simple>, NoMe
     compared(alloc, name, without_white(rest))
 }
 
-// What stands after the attribute's name.
+/// What stands after the attribute's name.
 fn compared(alloc: Global, name: &Text, tokens: &[Token]) -> Result<Option<Simple>, NoMemory>
     ensures { IfOk result (λ found. option_map simple_of found ≡ compared_in name.now tokens.now) }
 {
@@ -47,7 +47,7 @@ fn compared(alloc: Global, name: &Text, tokens: &[Token]) -> Result<Option<Simpl
     }))
 }
 
-// How the value is compared, and what comes after it.
+/// How the value is compared, and what comes after it.
 fn matcher<'a>(tokens: &'a [Token]) -> Option<(AttributeOperator, &'a [Token])>
     ensures { option_map (λ found. (operator_of found.0, found.1.now)) result ≡ matcher_at tokens.now }
 {
@@ -60,7 +60,7 @@ fn matcher<'a>(tokens: &'a [Token]) -> Option<(AttributeOperator, &'a [Token])>
     Some((operator, rest))
 }
 
-// The operator that a character before `=` makes.
+/// The operator that a character before `=` makes.
 fn operator(token: &Token) -> Option<AttributeOperator>
     ensures { option_map operator_of result ≡ operator_by token.now.kind }
 {
@@ -79,7 +79,7 @@ fn operator(token: &Token) -> Option<AttributeOperator>
     }
 }
 
-// What comes after `=`.
+/// What comes after `=`.
 fn after_equals<'a>(tokens: &'a [Token]) -> Option<&'a [Token]>
     ensures { option_copied result ≡ after_equals tokens.now }
 {
@@ -90,7 +90,7 @@ fn after_equals<'a>(tokens: &'a [Token]) -> Option<&'a [Token]>
     Some(rest)
 }
 
-// The value that the tokens begin with, and what comes after it.
+/// The value that the tokens begin with, and what comes after it.
 fn value<'a>(tokens: &'a [Token]) -> Option<Named<'a>>
     ensures { option_map (λ found. (found.name.now, found.rest.now)) result ≡ value_at tokens.now }
 {
@@ -104,7 +104,7 @@ fn value<'a>(tokens: &'a [Token]) -> Option<Named<'a>>
     })
 }
 
-// Whether ASCII case counts.
+/// Whether ASCII case counts.
 fn modifier(tokens: &[Token]) -> Option<bool>
     ensures { result ≡ modifier_in tokens.now }
 {
@@ -117,7 +117,7 @@ fn modifier(tokens: &[Token]) -> Option<bool>
     modifier_by(name_of(first))
 }
 
-// Whether ASCII case counts, by the modifier's name.
+/// Whether ASCII case counts, by the modifier's name.
 fn modifier_by(name: &Text) -> Option<bool>
     ensures { result ≡ named name.now modifiers }
 {

@@ -16,7 +16,11 @@ use stylo_base::NoMemory;
 /// Reads tokens as a selector in which lists may be nested so deep, with whitespace around it. None:
 /// they are none.
 #[tactic(auto, unfolding(crate::specs::Member::selector_within))]
-pub fn selector(alloc: Global, depth: u32, tokens: &[Token]) -> Result<Option<Complex>, NoMemory>
+pub(crate) fn selector(
+    alloc: Global,
+    depth: u32,
+    tokens: &[Token],
+) -> Result<Option<Complex>, NoMemory>
     ensures { IfOk result (λ found. option_map complex_of found ≡ selector_within depth tokens.now) }
 {
     complex(alloc, depth, tokens)
@@ -24,7 +28,11 @@ pub fn selector(alloc: Global, depth: u32, tokens: &[Token]) -> Result<Option<Co
 
 /// The same, for the lists in it.
 #[cycle(selector)]
-pub fn complex(alloc: Global, depth: u32, tokens: &[Token]) -> Result<Option<Complex>, NoMemory>
+pub(crate) fn complex(
+    alloc: Global,
+    depth: u32,
+    tokens: &[Token],
+) -> Result<Option<Complex>, NoMemory>
     ensures { IfOk result (λ found. option_map complex_of found ≡ complex_in (reader_of depth) tokens.now) }
 {
     let Some((tests, mut rest)) = compound(alloc, depth, trimmed(tokens))? else {
@@ -34,6 +42,7 @@ pub fn complex(alloc: Global, depth: u32, tokens: &[Token]) -> Result<Option<Com
         return Ok(None);
     };
     let mut complex = Complex::alone(tests);
+    // The proof calls the loop by this label.
     'compounds: while !rest.is_empty() {
         let Some((combinator, after)) = combinator(rest) else {
             return Ok(None);

@@ -15,7 +15,7 @@ use stylo_base::{Atom, NoMemory};
 /// Reads the compound that the tokens begin with, in which lists may be nested so deep, and gives its
 /// tests and what comes after it. None: they begin with none.
 #[cycle(selector)]
-pub fn compound<'a>(
+pub(crate) fn compound<'a>(
     alloc: Global,
     depth: u32,
     tokens: &'a [Token],
@@ -26,6 +26,7 @@ pub fn compound<'a>(
     let Some((mut tests, mut rest)) = first(alloc, depth, tokens)? else {
         return Ok(None);
     };
+    // The proof calls the loop by this label.
     'tests: loop {
         let Some((test, after)) = test(alloc, depth, rest)? else {
             tests.shrink_to_fit();
@@ -36,7 +37,7 @@ pub fn compound<'a>(
     }
 }
 
-// A type, `*`, or one test.
+/// A type, `*`, or one test.
 #[cycle(selector)]
 fn first<'a>(
     alloc: Global,
@@ -62,7 +63,7 @@ fn first<'a>(
     Ok(Some((one(alloc, test)?, rest)))
 }
 
-// One test, with no room for more.
+/// One test, with no room for more.
 fn one(alloc: Global, test: Test) -> Result<Vec<Test>, NoMemory>
     ensures { IfOk result (λ tests. tests.items ≡ test ∷ []) }
 {
@@ -71,7 +72,7 @@ fn one(alloc: Global, test: Test) -> Result<Vec<Test>, NoMemory>
     Ok(tests)
 }
 
-// An id, a class, an attribute selector or a pseudo-class.
+/// An id, a class, an attribute selector or a pseudo-class.
 #[cycle(selector)]
 fn test<'a>(
     alloc: Global,

@@ -11,7 +11,7 @@ const MOST: u64 = 64;
 
 /// How many compounds there are with one more of these tests, where that is no more than a selector
 /// may have.
-pub fn with_one_more(count: u64, tests: &[Test]) -> Option<u64>
+pub(crate) fn with_one_more(count: u64, tests: &[Test]) -> Option<u64>
     requires { count ≤ compound_limit }
     ensures { result ≡ (if nat_le (1 + compounds_within (tested (map test_of tests.now)) + count) compound_limit
         then Some (1 + compounds_within (tested (map test_of tests.now)) + count) else None) }

@@ -2,7 +2,7 @@
 
 /// What a pseudo-class asks of the tokens in its brackets.
 #[derive(Clone, Copy, Debug, PartialEq, Eq)]
-pub enum Function {
+pub(crate) enum Function {
     /// An+B, from the first or from the last, among all siblings or among those of the same type.
     Index { from_last: bool, of_type: bool },
     Is,

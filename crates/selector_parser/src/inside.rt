@@ -10,13 +10,13 @@ use stylo_base::NoMemory;
 
 /// What stands in a bracket, and what comes after its closer.
 #[derive(Clone, Copy, Debug)]
-pub struct Bracketed<'a> {
+pub(crate) struct Bracketed<'a> {
     pub tokens: &'a [Token],
     pub rest: &'a [Token],
 }
 
 /// What stands in the bracket that `opener` opens, and what comes after it.
-pub fn cut_bracket<'a>(
+pub(crate) fn cut_bracket<'a>(
     alloc: Global,
     opener: &Token,
     tokens: &'a [Token],
@@ -34,7 +34,7 @@ pub fn cut_bracket<'a>(
     })
 }
 
-// The tokens after the first.
+/// The tokens after the first.
 fn after_first(tokens: &[Token]) -> &[Token]
     ensures { result.now ≡ drop 1 tokens.now }
 {
@@ -44,7 +44,7 @@ fn after_first(tokens: &[Token]) -> &[Token]
     }
 }
 
-// How many tokens come before the closer of the bracket: all, if there is none.
+/// How many tokens come before the closer of the bracket: all, if there is none.
 fn inside_len(alloc: Global, opener: &Token, tokens: &[Token]) -> Result<usize, NoMemory>
     ensures value { IfOk result (λ len. len ≡ inside_len (open_past [] opener.now) tokens.now) }
     ensures inside { IfOk result (λ len. len ≤ length tokens.now) }

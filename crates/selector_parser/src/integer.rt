@@ -11,7 +11,7 @@ ghost use Rattle.syntax_model.specs.Numbers.{after_sign};
 use css_tokens::letters::{is_digit, is_minus, is_sign};
 
 /// What digits say, at most 2,147,483,647.
-pub fn size(digits: &[char]) -> i32
+pub(crate) fn size(digits: &[char]) -> i32
     ensures value { result ≡ pos (size_of digits.now) }
     ensures positive { pos 0 ≤ℤ result }
 {
@@ -22,7 +22,7 @@ pub fn size(digits: &[char]) -> i32
     size as i32
 }
 
-// The size with one more digit.
+/// The size with one more digit.
 fn next(size: u64, digit: char) -> u64
     requires { size ≤ greatest_index }
     ensures value { result ≡ min greatest_index (10 * size + (digit - digit_zero)) }
@@ -33,7 +33,7 @@ fn next(size: u64, digit: char) -> u64
 }
 
 /// What an integer says, which may have a sign.
-pub fn integer(text: &[char]) -> i32
+pub(crate) fn integer(text: &[char]) -> i32
     ensures { result ≡ model.integer text.now }
 {
     let size = size(without_sign(text));
@@ -41,7 +41,7 @@ pub fn integer(text: &[char]) -> i32
 }
 
 /// Whether a sign is first.
-pub fn is_signed(text: &[char]) -> bool
+pub(crate) fn is_signed(text: &[char]) -> bool
     ensures { result ≡ begins is_sign text.now }
 {
     match text.first() {
@@ -50,7 +50,7 @@ pub fn is_signed(text: &[char]) -> bool
     }
 }
 
-// The text after its sign.
+/// The text after its sign.
 fn without_sign(text: &[char]) -> &[char]
     ensures { result.now ≡ after_sign text.now }
 {
@@ -58,7 +58,7 @@ fn without_sign(text: &[char]) -> &[char]
 }
 
 /// Whether all are digits.
-pub fn are_digits(text: &[char]) -> bool
+pub(crate) fn are_digits(text: &[char]) -> bool
     ensures { result ≡ list_all is_digit text.now }
 {
     text.iter().all(|c| is_digit(*c))

@@ -3,48 +3,48 @@
 ghost use Rattle.std.specs.Prelude.{◌≡◌};
 ghost use Rattle.sheet_model.specs.SelectorTokens as model;
 
-use css_tokens::{Kind, Token};
+use css_tokens::{Token, TokenKind};
 
 /// Whether it is a hash that is an identifier.
-pub fn is_id_hash(token: &Token) -> bool
+pub(crate) fn is_id_hash(token: &Token) -> bool
     ensures { result ≡ model.is_id_hash token.now.kind }
 {
     match token.kind() {
-        Kind::Hash { is_id } => is_id,
+        TokenKind::Hash { is_id } => is_id,
         _ => false,
     }
 }
 
 /// Whether it is `[`.
-pub fn is_open_square(token: &Token) -> bool
+pub(crate) fn is_open_square(token: &Token) -> bool
     ensures { result ≡ model.is_open_square token.now.kind }
 {
-    matches!(token.kind(), Kind::OpenSquare)
+    matches!(token.kind(), TokenKind::OpenSquare)
 }
 
 /// Whether it is an identifier or a string.
-pub fn is_text(token: &Token) -> bool
+pub(crate) fn is_text(token: &Token) -> bool
     ensures { result ≡ model.is_text token.now.kind }
 {
-    matches!(token.kind(), Kind::Ident | Kind::String)
+    matches!(token.kind(), TokenKind::Ident | TokenKind::String)
 }
 
 /// Whether it is an integer.
-pub fn is_integer_number(token: &Token) -> bool
+pub(crate) fn is_integer_number(token: &Token) -> bool
     ensures { result ≡ model.is_integer_number token.now.kind }
 {
     match token.kind() {
-        Kind::Number { is_integer } => is_integer,
+        TokenKind::Number { is_integer } => is_integer,
         _ => false,
     }
 }
 
 /// Whether it is an integer with a unit.
-pub fn is_integer_dimension(token: &Token) -> bool
+pub(crate) fn is_integer_dimension(token: &Token) -> bool
     ensures { result ≡ model.is_integer_dimension token.now.kind }
 {
     match token.kind() {
-        Kind::Dimension { is_integer } => is_integer,
+        TokenKind::Dimension { is_integer } => is_integer,
         _ => false,
     }
 }

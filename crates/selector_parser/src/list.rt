@@ -21,6 +21,7 @@ pub fn selector_list(alloc: Global, tokens: &[Token]) -> Result<Option<Vec<Selec
 {
     let mut cursor = Cursor::new(tokens);
     let mut list = Vec::new(alloc);
+    // The proof calls the loop by this label.
     'members: loop {
         let part = cursor.until(alloc, Separator::Comma)?;
         let Some(selector) = member(alloc, part.tokens)? else {
@@ -34,7 +35,7 @@ pub fn selector_list(alloc: Global, tokens: &[Token]) -> Result<Option<Vec<Selec
     }
 }
 
-// A selector with whitespace around it.
+/// A selector with whitespace around it.
 fn member(alloc: Global, tokens: &[Token]) -> Result<Option<Selector>, NoMemory>
     ensures { IfOk result (λ found. option_map selector_of found ≡ selector_within list_limit tokens.now) }
 {

@@ -10,13 +10,13 @@ use stylo_base::{Text, eq_ascii_case};
 
 /// A name, and what comes after it.
 #[derive(Clone, Copy, Debug)]
-pub struct Named<'a> {
+pub(crate) struct Named<'a> {
     pub name: &'a Text,
     pub rest: &'a [Token],
 }
 
 /// The identifier that the tokens begin with, and what comes after it.
-pub fn ident<'a>(tokens: &'a [Token]) -> Option<Named<'a>>
+pub(crate) fn ident<'a>(tokens: &'a [Token]) -> Option<Named<'a>>
     ensures { option_map (λ found. (found.name.now, found.rest.now)) result ≡ ident_at tokens.now }
 {
     let (first, rest) = tokens.split_first()?;
@@ -30,7 +30,7 @@ pub fn ident<'a>(tokens: &'a [Token]) -> Option<Named<'a>>
 }
 
 /// Whether a name is this word, which is in lower-case ASCII, ignoring ASCII case.
-pub fn is(name: &Text, word: &str) -> bool
+pub(crate) fn is(name: &Text, word: &str) -> bool
     requires ascii { is_all_ascii word.now ≡ true }
     requires lower { IsTrue (same_text (ascii_lower word.now) word.now) }
     ensures { result ≡ is_word word.now name.now }

@@ -4,7 +4,7 @@ ghost use Rattle.std.specs.Prelude.{◌≡◌, ◌++◌, IfOk, OnOk, map, option
 ghost use Rattle.std.specs.List.{filter_map};
 ghost use Rattle.selector_types.specs.ComplexView.{complex_of};
 ghost use Rattle.sheet_model.specs.SelectorsIn.{complex_in, reader_of, strict};
-ghost use Rattle.syntax_model.specs.Kinds.{is_comma};
+ghost use Rattle.syntax_model.specs.TokenKinds.{is_comma};
 ghost use Rattle.syntax_model.specs.Outside.{parts_between};
 
 use crate::complex::complex;
@@ -15,12 +15,17 @@ use stylo_base::NoMemory;
 
 /// The members that are selectors, in which lists may be nested so deep.
 #[cycle(selector)]
-pub fn forgiving(alloc: Global, depth: u32, tokens: &[Token]) -> Result<Vec<Complex>, NoMemory>
+pub(crate) fn forgiving(
+    alloc: Global,
+    depth: u32,
+    tokens: &[Token],
+) -> Result<Vec<Complex>, NoMemory>
     ensures { IfOk result (λ list. map complex_of list.items
         ≡ filter_map (complex_in (reader_of depth)) (parts_between is_comma tokens.now)) }
 {
     let mut cursor = Cursor::new(tokens);
     let mut list = Vec::new(alloc);
+    // The proof calls the loop by this label.
     'members: loop {
         let part = cursor.until(alloc, Separator::Comma)?;
         let member = complex(alloc, depth, part.tokens)?;
@@ -32,7 +37,7 @@ pub fn forgiving(alloc: Global, depth: u32, tokens: &[Token]) -> Result<Vec<Comp
     }
 }
 
-// Adds a member, if there is one.
+/// Adds a member, if there is one.
 fn add(list: &mut Vec<Complex>, member: Option<Complex>) -> Result<(), NoMemory>
     ensures { OnOk result (list.new.items ≡ list.old.items ++ option_to_list member) }
 {
@@ -44,12 +49,17 @@ fn add(list: &mut Vec<Complex>, member: Option<Complex>) -> Result<(), NoMemory>
 
 /// The members, in which lists may be nested so deep. None: one is no selector.
 #[cycle(selector)]
-pub fn strict(alloc: Global, depth: u32, tokens: &[Token]) -> Result<Option<Vec<Complex>>, NoMemory>
+pub(crate) fn strict(
+    alloc: Global,
+    depth: u32,
+    tokens: &[Token],
+) -> Result<Option<Vec<Complex>>, NoMemory>
     ensures { IfOk result (λ found. option_map (λ list. map complex_of list.items) found
         ≡ strict (complex_in (reader_of depth)) tokens.now) }
 {
     let mut cursor = Cursor::new(tokens);
     let mut list = Vec::new(alloc);
+    // The proof calls the loop by this label.
     'members: loop {
         let part = cursor.until(alloc, Separator::Comma)?;
         let Some(member) = complex(alloc, depth, part.tokens)? else {

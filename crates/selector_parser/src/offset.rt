@@ -8,7 +8,7 @@ use crate::kinds::is_integer_number;
 use css_tokens::{Token, spelling_of, without_white};
 
 /// B by the word that begins with `n`, and what comes after it.
-pub fn offset(word: &[char], rest: &[Token]) -> Option<i32>
+pub(crate) fn offset(word: &[char], rest: &[Token]) -> Option<i32>
     ensures { result ≡ b_in word.now rest.now }
 {
     let (first, ending) = word.split_first()?;
@@ -18,7 +18,7 @@ pub fn offset(word: &[char], rest: &[Token]) -> Option<i32>
     after_n(ending, rest)
 }
 
-// B after `n`, of which the word may have more.
+/// B after `n`, of which the word may have more.
 fn after_n(ending: &[char], rest: &[Token]) -> Option<i32>
     ensures { result ≡ after_n ending.now rest.now }
 {
@@ -31,7 +31,7 @@ fn after_n(ending: &[char], rest: &[Token]) -> Option<i32>
     after_minus(digits, rest)
 }
 
-// B after `n-`: the digits of the same word, or an integer without a sign.
+/// B after `n-`: the digits of the same word, or an integer without a sign.
 fn after_minus(digits: &[char], rest: &[Token]) -> Option<i32>
     ensures { result ≡ minus_in digits.now rest.now }
 {
@@ -44,7 +44,7 @@ fn after_minus(digits: &[char], rest: &[Token]) -> Option<i32>
     Some(-size(digits))
 }
 
-// B apart from `n`: nothing, an integer with a sign, or a sign and an integer without one.
+/// B apart from `n`: nothing, an integer with a sign, or a sign and an integer without one.
 fn apart(tokens: &[Token]) -> Option<i32>
     ensures { result ≡ apart_in tokens.now }
 {
@@ -63,7 +63,7 @@ fn apart(tokens: &[Token]) -> Option<i32>
     Some(integer(spelling_of(first)))
 }
 
-// The number below zero.
+/// The number below zero.
 fn negated(size: Option<i32>) -> Option<i32>
     requires { IfSome size (λ n. pos 0 ≤ℤ n) }
     ensures { result ≡ option_map neg_ℤ size }
@@ -74,7 +74,7 @@ fn negated(size: Option<i32>) -> Option<i32>
     }
 }
 
-// An integer without a sign, alone.
+/// An integer without a sign, alone.
 fn signless(tokens: &[Token]) -> Option<i32>
     ensures value { result ≡ signless_in tokens.now }
     ensures positive { IfSome result (λ n. pos 0 ≤ℤ n) }

@@ -3,7 +3,7 @@
 ghost use Rattle.std.specs.Prelude.{◌≡◌, ◌≤◌, IfOk, IfSome, length, option_map, true};
 ghost use Rattle.selector_types.specs.ComplexView.{test_of};
 ghost use Rattle.selector_parser.specs.View.{function_of};
-ghost use Rattle.syntax_model.specs.Kinds.{is_function};
+ghost use Rattle.syntax_model.specs.TokenKinds.{is_function};
 ghost use Rattle.sheet_model.specs.SelectorsIn.{complex_in, function_at, function_by, index_by, not_list, pseudo_class_at, reader_of};
 
 use crate::an_plus_b::an_plus_b;
@@ -18,7 +18,7 @@ use stylo_base::NoMemory;
 
 /// The test of a pseudo-class, after its colon, and what comes after it.
 #[cycle(selector)]
-pub fn pseudo_class_test<'a>(
+pub(crate) fn pseudo_class_test<'a>(
     alloc: Global,
     depth: u32,
     tokens: &'a [Token],
@@ -42,7 +42,7 @@ pub fn pseudo_class_test<'a>(
     function_test(alloc, depth, first, rest)
 }
 
-// The test of a pseudo-class with brackets, after its opening bracket.
+/// The test of a pseudo-class with brackets, after its opening bracket.
 #[cycle(selector)]
 fn function_test<'a>(
     alloc: Global,
@@ -65,7 +65,7 @@ fn function_test<'a>(
     Ok(Some((test, bracket.rest)))
 }
 
-// What a pseudo-class says of the tokens in its brackets.
+/// What a pseudo-class says of the tokens in its brackets.
 #[cycle(selector)]
 fn by_function(
     alloc: Global,
@@ -82,7 +82,7 @@ fn by_function(
     by_list(alloc, depth - 1, function, tokens)
 }
 
-// The same where a list may be opened, in which lists may be nested so deep.
+/// The same where a list may be opened, in which lists may be nested so deep.
 #[cycle(selector)]
 fn by_list(
     alloc: Global,
@@ -101,7 +101,7 @@ fn by_list(
     }
 }
 
-// `:not`: each member has to be a selector.
+/// `:not`: each member has to be a selector.
 #[cycle(selector)]
 fn not_test(alloc: Global, depth: u32, tokens: &[Token]) -> Result<Option<Test>, NoMemory>
     ensures { IfOk result (λ found. option_map test_of found
@@ -113,7 +113,7 @@ fn not_test(alloc: Global, depth: u32, tokens: &[Token]) -> Result<Option<Test>,
     Ok(Some(Test::Not(list)))
 }
 
-// An+B, where no list may be opened.
+/// An+B, where no list may be opened.
 fn by_index(alloc: Global, function: Function, tokens: &[Token]) -> Result<Option<Test>, NoMemory>
     ensures { IfOk result (λ found. option_map test_of found ≡ index_by (function_of function) tokens.now) }
 {

@@ -13,7 +13,7 @@ use selector_types::{AnB, Nth, Simple};
 use stylo_base::{State, Text};
 
 /// The pseudo-class without brackets that has this name.
-pub fn pseudo_class(name: &Text) -> Option<Simple>
+pub(crate) fn pseudo_class(name: &Text) -> Option<Simple>
     ensures { option_map simple_of result ≡ named name.now pseudo_classes }
 {
     if is(name, "root") {
@@ -43,7 +43,7 @@ pub fn pseudo_class(name: &Text) -> Option<Simple>
     }
 }
 
-// The first index, or the first from the last.
+/// The first index, or the first from the last.
 fn at_end(from_last: bool, of_type: bool) -> Simple
     ensures { simple_of result ≡ indexed from_last of_type (formula (pos 0) (pos 1)) }
 {
@@ -51,7 +51,7 @@ fn at_end(from_last: bool, of_type: bool) -> Simple
 }
 
 /// An index from the first or from the last, among all siblings or among those of the same type.
-pub fn indexed(from_last: bool, of_type: bool, formula: AnB) -> Simple
+pub(crate) fn indexed(from_last: bool, of_type: bool, formula: AnB) -> Simple
     ensures { simple_of result ≡ indexed from_last of_type (formula_of formula) }
 {
     Simple::Nth(Nth {
@@ -62,7 +62,7 @@ pub fn indexed(from_last: bool, of_type: bool, formula: AnB) -> Simple
 }
 
 /// The pseudo-class with brackets that has this name.
-pub fn function(name: &Text) -> Option<Function>
+pub(crate) fn function(name: &Text) -> Option<Function>
     ensures { option_map function_of result ≡ named name.now functions }
 {
     if is(name, "is") {
@@ -84,7 +84,7 @@ pub fn function(name: &Text) -> Option<Function>
     }
 }
 
-// One that takes An+B.
+/// One that takes An+B.
 fn index(from_last: bool, of_type: bool) -> Function
     ensures { function_of result ≡ model_index from_last of_type }
 {

@@ -15,14 +15,14 @@ use std::alloc::Global;
 use stylo_base::{Atom, NoMemory, Text};
 
 /// The test of an id.
-pub fn id_test(alloc: Global, name: &Text) -> Result<Test, NoMemory>
+pub(crate) fn id_test(alloc: Global, name: &Text) -> Result<Test, NoMemory>
     ensures { IfOk result (λ test. test_of test ≡ simple (id_selector name.now)) }
 {
     Ok(Test::Simple(Simple::Id(Atom::of_text(name.copy(alloc)?))))
 }
 
 /// The test of a class, after its `.`, and what comes after it.
-pub fn class_test<'a>(
+pub(crate) fn class_test<'a>(
     alloc: Global,
     tokens: &'a [Token],
 ) -> Result<Option<(Test, &'a [Token])>, NoMemory>
@@ -38,7 +38,7 @@ pub fn class_test<'a>(
 }
 
 /// The test of an attribute, after its `[`, and what comes after it.
-pub fn attribute_test<'a>(
+pub(crate) fn attribute_test<'a>(
     alloc: Global,
     opener: &Token,
     tokens: &'a [Token],

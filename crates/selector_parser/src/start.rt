@@ -14,14 +14,17 @@ use stylo_base::{NoMemory, Text};
 
 /// A, the word after it, and what comes after that.
 #[derive(Debug, Drop)]
-pub struct Start<'a> {
+pub(crate) struct Start<'a> {
     pub a: i32,
     pub word: Vec<char>,
     pub rest: &'a [Token],
 }
 
 /// An integer with a unit, an identifier, or `+` and an identifier directly after it.
-pub fn first_of<'a>(alloc: Global, tokens: &'a [Token]) -> Result<Option<Start<'a>>, NoMemory>
+pub(crate) fn first_of<'a>(
+    alloc: Global,
+    tokens: &'a [Token],
+) -> Result<Option<Start<'a>>, NoMemory>
     ensures { IfOk result (λ found. option_map head_seen found ≡ head_at tokens.now) }
 {
     let Some((first, rest)) = tokens.split_first() else {
@@ -50,14 +53,14 @@ pub fn first_of<'a>(alloc: Global, tokens: &'a [Token]) -> Result<Option<Start<'
     }))
 }
 
-// The characters of a name.
+/// The characters of a name.
 fn word_of(alloc: Global, name: &Text) -> Result<Vec<char>, NoMemory>
     ensures { IfOk result (λ word. word.items ≡ name.now) }
 {
     Ok(characters_of(alloc, name.as_str())?)
 }
 
-// An identifier: A is 1, or -1 where a hyphen is first.
+/// An identifier: A is 1, or -1 where a hyphen is first.
 fn of_name<'a>(alloc: Global, name: &Text, rest: &'a [Token]) -> Result<Start<'a>, NoMemory>
     ensures { IfOk result (λ found. head_seen found ≡ head_of_name name.now rest.now) }
 {

@@ -24,6 +24,7 @@ use Rattle.change_model.proofs.Started.{IsSound-document_of}
 use Rattle.value_model.specs.Style.{Style, font_size_of}
 use Rattle.selector_model.specs.Selector.{Selector}
 use Rattle.cascade_model.specs.StyleOf.{root_of}
+use Rattle.cascade_model.proofs.StyleAlong.{root_of-first}
 use Rattle.edit_model.specs.Edit.{DocEdit, SheetEdit, Edit, of_document, of_sheets, IsShapedEdit}
 use Rattle.edit_model.specs.Refusal.{Refusal, Outcome, refused, accepted, outcome_of}
 use Rattle.edit_model.specs.Apply.{after, refusal, is_fresh}
@@ -33,14 +34,14 @@ use Rattle.session_model.specs.Marking.{marking_selectors}
 use Rattle.session_model.specs.Same.{same_style}
 use Rattle.session_model.specs.SheetMarks.{is_marked_by_sheets}
 use Rattle.session_model.specs.Standing.{Scene, Standing, elements_of, style_in, root_size_in, kept_at, is_style, has_size, is_matched, parent_differs, root_size_differs, is_cascaded, is_open, matched_count, cascaded_count, started, restyled, with_document, with_sheets, sheet_list, scene_applied, changed, change_of, edit_marks, edit_freshens, edited_by, edited}
-use Rattle.session_model.specs.Rule.{AllKeep, IsReached, at_start, by_restyle}
+use Rattle.session_model.specs.StandingInvariant.{AllKeep, IsReached, at_start, by_restyle}
 use Rattle.session_model.specs.Batches.{edited_all, RefusedEdit, onto_refused, refused_from, with_accepted, accepted_among}
 use Rattle.session_model.proofs.BatchLemmas.{edited_all-reached}
 use Rattle.session_model.proofs.FlagLemmas.{each_number}
 use Rattle.session_model.proofs.KeepsLemmas.{kept-changed}
 use Rattle.session_model.proofs.ListedLemmas.{listed-styles}
-use Rattle.session_model.proofs.OpenLemmas.{root_of-first, root-cascaded, not_cascaded-child}
-use Rattle.session_model.proofs.RuleLemmas.{sound-reached, keeps-reached}
+use Rattle.session_model.proofs.OpenLemmas.{root-cascaded, not_cascaded-child}
+use Rattle.session_model.proofs.InvariantLemmas.{sound-reached, keeps-reached}
 
 abbrev pub sheet : ℕ → Origin → Characters → Sheet
 sheet n origin text = record { number = n; origin = origin; enabled = true; text = text; edition = 0 }

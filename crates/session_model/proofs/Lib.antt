@@ -16,7 +16,7 @@ pub mod ListedLemmas
 pub mod KeepsLemmas
 pub mod OpenLemmas
 pub mod EditLemmas
-pub mod RuleLemmas
+pub mod InvariantLemmas
 pub mod WalkLemmas
 pub mod SlotLemmas
 pub mod FlagLemmas

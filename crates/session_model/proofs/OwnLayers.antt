@@ -13,7 +13,7 @@ use Rattle.syntax_model.specs.TokensIn.{tokens_in}
 use Rattle.syntax_model.specs.LayersIn.{layers_declared, block_layer}
 use Rattle.syntax_model.specs.Rules.{Context, Piece, qualified_rule, at_rule, Rule, style, layer, StyleBlock, SheetEdition}
 use Rattle.syntax_model.specs.RulesIn.{pieces_in}
-use Rattle.syntax_model.specs.SheetRules.{BlockReader, Found, block_within, counted, in_layer, is_layer_name, no_context, piece_found, pieces_found, qualified_found, rules_in, sheet_rules_in, statement_found}
+use Rattle.syntax_model.specs.SheetRules.{BlockReader, RulesFound, block_within, counted, in_layer, is_layer_name, no_context, piece_found, pieces_found, qualified_found, rules_in, sheet_rules_in, statement_found}
 use Rattle.selector_model.specs.Selector.{Selector}
 use Rattle.sheet_model.specs.SelectorsIn.{selectors_in}
 use Rattle.sheet_model.specs.StyleRules.{StyleRule, style_rule_of, style_rule_in, style_rules_in, layer_in, layers_in}
@@ -64,13 +64,13 @@ module _ (known : List LayerName) where
     piece_follows context count (qualified_rule prelude block) k h = qualified_follows context prelude block k
     piece_follows context count (at_rule name prelude None) k h = statement_follows context name prelude
     piece_follows context count (at_rule name prelude (Some block)) k h =
-        cond_both (is_layer_name name) _ _ (λ (f : Found). Follows f.rules) (λ _. layer_follows (block_layer edition count context prelude) (counted count prelude) block) (λ _ none. tt) h
+        cond_both (is_layer_name name) _ _ (λ (f : RulesFound). Follows f.rules) (λ _. layer_follows (block_layer edition count context prelude) (counted count prelude) block) (λ _ none. tt) h
 
     pieces_follow : (context : Context) (count : ℕ) (pieces : List Piece) → is_known known context.layer ≡ true → Follows (pieces_found read edition context count pieces).rules
     pieces_follow context count [] k h = tt
     pieces_follow context count (piece ∷ pieces) k h =
-        let first : Found = piece_found read edition context count piece in
-        let rest : Found = pieces_found read edition context first.anonymous pieces in
+        let first : RulesFound = piece_found read edition context count piece in
+        let rest : RulesFound = pieces_found read edition context first.anonymous pieces in
         each-append StyleThere first.rules rest.rules (piece_follows context count piece k (each-start DeclaredThere first.rules rest.rules h)) (pieces_follow context first.anonymous pieces k (each-end DeclaredThere first.rules rest.rules h))
 
   block_follows : (levels : ℕ) (edition : SheetEdition) → Reads (block_within levels edition)

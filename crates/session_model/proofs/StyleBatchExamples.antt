@@ -47,15 +47,15 @@ use Rattle.edit_model.specs.Apply.{refusal}
 use Rattle.edit_model.proofs.ExampleCases.{get_unset, bare, node_of, class_of, one, class_a}
 use Rattle.session_model.specs.Same.{same_style}
 use Rattle.session_model.specs.Standing.{Scene, elements_of, style_in, root_size_in, is_cascaded, with_document}
-use Rattle.session_model.specs.Rule.{IsReached}
+use Rattle.session_model.specs.StandingInvariant.{IsReached}
 use Rattle.session_model.specs.Batches.{edited_all}
 use Rattle.session_model.proofs.BatchLemmas.{edited_all-reached}
 use Rattle.session_model.proofs.RowExamples.{element, inherits_at, step, root_values, margins, first_root, plain_below}
 use Rattle.session_model.proofs.BatchCases.{sheet, job, with_edit, Comes, ends, accepts_document, Reports, at_first, first, first_reached, kept_then, by_parent, by_size, root_stays, matched_too, matched_is, count_is}
 use Rattle.selector_model.proofs.AttributeCases.{attributes, get_pairs}
 
-abbrev rule_of : Selector → List Declared → StyleRule
-rule_of selector declarations =
+abbrev rule_with : Selector → List Declared → StyleRule
+rule_with selector declarations =
     record { selectors = selector ∷ []; declarations = declarations; context = no_context }
 
 abbrev of_type : Characters → Selector
@@ -75,8 +75,8 @@ margin = declares 15 (px 1) ∷ declares 16 (px 1) ∷ declares 17 (px 1) ∷ de
 
 abbrev sources : Sources
 sources = record {
-  rules = all_placed by_class 0 0 (rule_of (subject class_a) margin
-      ∷ rule_of (of_type (codes "i")) (inherits_at 15 ∷ inherits_at 16 ∷ inherits_at 17 ∷ inherits_at 18 ∷ []) ∷ []);
+  rules = all_placed by_class 0 0 (rule_with (subject class_a) margin
+      ∷ rule_with (of_type (codes "i")) (inherits_at 15 ∷ inherits_at 16 ∷ inherits_at 17 ∷ inherits_at 18 ∷ []) ∷ []);
   layers = layers_of [];
 }
 
@@ -86,7 +86,7 @@ are_sources = refl
 
 abbrev ruled : List Matched
 ruled =
-    all_matched sources.layers (placed by_class 0 0 (rule_of (subject class_a) margin)) (specificity_of (subject class_a)) 0 margin
+    all_matched sources.layers (placed by_class 0 0 (rule_with (subject class_a) margin)) (specificity_of (subject class_a)) 0 margin
 
 ruled_margins : cascaded false (styled root_values) initial_size ruled ≡ styled margins
 unfolding layer_order declared rank_in ending_of table declared_values
@@ -207,8 +207,8 @@ larger = declares 36 (rem (pos 2_000)) ∷ []
 
 abbrev in_rem : Sources
 in_rem = record {
-  rules = all_placed by_rem 0 0 (rule_of (of_type (codes "html")) larger
-      ∷ rule_of (of_type (codes "i")) (declares 9 (rem (pos 1_500)) ∷ []) ∷ []);
+  rules = all_placed by_rem 0 0 (rule_with (of_type (codes "html")) larger
+      ∷ rule_with (of_type (codes "i")) (declares 9 (rem (pos 1_500)) ∷ []) ∷ []);
   layers = layers_of [];
 }
 
@@ -225,7 +225,7 @@ own_is = refl
 
 abbrev enlarged : List Matched
 enlarged =
-    all_matched in_rem.layers (placed by_rem 0 0 (rule_of (of_type (codes "html")) larger)) (specificity_of (of_type (codes "html"))) 0 larger
+    all_matched in_rem.layers (placed by_rem 0 0 (rule_with (of_type (codes "html")) larger)) (specificity_of (of_type (codes "html"))) 0 larger
 
 abbrev with_own : List Matched
 with_own = enlarged ++ all_attached in_rem.layers 0 (declares 36 (px 10) ∷ [])

@@ -20,7 +20,7 @@ use Rattle.cascade_model.specs.StyleOf.{root_of, root_size_at, root_size_of, sty
 use Rattle.cascade_model.proofs.StyleAlong.{style_of-over, style_of-root, root_size_of-root, parent_of-root}
 use Rattle.session_model.specs.Standing.{Standing, elements_of, matching_in, style_in, root_size_in, listed_at, kept_at, is_matched, is_style, has_size, parent_differs, root_size_differs, is_cascaded, matched_count, cascaded_count}
 use Rattle.scene_model.specs.Numbers.{is_in}
-use Rattle.session_model.specs.Rule.{AllKeep}
+use Rattle.session_model.specs.StandingInvariant.{AllKeep}
 use Rattle.session_model.specs.Walk.{first_style, first_size, new_at, new_parent, cascades, new_style, walked_from, walked, Styled, with_result, results_from, results, result_at, committed}
 use Rattle.session_model.proofs.ListedLemmas.{among-numbers, listed-own, listed-other}
 use Rattle.session_model.proofs.KeepsLemmas.{has_size-own, kept-not_cascaded, root_element}

@@ -21,8 +21,8 @@ use Rattle.custom_model.proofs.DeclarationCuts.{DeclarationOfText, block_declara
 use Rattle.value_model.specs.Value.{Value}
 use Rattle.selector_model.specs.Selector.{Selector}
 use Rattle.sheet_model.specs.SelectorsIn.{selectors_in}
-use Rattle.sheet_model.specs.Shorthands.{Subject, subject_longhands, values_in}
-use Rattle.sheet_model.specs.Declared.{longhand, custom, Given, wide, exactly, referring, holding, Declared, wide_in, for_each, givens_in, custom_given_in, declared_with, declared_each, subject_named, declared_in, block_declared, style_declared}
+use Rattle.sheet_model.specs.Shorthands.{PropertyName, longhands_named, values_in}
+use Rattle.sheet_model.specs.Declared.{longhand, custom, Given, wide, exactly, referring, holding, Declared, wide_in, for_each, givens_in, custom_given_in, declared_with, declared_each, property_name_in, declared_in, block_declared, style_declared}
 use Rattle.sheet_model.specs.StyleRules.{StyleRule, style_rule_in, style_rules_in}
 use Rattle.sheet_model.proofs.RuleCuts.{RuleOfText, sheet_rules_of_text}
 use Rattle.base_model.proofs.Lists.{each-append}
@@ -37,7 +37,7 @@ GivenWritable (holding value) = Writable value
 abbrev pub DeclaredWritable : Declared → Type 0
 DeclaredWritable declared = GivenWritable declared.given
 
--- what each property of a subject is given
+-- what each property that a name names is given
 abbrev GivensWritable : List Given → Type 0
 GivensWritable givens = AllByRecursion GivenWritable givens
 
@@ -53,26 +53,26 @@ exactly_writable : (values : List Value) → GivensWritable (map exactly values)
 exactly_writable [] = tt
 exactly_writable (value ∷ values) = (tt, exactly_writable values)
 
-wide_givens : (subject : Subject) (o : Option Wide) → IfSome (option_map (λ word. for_each subject (wide word)) o) GivensWritable
-wide_givens subject None = tt
-wide_givens subject (Some word) = for_each_writable (subject_longhands subject) (wide word) tt
+wide_givens : (property_name : PropertyName) (o : Option Wide) → IfSome (option_map (λ word. for_each property_name (wide word)) o) GivensWritable
+wide_givens property_name None = tt
+wide_givens property_name (Some word) = for_each_writable (longhands_named property_name) (wide word) tt
 
 exact_givens : (o : Option (List Value)) → IfSome (option_map (map exactly) o) GivensWritable
 exact_givens None = tt
 exact_givens (Some values) = exactly_writable values
 
-referring_givens : (subject : Subject) (o : Option CustomValue) → ((value : CustomValue) → o ≡ Some value → Writable value) → IfSome (option_map (λ value. for_each subject (referring subject value)) o) GivensWritable
-referring_givens subject None h = tt
-referring_givens subject (Some value) h =
-    for_each_writable (subject_longhands subject) (referring subject value) (h value refl)
+referring_givens : (property_name : PropertyName) (o : Option CustomValue) → ((value : CustomValue) → o ≡ Some value → Writable value) → IfSome (option_map (λ value. for_each property_name (referring property_name value)) o) GivensWritable
+referring_givens property_name None h = tt
+referring_givens property_name (Some value) h =
+    for_each_writable (longhands_named property_name) (referring property_name value) (h value refl)
 
-givens_writable : (subject : Subject) (tokens : List Token) → OfText tokens → IfSome (givens_in subject tokens) GivensWritable
-givens_writable subject tokens h =
-    or_writable GivensWritable (option_map (λ word. for_each subject (wide word)) (wide_in tokens)) _
-    (wide_givens subject (wide_in tokens))
-    (or_writable GivensWritable (option_map (λ value. for_each subject (referring subject value)) (referring_value_in tokens)) _
-    (referring_givens subject (referring_value_in tokens) (λ value e. referring_value_writable tokens value (as_read tokens h) e))
-    (exact_givens (values_in subject tokens)))
+givens_writable : (property_name : PropertyName) (tokens : List Token) → OfText tokens → IfSome (givens_in property_name tokens) GivensWritable
+givens_writable property_name tokens h =
+    or_writable GivensWritable (option_map (λ word. for_each property_name (wide word)) (wide_in tokens)) _
+    (wide_givens property_name (wide_in tokens))
+    (or_writable GivensWritable (option_map (λ value. for_each property_name (referring property_name value)) (referring_value_in tokens)) _
+    (referring_givens property_name (referring_value_in tokens) (λ value e. referring_value_writable tokens value (as_read tokens h) e))
+    (exact_givens (values_in property_name tokens)))
 
 wide_given : (o : Option Wide) → IfSome (option_map wide o) GivenWritable
 wide_given None = tt
@@ -100,20 +100,20 @@ each_writable declaration [] givens h = tt
 each_writable declaration (id ∷ ids) [] h = tt
 each_writable declaration (id ∷ ids) (given ∷ givens) h = (h.0, each_writable declaration ids givens h.1)
 
-givens_declared : (declaration : Declaration) (subject : Subject) (o : Option (List Given)) → IfSome o GivensWritable → AllWritable (unwrap_or (option_map (declared_each declaration subject) o) [])
-givens_declared declaration subject None h = tt
-givens_declared declaration subject (Some givens) h = each_writable declaration (subject_longhands subject) givens h
+givens_declared : (declaration : Declaration) (property_name : PropertyName) (o : Option (List Given)) → IfSome o GivensWritable → AllWritable (unwrap_or (option_map (declared_each declaration property_name) o) [])
+givens_declared declaration property_name None h = tt
+givens_declared declaration property_name (Some givens) h = each_writable declaration (longhands_named property_name) givens h
 
-longhands_writable : (declaration : Declaration) → OfText declaration.value → (o : Option Subject) → AllWritable (unwrap_or (o >>= (λ subject. option_map (declared_each declaration subject) (givens_in subject declaration.value))) [])
+longhands_writable : (declaration : Declaration) → OfText declaration.value → (o : Option PropertyName) → AllWritable (unwrap_or (o >>= (λ property_name. option_map (declared_each declaration property_name) (givens_in property_name declaration.value))) [])
 longhands_writable declaration h None = tt
-longhands_writable declaration h (Some subject) =
-    givens_declared declaration subject (givens_in subject declaration.value) (givens_writable subject declaration.value h)
+longhands_writable declaration h (Some property_name) =
+    givens_declared declaration property_name (givens_in property_name declaration.value) (givens_writable property_name declaration.value h)
 
 declaration_writable : (declaration : Declaration) → DeclarationOfText declaration → AllWritable (declared_in declaration)
 declaration_writable declaration h =
     cond_both (is_custom_name declaration.name) _ _ AllWritable
     (λ _. custom_writable declaration (custom_given_in declaration.value) (custom_given_writable declaration.value h))
-    (λ _. longhands_writable declaration h (subject_named declaration.name))
+    (λ _. longhands_writable declaration h (property_name_in declaration.name))
 
 declared_in_writable : (declarations : List Declaration) → AllByRecursion DeclarationOfText declarations → AllWritable (flat_map declared_in declarations)
 declared_in_writable [] h = tt

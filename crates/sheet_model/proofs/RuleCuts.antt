@@ -5,14 +5,14 @@ use Rattle.std.proofs.lemmas.Bool.{false≢true, cond_both}
 use Rattle.base_model.specs.Lists.{is_nil}
 use Rattle.base_model.specs.Text.{Characters}
 use Rattle.layer_model.specs.Name.{part_limit}
-use Rattle.syntax_model.specs.Token.{Token, Kind, string, bad_string, whitespace}
-use Rattle.syntax_model.specs.Kinds.{is_at_keyword, is_open_curly, is_white}
+use Rattle.syntax_model.specs.Token.{Token, TokenKind, string, bad_string, whitespace}
+use Rattle.syntax_model.specs.TokenKinds.{is_at_keyword, is_open_curly, is_white}
 use Rattle.syntax_model.specs.Brackets.{Bracket, curly, closed, closed_by, opened_by, open_past, is_shallow, with_opened, without_closed}
 use Rattle.syntax_model.specs.LayersIn.{layers_declared, block_layer}
 use Rattle.syntax_model.specs.Preprocess.{preprocessed}
 use Rattle.syntax_model.specs.Rules.{Context, Head, qualified_head, at_head, Piece, qualified_rule, at_rule, Rule, style, layer, SheetEdition}
 use Rattle.syntax_model.specs.RulesIn.{in_block, in_prelude, is_between_rules, is_last, pieces_in, with_block, without_block}
-use Rattle.syntax_model.specs.SheetRules.{BlockReader, Found, block_within, counted, in_layer, is_layer_name, no_context, piece_found, pieces_found, qualified_found, rules_in, sheet_rules_in, statement_found}
+use Rattle.syntax_model.specs.SheetRules.{BlockReader, RulesFound, block_within, counted, in_layer, is_layer_name, no_context, piece_found, pieces_found, qualified_found, rules_in, sheet_rules_in, statement_found}
 use Rattle.syntax_model.specs.TokensIn.{tokens_in}
 use Rattle.syntax_model.proofs.UrlStrings.{is_quoted}
 use Rattle.custom_model.proofs.CutLemmas.{OfText, of_text, of_text_before, of_text-closed, other_first}
@@ -36,7 +36,7 @@ with_block_of qualified_head prelude block h = h
 with_block_of (at_head name) prelude block h = h
 
 -- what closes the brackets that are open is no string, and no whitespace
-closing_other : (pending : List Bracket) (kind : Kind) → is_nil pending ≡ false → is_nil (with_opened (opened_by kind) (without_closed pending (closed_by kind))) ≡ true → (is_white kind ≡ false) × (is_quoted kind ≡ false)
+closing_other : (pending : List Bracket) (kind : TokenKind) → is_nil pending ≡ false → is_nil (with_opened (opened_by kind) (without_closed pending (closed_by kind))) ≡ true → (is_white kind ≡ false) × (is_quoted kind ≡ false)
 closing_other pending whitespace open' ends = absurd (false≢true (sym open' ∙ ends))
 closing_other pending string open' ends = absurd (false≢true (sym open' ∙ ends))
 closing_other pending bad_string open' ends = absurd (false≢true (sym open' ∙ ends))
@@ -110,12 +110,12 @@ module _ (read : BlockReader) (good : (context : Context) (count : ℕ) (block :
   piece_of context count (qualified_rule prelude block) h = qualified_of context prelude block h
   piece_of context count (at_rule name prelude None) h = statement_of context name prelude
   piece_of context count (at_rule name prelude (Some block)) h =
-      cond_both (is_layer_name name) _ _ (λ (f : Found). Rules f.rules) (λ _. layer_of (block_layer edition count context prelude) (counted count prelude) block h) (λ _. tt)
+      cond_both (is_layer_name name) _ _ (λ (f : RulesFound). Rules f.rules) (λ _. layer_of (block_layer edition count context prelude) (counted count prelude) block h) (λ _. tt)
 
   found_of : (context : Context) (count : ℕ) (pieces : List Piece) → Pieces pieces → Rules (pieces_found read edition context count pieces).rules
   found_of context count [] h = tt
   found_of context count (piece ∷ pieces) h =
-      let first : Found = piece_found read edition context count piece in
+      let first : RulesFound = piece_found read edition context count piece in
       each-append RuleOfText first.rules (pieces_found read edition context first.anonymous pieces).rules (piece_of context count piece h.0) (found_of context first.anonymous pieces h.1)
 
 block_of : (levels : ℕ) (edition : SheetEdition) (context : Context) (count : ℕ) (block : List Token) → OfText block → Rules (block_within levels edition context count block).rules

@@ -12,7 +12,7 @@ use Rattle.syntax_model.specs.Signs.{plus_sign}
 use Rattle.syntax_model.specs.Letters.{begins, is_digit, is_sign}
 use Rattle.syntax_model.specs.Numbers.{after_sign, decimal_number, is_minus}
 use Rattle.syntax_model.specs.Token.{Token}
-use Rattle.syntax_model.specs.Kinds.{is_ident, is_delim, trimmed, without_white}
+use Rattle.syntax_model.specs.TokenKinds.{is_ident, is_delim, trimmed, without_white}
 use Rattle.selector_model.specs.Selector.{AnB}
 use Rattle.sheet_model.specs.SelectorTokens.{is_integer_number, is_integer_dimension, ident_at, named}
 use Rattle.sheet_model.specs.ValueIn.{ident_in}

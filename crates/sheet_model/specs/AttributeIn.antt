@@ -3,8 +3,8 @@ use Rattle.std.specs.Prelude.{ℕ, List, [], ◌∷◌, Bool, true, false, if◌
 use Rattle.base_model.specs.Ascii.{asterisk}
 use Rattle.base_model.specs.Options.{◌>>=◌}
 use Rattle.base_model.specs.Text.{Characters}
-use Rattle.syntax_model.specs.Token.{Token, Kind}
-use Rattle.syntax_model.specs.Kinds.{is_ident, is_delim, trimmed, without_white}
+use Rattle.syntax_model.specs.Token.{Token, TokenKind}
+use Rattle.syntax_model.specs.TokenKinds.{is_ident, is_delim, trimmed, without_white}
 use Rattle.selector_model.specs.Selector.{AttributeOperator, equals, includes, dash_match, prefix, suffix, substring}
 use Rattle.selector_model.specs.Selector.{Simple, attribute_selector, attribute_compares}
 use Rattle.sheet_model.specs.SelectorTokens.{is_text, ident_at, named}
@@ -25,7 +25,7 @@ abbrev pub tilde : ℕ
 tilde = 126
 
 -- [ '~' | '|' | '^' | '$' | '*' ]
-abbrev pub operator_by : Kind → Option AttributeOperator
+abbrev pub operator_by : TokenKind → Option AttributeOperator
 operator_by kind =
     if is_delim tilde kind then Some includes
     else if is_delim vertical_line kind then Some dash_match

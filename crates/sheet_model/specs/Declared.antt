@@ -17,7 +17,7 @@ use Rattle.custom_model.specs.Parts.{custom_value_in, referring_value_in}
 use Rattle.value_model.specs.Value.{Value}
 use Rattle.value_model.specs.Table.{property_named}
 use Rattle.value_model.specs.Shorthand.{short_named}
-use Rattle.sheet_model.specs.Shorthands.{Subject, single, shorthand, subject_longhands, values_in}
+use Rattle.sheet_model.specs.Shorthands.{PropertyName, single, shorthand, longhands_named, values_in}
 
 -- what is declared
 pub data Target : Type 0 where
@@ -30,7 +30,7 @@ pub data Given : Type 0 where
   wide : Wide → Given
   exactly : Value → Given
   -- tokens that refer to custom properties, which this property or shorthand takes once they are expanded
-  referring : Subject → CustomValue → Given
+  referring : PropertyName → CustomValue → Given
   -- the value of a custom property
   holding : CustomValue → Given
 
@@ -54,16 +54,17 @@ abbrev pub wide_in : List Token → Option Wide
 wide_in tokens = wide_of (map said tokens)
 
 -- the same for each property that is set
-abbrev pub for_each : Subject → Given → List Given
-for_each subject given = map (λ id. given) (subject_longhands subject)
+abbrev pub for_each : PropertyName → Given → List Given
+for_each property_name given = map (λ id. given) (longhands_named property_name)
 
 -- What tokens give each property that is set: every one takes the CSS-wide keywords, and values that refer to custom
 -- properties.
-abbrev pub givens_in : Subject → List Token → Option (List Given)
-givens_in subject tokens =
-    option_or (option_map (λ word. for_each subject (wide word)) (wide_in tokens))
-    (option_or (option_map (λ value. for_each subject (referring subject value)) (referring_value_in tokens))
-    (option_map (map exactly) (values_in subject tokens)))
+abbrev pub givens_in : PropertyName → List Token → Option (List Given)
+givens_in property_name tokens =
+    option_or (option_map (λ word. for_each property_name (wide word)) (wide_in tokens))
+    (option_or
+    (option_map (λ value. for_each property_name (referring property_name value)) (referring_value_in tokens))
+    (option_map (map exactly) (values_in property_name tokens)))
 
 -- what tokens give a custom property
 abbrev pub custom_given_in : List Token → Option Given
@@ -81,20 +82,20 @@ custom_declared declaration =
     option_map (declared_with declaration (custom declaration.name)) (custom_given_in declaration.value)
 
 -- a property, or a shorthand
-abbrev pub subject_named : Characters → Option Subject
-subject_named name = option_or (option_map single (property_named name)) (option_map shorthand (short_named name))
+abbrev pub property_name_in : Characters → Option PropertyName
+property_name_in name = option_or (option_map single (property_named name)) (option_map shorthand (short_named name))
 
--- a declaration for each property of a subject
-abbrev pub declared_each : Declaration → Subject → List Given → List Declared
-declared_each declaration subject givens =
-    map (λ pair. declared_with declaration (longhand pair.0) pair.1) (zip (subject_longhands subject) givens)
+-- a declaration for each property that a name names
+abbrev pub declared_each : Declaration → PropertyName → List Given → List Declared
+declared_each declaration property_name givens =
+    map (λ pair. declared_with declaration (longhand pair.0) pair.1) (zip (longhands_named property_name) givens)
 
 -- And of another: a shorthand stands for a declaration of each of its properties (css-cascade-5, section 3). Nothing
 -- where its name is of none, or the value is not taken.
 abbrev pub longhands_declared : Declaration → Option (List Declared)
 longhands_declared declaration = do
-  subject ← subject_named declaration.name
-  option_map (declared_each declaration subject) (givens_in subject declaration.value)
+  property_name ← property_name_in declaration.name
+  option_map (declared_each declaration property_name) (givens_in property_name declaration.value)
 
 abbrev pub declared_in : Declaration → List Declared
 declared_in declaration =

@@ -2,30 +2,30 @@
 use Rattle.std.specs.Prelude.{ℕ, ◌+◌, List, [], ◌∷◌, take, drop, Bool, true, false, if◌then◌else◌, Option, Some, None}
 use Rattle.base_model.specs.Lists.{is_nil}
 use Rattle.base_model.specs.Text.{Characters, is_word}
-use Rattle.syntax_model.specs.Token.{Token, Kind, ident, hash, string, number, dimension, open_square}
-use Rattle.syntax_model.specs.Kinds.{is_ident}
+use Rattle.syntax_model.specs.Token.{Token, TokenKind, ident, hash, string, number, dimension, open_square}
+use Rattle.syntax_model.specs.TokenKinds.{is_ident}
 use Rattle.syntax_model.specs.Brackets.{Bracket, open_past}
 
 -- a hash that is an identifier
-abbrev pub is_id_hash : Kind → Bool
+abbrev pub is_id_hash : TokenKind → Bool
 is_id_hash (hash is_id) = is_id
 is_id_hash kind = false
 
-abbrev pub is_open_square : Kind → Bool
+abbrev pub is_open_square : TokenKind → Bool
 is_open_square open_square = true
 is_open_square kind = false
 
 -- an identifier or a string
-abbrev pub is_text : Kind → Bool
+abbrev pub is_text : TokenKind → Bool
 is_text ident = true
 is_text string = true
 is_text kind = false
 
-abbrev pub is_integer_number : Kind → Bool
+abbrev pub is_integer_number : TokenKind → Bool
 is_integer_number (number is_integer) = is_integer
 is_integer_number kind = false
 
-abbrev pub is_integer_dimension : Kind → Bool
+abbrev pub is_integer_dimension : TokenKind → Bool
 is_integer_dimension (dimension is_integer) = is_integer
 is_integer_dimension kind = false
 

@@ -8,10 +8,11 @@ use Rattle.base_model.specs.Options.{◌>>=◌}
 use Rattle.base_model.specs.State.{hover_state, active_state, focus_state}
 use Rattle.base_model.specs.Text.{Characters}
 use Rattle.syntax_model.specs.Signs.{plus_sign, greater_than_sign}
-use Rattle.syntax_model.specs.Token.{Token, Kind}
+use Rattle.syntax_model.specs.Token.{Token, TokenKind}
 use Rattle.syntax_model.specs.Brackets.{square, round}
-use Rattle.syntax_model.specs.Kinds.{is_ident, is_delim, is_comma, is_colon, is_white, begins_with, trimmed, is_function}
-use Rattle.syntax_model.specs.Kinds.{without_white}
+use Rattle.syntax_model.specs.TokenKinds.{is_ident, is_delim, is_comma, is_colon, is_white, begins_with, trimmed}
+use Rattle.syntax_model.specs.TokenKinds.{is_function}
+use Rattle.syntax_model.specs.TokenKinds.{without_white}
 use Rattle.syntax_model.specs.Outside.{parts_between}
 use Rattle.selector_model.specs.Compounds.{compounds_in, compound_limit}
 use Rattle.selector_model.specs.Selector.{Combinator, descendant, child, next_sibling, later_sibling, AnB}
@@ -156,7 +157,7 @@ compound_at reader tokens = do
   Some (before first.0 (tests_at reader first.1).0, (tests_at reader first.1).1)
 
 -- <combinator> = '>' | '+' | '~'
-abbrev pub combinator_by : Kind → Option Combinator
+abbrev pub combinator_by : TokenKind → Option Combinator
 combinator_by kind =
     if is_delim greater_than_sign kind then Some child
     else if is_delim plus_sign kind then Some next_sibling

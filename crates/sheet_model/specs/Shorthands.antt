@@ -3,7 +3,7 @@ use Rattle.std.specs.Prelude.{ℕ, List, [], ◌∷◌, filter, map, not, zip, f
 use Rattle.base_model.specs.Options.{◌>>=◌}
 use Rattle.base_model.specs.Lists.{is_nil, every}
 use Rattle.syntax_model.specs.Token.{Token}
-use Rattle.syntax_model.specs.Kinds.{is_white}
+use Rattle.syntax_model.specs.TokenKinds.{is_white}
 use Rattle.syntax_model.specs.Outside.{parts_between}
 use Rattle.value_model.specs.Value.{Value}
 use Rattle.value_model.specs.Shorthand.{Short, overflow, all}
@@ -39,28 +39,28 @@ abbrev pub split : Short → List Token → Option (List (List Token))
 split short tokens = by_longhand short (slices tokens)
 
 -- what the name of a declaration names, but for a custom property
-pub data Subject : Type 0 where
-  single : ℕ → Subject
-  shorthand : Short → Subject
+pub data PropertyName : Type 0 where
+  single : ℕ → PropertyName
+  shorthand : Short → PropertyName
 
 -- the properties that it sets
-abbrev pub subject_longhands : Subject → List ℕ
-subject_longhands (single id) = id ∷ []
-subject_longhands (shorthand short) = longhands_of short
+abbrev pub longhands_named : PropertyName → List ℕ
+longhands_named (single id) = id ∷ []
+longhands_named (shorthand short) = longhands_of short
 
 -- the part of the value for each of them
-abbrev pub subject_parts : Subject → List Token → Option (List (List Token))
-subject_parts (single id) tokens = Some (tokens ∷ [])
-subject_parts (shorthand short) tokens = split short tokens
+abbrev pub parts_named : PropertyName → List Token → Option (List (List Token))
+parts_named (single id) tokens = Some (tokens ∷ [])
+parts_named (shorthand short) tokens = split short tokens
 
 -- the value of each, where all are taken
-abbrev pub values_in : Subject → List Token → Option (List Value)
-values_in subject tokens = do
-  parts ← subject_parts subject tokens
-  every (map (λ pair. value_in pair.0 pair.1) (zip (subject_longhands subject) parts))
+abbrev pub values_in : PropertyName → List Token → Option (List Value)
+values_in property_name tokens = do
+  parts ← parts_named property_name tokens
+  every (map (λ pair. value_in pair.0 pair.1) (zip (longhands_named property_name) parts))
 
 -- the value of one of them
-abbrev pub value_for : Subject → ℕ → List Token → Option Value
-value_for subject id tokens = do
-  values ← values_in subject tokens
-  option_map (λ pair. pair.1) (find (λ pair. pair.0 == id) (zip (subject_longhands subject) values))
+abbrev pub value_for : PropertyName → ℕ → List Token → Option Value
+value_for property_name id tokens = do
+  values ← values_in property_name tokens
+  option_map (λ pair. pair.1) (find (λ pair. pair.0 == id) (zip (longhands_named property_name) values))

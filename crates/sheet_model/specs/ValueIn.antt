@@ -8,8 +8,8 @@ use Rattle.base_model.specs.Options.{◌>>=◌}
 use Rattle.base_model.specs.Lists.{first_some}
 use Rattle.base_model.specs.Text.{Characters, is_word}
 use Rattle.base_model.specs.Thousandths.{clamped, rounded}
-use Rattle.syntax_model.specs.Token.{Token, Kind, dimension, percentage, number}
-use Rattle.syntax_model.specs.Kinds.{is_ident, is_function, is_hash, is_comma, is_close_round, without_white}
+use Rattle.syntax_model.specs.Token.{Token, TokenKind, dimension, percentage, number}
+use Rattle.syntax_model.specs.TokenKinds.{is_ident, is_function, is_hash, is_comma, is_close_round, without_white}
 use Rattle.syntax_model.specs.Numbers.{thousandths}
 use Rattle.value_model.specs.Color.{Color, named_colors, opaque}
 use Rattle.value_model.specs.HexColor.{hex_color}
@@ -51,7 +51,7 @@ abbrev pub channel_of : ℤ → ℕ
 channel_of (pos n) = min 255 (n / 1000)
 channel_of (negsuc n) = 0
 
-abbrev pub channel_by : Kind → Characters → Option ℕ
+abbrev pub channel_by : TokenKind → Characters → Option ℕ
 channel_by (number true) spelling = Some (channel_of (thousandths spelling))
 channel_by kind spelling = None
 
@@ -112,15 +112,15 @@ pub data Measure : Type 0 where
   of_element : Measure
   of_root : Measure
 
-pub record Unit : Type 0 where
+pub record LengthUnit : Type 0 where
   pub name : Characters
   pub measure : Measure
 
-abbrev pub unit : Characters → Measure → Unit
+abbrev pub unit : Characters → Measure → LengthUnit
 unit name measure = record { name = name; measure = measure }
 
 -- css-values-4, sections 6.1 and 6.2
-unfoldable pub units : List Unit
+unfoldable pub units : List LengthUnit
 units =
     unit (codes "px") (of_pixel (pos 1) 1) ∷ unit (codes "in") (of_pixel (pos 96) 1)
     ∷ unit (codes "cm") (of_pixel (pos 4_800) 127) ∷ unit (codes "mm") (of_pixel (pos 480) 127)
@@ -141,7 +141,7 @@ abbrev pub is_allowed : Bool → ℤ → Bool
 is_allowed negative z = negative || int_le (pos 0) z
 
 -- <length>: a dimension, or where a property says so a number that is 0
-abbrev pub length_by : Bool → Bool → Kind → Characters → ℤ → Option Value
+abbrev pub length_by : Bool → Bool → TokenKind → Characters → ℤ → Option Value
 length_by negative zero (dimension is_integer) unit z = if is_allowed negative z then in_unit unit z else None
 length_by negative zero (number is_integer) unit z = if zero && int_eq z (pos 0) then Some (pixels z) else None
 length_by negative zero kind unit z = None
@@ -151,7 +151,7 @@ length_in negative zero (token ∷ []) = length_by negative zero token.kind toke
 length_in negative zero tokens = None
 
 -- <percentage>
-abbrev pub percentage_by : Bool → Kind → ℤ → Option Value
+abbrev pub percentage_by : Bool → TokenKind → ℤ → Option Value
 percentage_by negative percentage z = if is_allowed negative z then Some (percent z) else None
 percentage_by negative kind z = None
 
@@ -160,7 +160,7 @@ percentage_in negative (token ∷ []) = percentage_by negative token.kind (thous
 percentage_in negative tokens = None
 
 -- <number [least, most]>
-abbrev pub number_by : ℤ → ℤ → Kind → ℤ → Option Value
+abbrev pub number_by : ℤ → ℤ → TokenKind → ℤ → Option Value
 number_by least most (number is_integer) z = if int_le least z && int_le z most then Some (value.number z) else None
 number_by least most kind z = None
 

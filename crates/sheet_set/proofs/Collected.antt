@@ -18,7 +18,7 @@ use Rattle.layer_order.specs.View.{origin_of}
 use Rattle.selector_types.specs.declared.selector.Selector.{Selector}
 use Rattle.selector_types.specs.View.{selector_of}
 use Rattle.sheet_set.specs.declared.sheet_rule.SheetRule.{SheetRule}
-use Rattle.sheet_set.specs.View.{own_layers, own_rules, rule_count, rule_of, rules_with}
+use Rattle.sheet_set.specs.View.{own_layers, own_rules, rule_count, placed_rule_of, rules_with}
 use Rattle.shorthands.specs.View.{declared_of}
 
 -- what is kept so far, and what each item that is left gives, is the whole: one item more
@@ -30,12 +30,12 @@ pub none_left : {A B : Type 0} (f : A → List B) (found whole : List B) (left :
 none_left f found whole left none all = sym (append-nil found) ∙ ap (λ l. found ++ flat_map f l) (sym none) ∙ all
 
 pub rules_with-last : (rules : List SheetRule) (lists : List (Vec Selector Global)) (rule : SheetRule) (list : Vec Selector Global) → length rules ≡ length lists
-    → rules_with (rules ++ rule ∷ []) (lists ++ list ∷ []) ≡ rules_with rules lists ++ rule_of rule list.items ∷ []
+    → rules_with (rules ++ rule ∷ []) (lists ++ list ∷ []) ≡ rules_with rules lists ++ placed_rule_of rule list.items ∷ []
 rules_with-last [] [] rule list same = refl
 rules_with-last [] (l ∷ lists) rule list same = absurd (omega (arith, same))
 rules_with-last (r ∷ rules) [] rule list same = absurd (omega (arith, same))
 rules_with-last (r ∷ rules) (l ∷ lists) rule list same =
-    ap (λ rest. rule_of r l.items ∷ rest) (rules_with-last rules lists rule list (omega (arith, same)))
+    ap (λ rest. placed_rule_of r l.items ∷ rest) (rules_with-last rules lists rule list (omega (arith, same)))
 
 -- a rule whose prelude is a list of selectors
 pub style_is : (style : StyleBlock) (selectors : List model_selector.Selector) → selectors_in style.prelude ≡ Some selectors → style_rule_of style ≡ Some (record { selectors = selectors; declarations = block_declared style.block; context = style.context })
@@ -43,7 +43,7 @@ style_is style selectors is =
     ap (option_and_then (λ ss. Some (record { selectors = ss; declarations = block_declared style.block; context = style.context }))) is
 
 pub rule_is : (rule : SheetRule) (list : List Selector) (kept : List model.Declared) (context : Context) (sheet : Sheet) (position index : ℕ) → flat_map declared_of rule.declarations.items ≡ kept → origin_of rule.origin ≡ sheet.origin
-    → rule.layer ≡ context.layer → rule.sheet ≡ sheet.number → rule.position ≡ position → rule.first_index ≡ index → rule_of rule list ≡ placed sheet position index (record { selectors = map selector_of list; declarations = kept; context = context })
+    → rule.layer ≡ context.layer → rule.sheet ≡ sheet.number → rule.position ≡ position → rule.first_index ≡ index → placed_rule_of rule list ≡ placed sheet position index (record { selectors = map selector_of list; declarations = kept; context = context })
 rule_is rule list kept context sheet position index d o l n p i = cc
 
 -- rules after rules: those that come later are counted on

@@ -16,15 +16,15 @@ use Rattle.syntax_model.specs.Token.{Token}
 use Rattle.syntax_model.specs.Rules.{Declaration}
 use Rattle.custom_model.specs.Value.{is_custom_name}
 use Rattle.value_model.specs.Shorthand.{longhands_of}
-use Rattle.sheet_model.specs.Shorthands.{subject_longhands}
+use Rattle.sheet_model.specs.Shorthands.{longhands_named}
 use Rattle.sheet_model.specs.Shorthands as shorthands
 use Rattle.sheet_model.specs.Declared as model
-use Rattle.sheet_model.specs.Declared.{longhand, longhands_declared, custom_declared, custom_given_in, declared_in, declared_with, subject_named}
-use Rattle.shorthands.specs.declared.subject.Subject.{Subject}
-use Rattle.shorthands.specs.declared.subject.Subject.TheVariants.{Longhand, Shorthand}
+use Rattle.sheet_model.specs.Declared.{longhand, longhands_declared, custom_declared, custom_given_in, declared_in, declared_with, property_name_in}
+use Rattle.shorthands.specs.declared.property_name.PropertyName.{PropertyName}
+use Rattle.shorthands.specs.declared.property_name.PropertyName.TheVariants.{Longhand, Shorthand}
 use Rattle.shorthands.specs.declared.declared.Given.{Given}
-use Rattle.shorthands.specs.View.{declared_of, given_of, short_of, subject_of}
-use Rattle.sheet_set.specs.Parts.{each_declared, part_declared, subject_declared}
+use Rattle.shorthands.specs.View.{declared_of, given_of, short_of, property_name_of}
+use Rattle.sheet_set.specs.Parts.{each_declared, part_declared, declared_for}
 use Rattle.sheet_set.specs.View.{target_of}
 use Rattle.sheet_set.proofs.Left.{item_at}
 
@@ -38,19 +38,19 @@ pub none_kept : {A B : Type 0} (f : A → List B) (old : List A) (declared : Lis
 none_kept f old declared none = sym (append-nil (flat_map f old)) ∙ ap (λ l. flat_map f old ++ l) (sym none)
 
 -- an entry of a property or of a shorthand
-pub subject_entry : (declaration : Declaration) (subject : Subject) (given : Given) → declared_of (record { target = target_of subject; given = given; important = declaration.important }) ≡ map (λ property. declared_with declaration (longhand property) (given_of (subject_of subject) given)) (subject_longhands (subject_of subject))
-subject_entry declaration (Longhand id) given = refl
-subject_entry declaration (Shorthand short) given = map-map _ _ (longhands_of (short_of short))
+pub name_entry : (declaration : Declaration) (property_name : PropertyName) (given : Given) → declared_of (record { target = target_of property_name; given = given; important = declaration.important }) ≡ map (λ property. declared_with declaration (longhand property) (given_of (property_name_of property_name) given)) (longhands_named (property_name_of property_name))
+name_entry declaration (Longhand id) given = refl
+name_entry declaration (Shorthand short) given = map-map _ _ (longhands_of (short_of short))
 
 -- what a declaration declares, by what its name is
 pub of_custom : (declaration : Declaration) → is_custom_name declaration.name ≡ true → declared_in declaration ≡ option_to_list (custom_declared declaration)
 of_custom declaration is = rw is refl
 
-pub of_none : (declaration : Declaration) → is_custom_name declaration.name ≡ false → subject_named declaration.name ≡ None → declared_in declaration ≡ []
+pub of_none : (declaration : Declaration) → is_custom_name declaration.name ≡ false → property_name_in declaration.name ≡ None → declared_in declaration ≡ []
 of_none declaration is none = rw is (rw none refl)
 
-pub of_subject : (declaration : Declaration) (subject : shorthands.Subject) → is_custom_name declaration.name ≡ false → subject_named declaration.name ≡ Some subject → declared_in declaration ≡ subject_declared declaration subject
-of_subject declaration subject is some = rw is (rw some refl)
+pub of_property_name : (declaration : Declaration) (property_name : shorthands.PropertyName) → is_custom_name declaration.name ≡ false → property_name_in declaration.name ≡ Some property_name → declared_in declaration ≡ declared_for declaration property_name
+of_property_name declaration property_name is some = rw is (rw some refl)
 
 -- one part more of those that are left
 module _ (declaration : Declaration) {A B : Type 0} (f : A → ℕ) (g : B → List Token) (ids : List A) (parts : List B) where

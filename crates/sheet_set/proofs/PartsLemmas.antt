@@ -11,9 +11,9 @@ use Rattle.custom_model.specs.Parts.{referring_value_in}
 use Rattle.value_model.specs.Value.{Value}
 use Rattle.value_model.specs.Shorthand.{Short}
 use Rattle.sheet_model.specs.ValueIn.{value_in}
-use Rattle.sheet_model.specs.Shorthands.{Subject, single, shorthand, subject_longhands, split, values_in}
+use Rattle.sheet_model.specs.Shorthands.{PropertyName, single, shorthand, longhands_named, split, values_in}
 use Rattle.sheet_model.specs.Declared.{Given, wide, exactly, referring, longhand, Declared, wide_in, for_each, declared_each, declared_with}
-use Rattle.sheet_set.specs.Parts.{common_given_in, each_declared, part_declared, parts_declared, subject_declared, values_declared}
+use Rattle.sheet_set.specs.Parts.{common_given_in, each_declared, part_declared, parts_declared, declared_for, values_declared}
 
 -- the value of each property in its part, where all are taken
 abbrev values_of : List ℕ → List (List Token) → Option (List Value)
@@ -63,18 +63,18 @@ one_value declaration property = by (value_in property declaration.value) where
   by (Some value) = refl
 
 -- and of a shorthand
-short_values : (declaration : Declaration) (short : Short) (values : Option (List Value)) → unwrap_or (option_map (with_values declaration (subject_longhands (shorthand short))) values) [] ≡ unwrap_or (option_map (λ values. declared_each declaration (shorthand short) (map exactly values)) values) []
+short_values : (declaration : Declaration) (short : Short) (values : Option (List Value)) → unwrap_or (option_map (with_values declaration (longhands_named (shorthand short))) values) [] ≡ unwrap_or (option_map (λ values. declared_each declaration (shorthand short) (map exactly values)) values) []
 short_values declaration short None = refl
-short_values declaration short (Some values) = with_given declaration (subject_longhands (shorthand short)) values
+short_values declaration short (Some values) = with_given declaration (longhands_named (shorthand short)) values
 
-pub short_split : (declaration : Declaration) (short : Short) (parts : List (List Token)) → split short declaration.value ≡ Some parts → parts_declared declaration (subject_longhands (shorthand short)) parts ≡ values_declared declaration (shorthand short)
+pub short_split : (declaration : Declaration) (short : Short) (parts : List (List Token)) → split short declaration.value ≡ Some parts → parts_declared declaration (longhands_named (shorthand short)) parts ≡ values_declared declaration (shorthand short)
 short_split declaration short parts is =
-    short_values declaration short (values_of (subject_longhands (shorthand short)) parts)
-    ∙ ap (λ (o : Option (List (List Token))). unwrap_or (option_map (λ values. declared_each declaration (shorthand short) (map exactly values)) (o >>= (λ parts. every (map (λ pair. value_in pair.0 pair.1) (zip (subject_longhands (shorthand short)) parts))))) []) (sym is)
+    short_values declaration short (values_of (longhands_named (shorthand short)) parts)
+    ∙ ap (λ (o : Option (List (List Token))). unwrap_or (option_map (λ values. declared_each declaration (shorthand short) (map exactly values)) (o >>= (λ parts. every (map (λ pair. value_in pair.0 pair.1) (zip (longhands_named (shorthand short)) parts))))) []) (sym is)
 
 pub short_unsplit : (declaration : Declaration) (short : Short) → split short declaration.value ≡ None → values_declared declaration (shorthand short) ≡ []
 short_unsplit declaration short is =
-    ap (λ (o : Option (List (List Token))). unwrap_or (option_map (λ values. declared_each declaration (shorthand short) (map exactly values)) (o >>= (λ parts. every (map (λ pair. value_in pair.0 pair.1) (zip (subject_longhands (shorthand short)) parts))))) []) is
+    ap (λ (o : Option (List (List Token))). unwrap_or (option_map (λ values. declared_each declaration (shorthand short) (map exactly values)) (o >>= (λ parts. every (map (λ pair. value_in pair.0 pair.1) (zip (longhands_named (shorthand short)) parts))))) []) is
 
 -- the same given to each property
 pub each_given : (declaration : Declaration) (properties : List ℕ) (given : Given) → map (λ pair. declared_with declaration (longhand pair.0) pair.1) (zip properties (map (λ id. given) properties)) ≡ map (λ property. declared_with declaration (longhand property) given) properties
@@ -83,20 +83,20 @@ each_given declaration (property ∷ properties) given =
     ap (λ l. declared_with declaration (longhand property) given ∷ l) (each_given declaration properties given)
 
 -- what every property takes is taken first
-in_cases : (declaration : Declaration) (subject : Subject) (word : Option Wide) (value : Option CustomValue) (values : Option (List Value)) (given : Option Given)
-    → given ≡ option_or (option_map wide word) (option_map (referring subject) value)
-    → unwrap_or (option_map (declared_each declaration subject) (option_or (option_map (λ word. for_each subject (wide word)) word) (option_or (option_map (λ value. for_each subject (referring subject value)) value) (option_map (map exactly) values)))) []
-    ≡ elim given [ Some g ↦ declared_each declaration subject (for_each subject g) | None ↦ unwrap_or (option_map (λ values. declared_each declaration subject (map exactly values)) values) [] ]
-in_cases declaration subject (Some word) value values given is = rw is refl
-in_cases declaration subject None (Some value) values given is = rw is refl
-in_cases declaration subject None None None given is = rw is refl
-in_cases declaration subject None None (Some values) given is = rw is refl
+in_cases : (declaration : Declaration) (property_name : PropertyName) (word : Option Wide) (value : Option CustomValue) (values : Option (List Value)) (given : Option Given)
+    → given ≡ option_or (option_map wide word) (option_map (referring property_name) value)
+    → unwrap_or (option_map (declared_each declaration property_name) (option_or (option_map (λ word. for_each property_name (wide word)) word) (option_or (option_map (λ value. for_each property_name (referring property_name value)) value) (option_map (map exactly) values)))) []
+    ≡ elim given [ Some g ↦ declared_each declaration property_name (for_each property_name g) | None ↦ unwrap_or (option_map (λ values. declared_each declaration property_name (map exactly values)) values) [] ]
+in_cases declaration property_name (Some word) value values given is = rw is refl
+in_cases declaration property_name None (Some value) values given is = rw is refl
+in_cases declaration property_name None None None given is = rw is refl
+in_cases declaration property_name None None (Some values) given is = rw is refl
 
-pub common_first : (declaration : Declaration) (subject : Subject) (given : Given) → common_given_in subject declaration.value ≡ Some given → subject_declared declaration subject ≡ map (λ property. declared_with declaration (longhand property) given) (subject_longhands subject)
-common_first declaration subject given is =
-    in_cases declaration subject (wide_in declaration.value) (referring_value_in declaration.value) (values_in subject declaration.value) (Some given) (sym is)
-    ∙ each_given declaration (subject_longhands subject) given
+pub common_first : (declaration : Declaration) (property_name : PropertyName) (given : Given) → common_given_in property_name declaration.value ≡ Some given → declared_for declaration property_name ≡ map (λ property. declared_with declaration (longhand property) given) (longhands_named property_name)
+common_first declaration property_name given is =
+    in_cases declaration property_name (wide_in declaration.value) (referring_value_in declaration.value) (values_in property_name declaration.value) (Some given) (sym is)
+    ∙ each_given declaration (longhands_named property_name) given
 
-pub values_else : (declaration : Declaration) (subject : Subject) → common_given_in subject declaration.value ≡ None → subject_declared declaration subject ≡ values_declared declaration subject
-values_else declaration subject is =
-    in_cases declaration subject (wide_in declaration.value) (referring_value_in declaration.value) (values_in subject declaration.value) None (sym is)
+pub values_else : (declaration : Declaration) (property_name : PropertyName) → common_given_in property_name declaration.value ≡ None → declared_for declaration property_name ≡ values_declared declaration property_name
+values_else declaration property_name is =
+    in_cases declaration property_name (wide_in declaration.value) (referring_value_in declaration.value) (values_in property_name declaration.value) None (sym is)

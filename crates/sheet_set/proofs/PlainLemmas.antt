@@ -7,7 +7,7 @@ use Rattle.std.proofs.lemmas.Bool.{or_parts}
 use Rattle.base_model.specs.Lists.{is_nil}
 use Rattle.base_model.specs.Text.{Characters, is_word}
 use Rattle.syntax_model.specs.Token.{Token, Said, said}
-use Rattle.syntax_model.specs.Kinds.{is_white, is_function, is_close_round}
+use Rattle.syntax_model.specs.TokenKinds.{is_white, is_function, is_close_round}
 use Rattle.syntax_model.specs.Brackets.{Bracket}
 use Rattle.custom_model.specs.Value.{CustomValue, normal, spaced, white_space}
 use Rattle.custom_model.specs.Parts.{Parts, Reading, plain, after, is_unfit, is_var, open_beyond, parts, parts_within, references, references_in, refers, referring_value_in, kept_where_valid, is_valid}

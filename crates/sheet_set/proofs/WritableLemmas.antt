@@ -15,7 +15,7 @@ all_pass Holds passes each (x ∷ xs) h =
 given_passes : (given : Given) → GivenWritable given → given_writable given ≡ true
 given_passes (wide word) h = refl
 given_passes (exactly value) h = refl
-given_passes (referring subject tokens) h = h
+given_passes (referring property_name tokens) h = h
 given_passes (holding tokens) h = h
 
 pub declared_pass : (ds : List Declared) → AllByRecursion DeclaredWritable ds → list_all declared_writable ds ≡ true

@@ -6,33 +6,33 @@ use Rattle.base_model.specs.Lists.{every}
 use Rattle.syntax_model.specs.Token.{Token}
 use Rattle.syntax_model.specs.Rules.{Declaration}
 use Rattle.custom_model.specs.Parts.{referring_value_in}
-use Rattle.syntax_model.specs.Kinds.{is_function}
+use Rattle.syntax_model.specs.TokenKinds.{is_function}
 use Rattle.value_model.specs.Value.{Value}
 use Rattle.sheet_model.specs.ValueIn.{value_in}
-use Rattle.sheet_model.specs.Shorthands.{Subject, values_in}
+use Rattle.sheet_model.specs.Shorthands.{PropertyName, values_in}
 use Rattle.sheet_model.specs.Declared.{Given, wide, exactly, referring, longhand, Declared, wide_in, givens_in, declared_each, declared_with}
 
 -- whether some token is a function
 abbrev pub has_function : List Token → Bool
 has_function tokens = list_any (λ token. is_function token.kind) tokens
 
--- what tokens give any property of a subject: a CSS-wide keyword, or a value that refers to custom properties
-abbrev pub common_given_in : Subject → List Token → Option Given
-common_given_in subject tokens =
-    option_or (option_map wide (wide_in tokens)) (option_map (referring subject) (referring_value_in tokens))
+-- what tokens give any property that a name names: a CSS-wide keyword, or a value that refers to custom properties
+abbrev pub common_given_in : PropertyName → List Token → Option Given
+common_given_in property_name tokens =
+    option_or (option_map wide (wide_in tokens)) (option_map (referring property_name) (referring_value_in tokens))
 
--- what a declaration of the subject declares
-abbrev pub subject_declared : Declaration → Subject → List Declared
-subject_declared declaration subject =
-    unwrap_or (option_map (declared_each declaration subject) (givens_in subject declaration.value)) []
+-- what a declaration of the property name declares
+abbrev pub declared_for : Declaration → PropertyName → List Declared
+declared_for declaration property_name =
+    unwrap_or (option_map (declared_each declaration property_name) (givens_in property_name declaration.value)) []
 
 -- and where its value is no such one: the value of each property, where all are taken
-abbrev pub values_declared : Declaration → Subject → List Declared
-values_declared declaration subject =
+abbrev pub values_declared : Declaration → PropertyName → List Declared
+values_declared declaration property_name =
     unwrap_or
     (option_map
-    (λ values. declared_each declaration subject (map exactly values))
-    (values_in subject declaration.value))
+    (λ values. declared_each declaration property_name (map exactly values))
+    (values_in property_name declaration.value))
     []
 
 -- what these tokens declare of one property

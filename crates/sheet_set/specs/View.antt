@@ -11,8 +11,8 @@ use Rattle.layer_order.specs.View.{declarations, origin_of}
 use Rattle.selector_types.specs.declared.selector.Selector.{Selector}
 use Rattle.selector_types.specs.View.{selector_of}
 use Rattle.shorthands.specs.View.{declared_of}
-use Rattle.shorthands.specs.declared.subject.Subject.{Subject}
-use Rattle.shorthands.specs.declared.subject.Subject.TheVariants as subject
+use Rattle.shorthands.specs.declared.property_name.PropertyName.{PropertyName}
+use Rattle.shorthands.specs.declared.property_name.PropertyName.TheVariants as property_name
 use Rattle.shorthands.specs.declared.declared.Target.{Target}
 use Rattle.shorthands.specs.declared.declared.Target.TheVariants as target
 use Rattle.sheet_set.specs.declared.sheet_rule.SheetRule.{SheetRule}
@@ -24,8 +24,8 @@ abbrev pub rule_count : Option StyleRule → ℕ
 rule_count rule = option_map_or (λ r. length r.declarations) rule 0
 
 -- a rule with its selectors
-abbrev pub rule_of : SheetRule → List Selector → PlacedRule
-rule_of rule selectors = record {
+abbrev pub placed_rule_of : SheetRule → List Selector → PlacedRule
+placed_rule_of rule selectors = record {
   selectors = map selector_of selectors;
   declarations = flat_map declared_of rule.declarations.items;
   origin = origin_of rule.origin;
@@ -35,16 +35,16 @@ rule_of rule selectors = record {
   first_index = rule.first_index;
 }
 
--- the target that a subject is
-abbrev pub target_of : Subject → Target
-target_of (subject.Longhand id) = target.Longhand id
-target_of (subject.Shorthand short) = target.Shorthand short
+-- the target that a property name is
+abbrev pub target_of : PropertyName → Target
+target_of (property_name.Longhand id) = target.Longhand id
+target_of (property_name.Shorthand short) = target.Shorthand short
 
 -- rules, each with its own list of selectors
 abbrev pub rules_with : List SheetRule → List (Vec Selector Global) → List PlacedRule
 rules_with [] lists = []
 rules_with (rule ∷ rules) [] = []
-rules_with (rule ∷ rules) (list ∷ lists) = rule_of rule list.items ∷ rules_with rules lists
+rules_with (rule ∷ rules) (list ∷ lists) = placed_rule_of rule list.items ∷ rules_with rules lists
 
 -- the sheet that is kept, and the rules that it has of its own
 abbrev pub kept_seen : KeptSheet → Sheet

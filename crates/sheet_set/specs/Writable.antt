@@ -10,7 +10,7 @@ use Rattle.sheet_model.specs.StyleRules.{StyleRule}
 abbrev pub given_writable : Given → Bool
 given_writable (wide word) = true
 given_writable (exactly value) = true
-given_writable (referring subject tokens) = is_writable (map unplaced tokens)
+given_writable (referring property_name tokens) = is_writable (map unplaced tokens)
 given_writable (holding tokens) = is_writable (map unplaced tokens)
 
 abbrev pub declared_writable : Declared → Bool

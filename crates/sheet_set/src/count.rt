@@ -8,7 +8,7 @@ use stylo_base::NoMemory;
 
 /// How many declarations the entries stand for. No memory holds 2^64 of them, which a few shorthands
 /// might stand for.
-pub fn count_all(entries: &[Declared]) -> Result<u64, NoMemory>
+pub(crate) fn count_all(entries: &[Declared]) -> Result<u64, NoMemory>
     ensures { IfOk result (λ count. count ≡ sum_by declared_count entries.now) }
 {
     let mut count: u64 = 0;

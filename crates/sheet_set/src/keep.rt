@@ -8,7 +8,7 @@ use shorthands::{Declared, Given, Target};
 use stylo_base::NoMemory;
 
 /// Adds what the declaration gives the target.
-pub fn keep(
+pub(crate) fn keep(
     kept: &mut Vec<Declared>,
     declaration: &RawDecl,
     target: Target,

@@ -4,8 +4,8 @@ ghost use Rattle.std.specs.Prelude.{◌≡◌, ◌++◌, IfOk, OnOk, flat_map, m
 ghost use Rattle.css_rules.specs.View.{declaration_of};
 ghost use Rattle.property_table.specs.View.{property_of};
 ghost use Rattle.sheet_model.specs.Shorthands as model;
-ghost use Rattle.shorthands.specs.View.{declared_of, given_of, subject_of};
-ghost use Rattle.sheet_set.specs.Parts.{common_given_in, each_declared, part_declared, parts_declared, subject_declared, values_declared};
+ghost use Rattle.shorthands.specs.View.{declared_of, given_of, property_name_of};
+ghost use Rattle.sheet_set.specs.Parts.{common_given_in, each_declared, part_declared, parts_declared, declared_for, values_declared};
 ghost use Rattle.sheet_set.specs.View.{target_of};
 
 use crate::keep::keep;
@@ -13,32 +13,32 @@ use crate::referring::referring_value;
 use css_rules::RawDecl;
 use css_tokens::Token;
 use property_table::PropId;
-use shorthands::{Declared, Given, Subject, Target, split};
+use shorthands::{Declared, Given, PropertyName, Target, split};
 use std::alloc::Global;
 use stylo_base::NoMemory;
 use value_parser::{are_taken, value, wide_keyword};
 
 /// Adds what a declaration of the property or shorthand declares: a declaration of each of the
 /// properties, or nothing where the value is not taken. What every property takes is kept once.
-pub fn add_subject(
+pub(crate) fn add_property_name(
     alloc: Global,
     kept: &mut Vec<Declared>,
     declaration: &RawDecl,
-    subject: Subject,
+    property_name: PropertyName,
 ) -> Result<(), NoMemory>
     ensures { OnOk result (flat_map declared_of kept.new.items ≡ flat_map declared_of kept.old.items
-        ++ subject_declared (declaration_of declaration.now) (subject_of subject)) }
+        ++ declared_for (declaration_of declaration.now) (property_name_of property_name)) }
 {
     match common_given(alloc, declaration.value.as_slice())? {
-        Some(given) => keep(kept, declaration, target_of(subject), given),
-        None => add_values(kept, declaration, subject),
+        Some(given) => keep(kept, declaration, target_of(property_name), given),
+        None => add_values(kept, declaration, property_name),
     }
 }
 
-// What the tokens give any property: a CSS-wide keyword, or a value that refers to custom properties.
+/// What the tokens give any property: a CSS-wide keyword, or a value that refers to custom properties.
 fn common_given(alloc: Global, tokens: &[Token]) -> Result<Option<Given>, NoMemory>
-    ensures { IfOk result (λ given. (subject : model.Subject)
-        → option_map (given_of subject) given ≡ common_given_in subject tokens.now) }
+    ensures { IfOk result (λ given. (property_name : model.PropertyName)
+        → option_map (given_of property_name) given ≡ common_given_in property_name tokens.now) }
 {
     if let Some(wide) = wide_keyword(tokens) {
         return Ok(Some(Given::Wide(wide)));
@@ -49,35 +49,40 @@ fn common_given(alloc: Global, tokens: &[Token]) -> Result<Option<Given>, NoMemo
     }
 }
 
-// The target that it is.
-fn target_of(subject: Subject) -> Target
-    ensures { result ≡ target_of subject }
+/// The target that it is.
+fn target_of(property_name: PropertyName) -> Target
+    ensures { result ≡ target_of property_name }
 {
-    match subject {
-        Subject::Longhand(id) => Target::Longhand(id),
-        Subject::Shorthand(short) => Target::Shorthand(short),
+    match property_name {
+        PropertyName::Longhand(id) => Target::Longhand(id),
+        PropertyName::Shorthand(short) => Target::Shorthand(short),
     }
 }
 
-// Adds a value for each property of the subject, where all are taken.
+/// Adds a value for each property that a name names, where all are taken.
 fn add_values(
     kept: &mut Vec<Declared>,
     declaration: &RawDecl,
-    subject: Subject,
+    property_name: PropertyName,
 ) -> Result<(), NoMemory>
     ensures { OnOk result (flat_map declared_of kept.new.items ≡ flat_map declared_of kept.old.items
-        ++ values_declared (declaration_of declaration.now) (subject_of subject)) }
+        ++ values_declared (declaration_of declaration.now) (property_name_of property_name)) }
 {
-    match subject {
-        Subject::Longhand(id) => add_value(kept, declaration, id, declaration.value.as_slice()),
-        Subject::Shorthand(short) => match split(short, declaration.value.as_slice()) {
+    match property_name {
+        PropertyName::Longhand(id) => add_value(
+            kept,
+            declaration,
+            id,
+            declaration.value.as_slice(),
+        ),
+        PropertyName::Shorthand(short) => match split(short, declaration.value.as_slice()) {
             Some(parts) => add_parts(kept, declaration, short.longhands(), parts.as_slice()),
             None => Ok(()),
         },
     }
 }
 
-// Adds the value of each property in its part, where all are taken.
+/// Adds the value of each property in its part, where all are taken.
 fn add_parts(
     kept: &mut Vec<Declared>,
     declaration: &RawDecl,
@@ -95,7 +100,7 @@ fn add_parts(
     }
 }
 
-// Adds the value of each property in its part.
+/// Adds the value of each property in its part.
 fn add_each(
     kept: &mut Vec<Declared>,
     declaration: &RawDecl,
@@ -112,7 +117,7 @@ fn add_each(
     Ok(())
 }
 
-// Adds the value of the property, where it is taken.
+/// Adds the value of the property, where it is taken.
 fn add_value(
     kept: &mut Vec<Declared>,
     declaration: &RawDecl,

@@ -10,7 +10,10 @@ use stylo_base::NoMemory;
 
 /// What is kept of tokens that refer to custom properties. Tokens without a function refer to none,
 /// and are not copied.
-pub fn referring_value(alloc: Global, tokens: &[Token]) -> Result<Option<CustomValue>, NoMemory>
+pub(crate) fn referring_value(
+    alloc: Global,
+    tokens: &[Token],
+) -> Result<Option<CustomValue>, NoMemory>
     ensures { IfOk result (λ value. value ≡ referring_value_in tokens.now) }
 {
     if !has_function(tokens) {
@@ -19,7 +22,7 @@ pub fn referring_value(alloc: Global, tokens: &[Token]) -> Result<Option<CustomV
     CustomValue::read_referring(alloc, tokens)
 }
 
-// Whether some token is a function.
+/// Whether some token is a function.
 fn has_function(tokens: &[Token]) -> bool
     ensures { result ≡ has_function tokens.now }
 {

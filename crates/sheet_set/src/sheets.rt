@@ -82,7 +82,7 @@ impl Sheets {
         Sheets::of_collected(alloc, list, found)
     }
 
-    // The sheets of this list, with what was collected of the enabled ones.
+    /// The sheets of this list, with what was collected of the enabled ones.
     fn of_collected(
         alloc: Global,
         sheets: Vec<KeptSheet>,

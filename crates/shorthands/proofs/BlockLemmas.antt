@@ -3,7 +3,7 @@ use Rattle.std.proofs.Common.{◌≡◌, Bool, true, false, if◌then◌else◌,
 use Rattle.std.proofs.Math.Numerals.{one-add}
 use Rattle.std.proofs.lemmas.Bool.{cond-true, cond-false}
 use Rattle.base_model.specs.Lists.{is_nil}
-use Rattle.syntax_model.specs.Token.{Token, Kind}
+use Rattle.syntax_model.specs.Token.{Token, TokenKind}
 use Rattle.syntax_model.specs.Brackets.{Bracket, open_past, same_bracket, with_opened, without_closed, opened_by, closed_by}
 use Rattle.syntax_model.specs.Outside.{from_first, length_before}
 use Rattle.shorthands.specs.Blocks.{after_closer}
@@ -35,14 +35,14 @@ closed_in_order (innermost ∷ pending) under (token ∷ tokens) =
     ∙ closed_in_order (open_past (innermost ∷ pending) token) under tokens
 
 -- nothing outside brackets comes before the closer
-first_outside : (p : Kind → Bool) (pending : List Bracket) (tokens : List Token) → drop (length_before p pending tokens) tokens ≡ from_first p (after_closer pending tokens)
+first_outside : (p : TokenKind → Bool) (pending : List Bracket) (tokens : List Token) → drop (length_before p pending tokens) tokens ≡ from_first p (after_closer pending tokens)
 first_outside p pending [] = refl
 first_outside p [] (token ∷ tokens) = refl
 first_outside p (innermost ∷ pending) (token ∷ tokens) =
     rw one-add (first_outside p (open_past (innermost ∷ pending) token) tokens)
 
 -- past a token that does not pass, and what stands in its bracket
-pub first_later : (p : Kind → Bool) (tokens : List Token) (token : Token) (rest : List Token) → tokens ≡ token ∷ rest → p token.kind ≡ false → from_first p tokens ≡ from_first p (after_closer (open_past [] token) rest)
+pub first_later : (p : TokenKind → Bool) (tokens : List Token) (token : Token) (rest : List Token) → tokens ≡ token ∷ rest → p token.kind ≡ false → from_first p tokens ≡ from_first p (after_closer (open_past [] token) rest)
 first_later p tokens token rest is fails =
     ap (from_first p) is
     ∙ (ap (λ n. drop n (token ∷ rest)) (cond-false (p token.kind) _ _ fails)

@@ -6,7 +6,7 @@ use Rattle.std.proofs.lemmas.Bool.Decides.{nat_tests}
 use Rattle.base_model.specs.Lists.{is_nil}
 use Rattle.syntax_model.specs.Token.{Token}
 use Rattle.syntax_model.specs.Brackets.{Bracket, open_past}
-use Rattle.syntax_model.specs.Kinds.{is_white, without_white}
+use Rattle.syntax_model.specs.TokenKinds.{is_white, without_white}
 use Rattle.syntax_model.specs.Outside.{from_first, length_before, up_to}
 use Rattle.syntax_model.proofs.OutsideLemmas.{inside_all, parts_after, parts_split}
 use Rattle.sheet_model.specs.Shorthands.{slices}

@@ -2,15 +2,15 @@
 use Rattle.std.specs.Prelude.{ℕ, ◌+◌, ◌-◌, ◌==◌, nat_le, nat_lt, ◌||◌, List, [], ◌∷◌, map, length, position, unwrap_or, if◌then◌else◌}
 use Rattle.value_model.specs.Shorthand as shorthand_model
 use Rattle.value_model.specs.Shorthand.{longhands_of}
-use Rattle.sheet_model.specs.Shorthands as subject_model
-use Rattle.sheet_model.specs.Shorthands.{subject_longhands}
+use Rattle.sheet_model.specs.Shorthands as name_model
+use Rattle.sheet_model.specs.Shorthands.{longhands_named}
 use Rattle.sheet_model.specs.Declared as model
 use Rattle.css_tokens.specs.View.{wide_of}
-use Rattle.property_table.specs.View.{property_of, value_of}
+use Rattle.property_table.specs.View.{property_of, value_seen}
 use Rattle.shorthands.specs.declared.short.Short.{Short}
 use Rattle.shorthands.specs.declared.short.Short.TheVariants as short
-use Rattle.shorthands.specs.declared.subject.Subject.{Subject}
-use Rattle.shorthands.specs.declared.subject.Subject.TheVariants as subject
+use Rattle.shorthands.specs.declared.property_name.PropertyName.{PropertyName}
+use Rattle.shorthands.specs.declared.property_name.PropertyName.TheVariants as property_name
 use Rattle.shorthands.specs.declared.declared.Target.{Target}
 use Rattle.shorthands.specs.declared.declared.Target.TheVariants.{Longhand, Shorthand, Custom}
 use Rattle.shorthands.specs.declared.declared.Given.{Given}
@@ -26,16 +26,16 @@ short_of short.BorderColor = shorthand_model.border_color
 short_of short.Overflow = shorthand_model.overflow
 short_of short.All = shorthand_model.all
 
-abbrev pub subject_of : Subject → subject_model.Subject
-subject_of (subject.Longhand id) = subject_model.single (property_of id)
-subject_of (subject.Shorthand short) = subject_model.shorthand (short_of short)
+abbrev pub property_name_of : PropertyName → name_model.PropertyName
+property_name_of (property_name.Longhand id) = name_model.single (property_of id)
+property_name_of (property_name.Shorthand short) = name_model.shorthand (short_of short)
 
 -- What takes the value that a declaration gives. That of a custom property refers to nothing that is to be taken, so
 -- any would do for it.
-abbrev pub taker_of : Target → subject_model.Subject
-taker_of (Longhand id) = subject_model.single (property_of id)
-taker_of (Shorthand short) = subject_model.shorthand (short_of short)
-taker_of (Custom name) = subject_model.single 0
+abbrev pub taker_of : Target → name_model.PropertyName
+taker_of (Longhand id) = name_model.single (property_of id)
+taker_of (Shorthand short) = name_model.shorthand (short_of short)
+taker_of (Custom name) = name_model.single 0
 
 -- what is declared, in the order of the table
 abbrev pub targets_of : Target → List model.Target
@@ -43,11 +43,11 @@ targets_of (Longhand id) = model.longhand (property_of id) ∷ []
 targets_of (Shorthand short) = map model.longhand (longhands_of (short_of short))
 targets_of (Custom name) = model.custom name ∷ []
 
-abbrev pub given_of : subject_model.Subject → Given → model.Given
-given_of subject (Wide wide) = model.wide (wide_of wide)
-given_of subject (Exactly value) = model.exactly (value_of value)
-given_of subject (Referring value) = model.referring subject value
-given_of subject (Holding value) = model.holding value
+abbrev pub given_of : name_model.PropertyName → Given → model.Given
+given_of property_name (Wide wide) = model.wide (wide_of wide)
+given_of property_name (Exactly value) = model.exactly (value_seen value)
+given_of property_name (Referring value) = model.referring property_name value
+given_of property_name (Holding value) = model.holding value
 
 -- the declaration of one of the targets
 abbrev pub declared_as : Declared → model.Target → model.Declared

@@ -5,14 +5,14 @@
 mod declared;
 mod nested;
 mod parts;
+mod property_name;
 mod short;
 mod slices;
-mod subject;
 mod values;
 mod word;
 
 pub use declared::{Declared, Given, Target};
 pub use parts::Parts;
+pub use property_name::PropertyName;
 pub use short::Short;
-pub use subject::Subject;
 pub use values::split;

@@ -14,8 +14,8 @@ const FULL: u128 = 85_070_591_730_234_615_865_843_651_857_942_052_864;
 
 /// Up to 64 brackets that are open. Contracts see their list, the innermost first.
 #[derive(Debug, Drop)]
-pub struct Nested {
-    // a digit in base 4 for each, from 1 to 3, the innermost last
+pub(crate) struct Nested {
+    /// A digit in base 4 for each, from 1 to 3, the innermost last.
     digits: u128,
 }
 

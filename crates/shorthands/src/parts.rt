@@ -8,7 +8,7 @@ use css_tokens::Token;
 #[derive(Clone, Copy, Debug)]
 pub struct Parts<'a> {
     parts: [&'a [Token]; 4],
-    // how many there are; the others say nothing
+    /// How many there are; the others say nothing.
     len: usize,
     ghost few: { len ≤ 4 },
 }

@@ -10,7 +10,7 @@ use std::marker::Model;
 /// What stands between whitespace outside brackets in a list of tokens. Contracts see the slices that
 /// are left.
 #[derive(Drop)]
-pub struct Slices<'a> {
+pub(crate) struct Slices<'a> {
     rest: &'a [Token],
 }
 

@@ -2,7 +2,7 @@
 
 ghost use Rattle.std.specs.Prelude.{◌≡◌, ◌∷◌, ◌≤◌, [], length, option_map};
 ghost use Rattle.syntax_model.specs.Brackets.{open_past, with_opened};
-ghost use Rattle.syntax_model.specs.Kinds.{is_white};
+ghost use Rattle.syntax_model.specs.TokenKinds.{is_white};
 ghost use Rattle.syntax_model.specs.Outside.{from_first};
 ghost use Rattle.css_tokens.specs.View.{bracket_of};
 ghost use Rattle.shorthands.specs.Blocks.{after_closer};
@@ -11,11 +11,12 @@ use crate::nested::Nested;
 use css_tokens::{Bracket, Token};
 
 /// The tokens from the first whitespace outside brackets on.
-pub fn from_white(tokens: &[Token]) -> &[Token]
+pub(crate) fn from_white(tokens: &[Token]) -> &[Token]
     ensures rest { result.now ≡ from_first is_white tokens.now }
     ensures within { length result.now ≤ length tokens.now }
 {
     let mut rest = tokens;
+    // The proof calls the loop by this label.
     'tokens: while let Some((first, after)) = rest.split_first() {
         if first.is_white() {
             break;
@@ -44,6 +45,7 @@ fn after_block(bracket: Bracket, tokens: &[Token]) -> &[Token]
 {
     let mut nested = Nested::one(bracket);
     let mut rest = tokens;
+    // The proof calls the loop by this label.
     'tokens: while !nested.is_empty() {
         let Some((first, after)) = rest.split_first() else {
             break;

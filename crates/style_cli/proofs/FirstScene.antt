@@ -7,7 +7,7 @@ use Rattle.scene_model.proofs.Numbers.{distinct-range}
 use Rattle.change_model.proofs.Started.{IsSound-document_of}
 use Rattle.edit_model.specs.SheetApply.{AreNumbered}
 use Rattle.session_model.specs.Standing.{started, sheet_list}
-use Rattle.session_model.specs.Rule.{IsReached, at_start}
+use Rattle.session_model.specs.StandingInvariant.{IsReached, at_start}
 use Rattle.layer_order.specs.View.{sheets_from}
 use Rattle.layer_order.specs.declared.sheet_input.SheetInput.{SheetInput}
 use Rattle.job_json.specs.declared.Job.{Job}

@@ -16,13 +16,13 @@ use Rattle.style_cli.specs.Loops.{GrewByFront, LosesFront}
 use Rattle.style_cli.specs.Text.{text_of}
 
 -- the job that an input within the limit spells
-abbrev pub job_in : List ℕ → Option Job
-job_in bytes = if nat_le (length bytes) input_limit then job_if_good (verdict_of bytes) else None
+abbrev pub job_of_input : List ℕ → Option Job
+job_of_input bytes = if nat_le (length bytes) input_limit then job_if_good (verdict_of bytes) else None
 
 -- The text that is due for a line and an input, if there is one: for a run, that of the input's job.
 abbrev pub due_text : Option Line → List ℕ → Option (List ℕ)
 due_text None bytes = None
-due_text (Some Run) bytes = option_map text_of (job_in bytes)
+due_text (Some Run) bytes = option_map text_of (job_of_input bytes)
 
 abbrev pub due_by : Verdict → Status
 due_by not_json = NotJson
@@ -56,7 +56,7 @@ IsPast kind number old new =
 
 -- it is a job
 abbrev pub IsJob : Option (List ℕ) → Type 0
-IsJob left = IfSome left (λ bytes. (job : Job) × (job_in bytes ≡ Some job))
+IsJob left = IfSome left (λ bytes. (job : Job) × (job_of_input bytes ≡ Some job))
 
 -- an output grew by the whole text that is due
 abbrev pub IsPrinted : Option Line → Option (List ℕ) → Option (List ℕ) → Option (List ℕ) → Type 0

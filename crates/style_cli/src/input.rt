@@ -15,7 +15,7 @@ const PIECE: usize = 65_536;
 
 /// Why there is no input.
 #[derive(Clone, Copy, Debug, PartialEq, Eq)]
-pub enum Stop {
+pub(crate) enum InputError {
     /// The source failed.
     Fault,
     /// The input is longer than the limit.
@@ -24,41 +24,42 @@ pub enum Stop {
     NoMemory,
 }
 
-impl From<Failed> for Stop {
+impl From<Failed> for InputError {
     ghost use Rattle.std.specs.Prelude.{◌≡◌};
-    ghost use Rattle.style_cli.specs.declared.input.Stop.TheVariants.{Fault};
+    ghost use Rattle.style_cli.specs.declared.input.InputError.TheVariants.{Fault};
 
     ghost from_gives = { λ _ e. e ≡ Fault };
 
-    fn from(_error: Failed) -> Stop {
-        Stop::Fault
+    fn from(_error: Failed) -> InputError {
+        InputError::Fault
     }
 }
 
-impl From<AllocError> for Stop {
+impl From<AllocError> for InputError {
     ghost use Rattle.std.specs.Prelude.{◌≡◌};
-    ghost use Rattle.style_cli.specs.declared.input.Stop.TheVariants.{NoMemory};
+    ghost use Rattle.style_cli.specs.declared.input.InputError.TheVariants.{NoMemory};
 
     ghost from_gives = { λ _ e. e ≡ NoMemory };
 
-    fn from(_error: AllocError) -> Stop {
-        Stop::NoMemory
+    fn from(_error: AllocError) -> InputError {
+        InputError::NoMemory
     }
 }
 
 /// All the bytes that the source has left, at most `INPUT_LIMIT`. It never reads more than one byte
 /// past the limit.
-pub fn read_all<S: Source>(alloc: Global, source: &mut S) -> Result<Vec<u8>, Stop>
+pub(crate) fn read_all<S: Source>(alloc: Global, source: &mut S) -> Result<Vec<u8>, InputError>
     ensures whole { IfOk result (λ bytes. IsReadWhole (S.left source.old) (S.left source.new) bytes.items) }
     ensures fits { IfOk result (λ bytes. length bytes.items ≤ input_limit) }
-    ensures too_long { IsErrOf result Stop.TooLong
+    ensures too_long { IsErrOf result InputError.TooLong
         → LosesFront (input_limit + 1) (S.left source.old) (S.left source.new) }
     ensures most { LosesAtMost (input_limit + 1) (S.left source.old) (S.left source.new) }
-    ensures fault { IsErrOf result Stop.Fault
+    ensures fault { IsErrOf result InputError.Fault
         → LosesAtMost input_limit (S.left source.old) (S.left source.new) }
-    ensures cause { HasCause (S.faults source.old) (S.faults source.new) (IsErrOf result Stop.Fault) }
+    ensures cause { HasCause (S.faults source.old) (S.faults source.new) (IsErrOf result InputError.Fault) }
 {
     let mut found = Vec::new(alloc);
+    // The proof calls the loop by this label.
     'reading: loop {
         let room = PIECE.min(INPUT_LIMIT + 1 - found.len());
         let count = read_piece(source, &mut found, room)?;
@@ -66,14 +67,18 @@ pub fn read_all<S: Source>(alloc: Global, source: &mut S) -> Result<Vec<u8>, Sto
             return Ok(found);
         }
         if found.len() > INPUT_LIMIT {
-            return Err(Stop::TooLong);
+            return Err(InputError::TooLong);
         }
     }
 }
 
 /// Appends what one read gives, at most `room` bytes, and says how many bytes that is: 0 at the end
 /// of the input alone. The source reads into the vector itself. After an error the vector is of no use.
-fn read_piece<S: Source>(source: &mut S, found: &mut Vec<u8>, room: usize) -> Result<usize, Stop>
+fn read_piece<S: Source>(
+    source: &mut S,
+    found: &mut Vec<u8>,
+    room: usize,
+) -> Result<usize, InputError>
     requires some { 0 < room }
     requires few { vec_len found.old + room ≤ input_limit + 1 }
     ensures bound { IfOk result (λ count. count ≤ room) }
@@ -83,9 +88,9 @@ fn read_piece<S: Source>(source: &mut S, found: &mut Vec<u8>, room: usize) -> Re
     ensures read { (all : Option (List ℕ)) → Consumes all (S.left source.old) found.old.items
         → OnOk result (Consumes all (S.left source.new) found.new.items) }
     ensures err { OnErr result (Keeps (S.left source.old) (S.left source.new)) }
-    ensures reason { result ≢ Err Stop.TooLong }
+    ensures reason { result ≢ Err InputError.TooLong }
     ensures end { EndsAtEnd (S.left source.old) result }
-    ensures cause { HasCause (S.faults source.old) (S.faults source.new) (IsErrOf result Stop.Fault) }
+    ensures cause { HasCause (S.faults source.old) (S.faults source.new) (IsErrOf result InputError.Fault) }
 {
     let start = found.len();
     found.resize(start + room, 0)?;

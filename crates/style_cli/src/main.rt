@@ -34,6 +34,7 @@ fn main(rt: HostRuntime) -> ExitCode {
         }
         Err(status) => status,
     };
+    // Where standard error cannot be written, the exit status still tells what happened.
     let _ = status.report(&rt);
     ExitCode::from(status.number())
 }

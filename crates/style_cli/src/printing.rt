@@ -30,7 +30,7 @@ use stylo_base::{NoMemory, Text};
 
 /// Writes the text of a job, each line as soon as it is made. The document takes the nodes over, and
 /// what is kept of the sheets takes them over: no text is copied.
-pub fn print_job<K: Sink>(alloc: Global, job: Job, sink: &mut K) -> Result<(), SinkRefused>
+pub(crate) fn print_job<K: Sink>(alloc: Global, job: Job, sink: &mut K) -> Result<(), SinkRefused>
     requires nodes { length job.nodes ≤ element_limit }
     requires sheets { length job.sheets ≤ sheet_limit }
     ensures ok { OnOk result (Appends (K.held sink.old) (K.held sink.new) (text_of job)) }
@@ -45,7 +45,7 @@ pub fn print_job<K: Sink>(alloc: Global, job: Job, sink: &mut K) -> Result<(), S
 
 // The parts of a run are not inlined, so that bench/profile can tell what each costs.
 
-/// The document that takes the nodes over.
+/// The document made of these nodes. Their list is moved into it, not copied.
 #[inline(never)]
 fn grown(alloc: Global, nodes: NodeList) -> Result<Doc, NoMemory>
     requires { length nodes ≤ element_limit }
@@ -54,7 +54,7 @@ fn grown(alloc: Global, nodes: NodeList) -> Result<Doc, NoMemory>
     Doc::of_list(alloc, nodes)
 }
 
-/// The rules of the sheets, which it takes over.
+/// The rules that the sheets hold. The list of the sheets is moved into them, not copied.
 #[inline(never)]
 fn rules_of(alloc: Global, sheets: SheetList) -> Result<Sheets, NoMemory>
     requires { length sheets ≤ sheet_limit }

@@ -66,7 +66,7 @@ fn the_read_at_the_end_fails(rt: HostRuntime) -> Result<(), Fail> {
     Ok(())
 }
 
-// A read takes 65,536 bytes at most: the first 1,024 take the limit, and the next one a byte past it.
+/// A read takes 65,536 bytes at most: the first 1,024 take the limit, and the next one a byte past it.
 #[test]
 fn nothing_is_read_past_the_limit(rt: HostRuntime) -> Result<(), Fail> {
     let long = vec![in rt.alloc(); b' '; 67_108_870]?;

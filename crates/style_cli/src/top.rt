@@ -5,11 +5,11 @@ ghost use Rattle.io_edges.specs.Cause.{HasCause, Rose};
 ghost use Rattle.stylo_base.specs.declared.refusal.Kind.{Kind};
 ghost use Rattle.job_json.specs.JobOf.{not_json, bad_shape};
 ghost use Rattle.style_cli.specs.Words.{line_of};
-ghost use Rattle.style_cli.specs.Answer.{IsReadAs, IsPast, IsJob, IsPrinted, IsFrontPrinted, IsReadToEnd, IsAnswerTo, IsEarly, IsUnread, IsRefused, IsTold, job_in};
+ghost use Rattle.style_cli.specs.Answer.{IsReadAs, IsPast, IsJob, IsPrinted, IsFrontPrinted, IsReadToEnd, IsAnswerTo, IsEarly, IsUnread, IsRefused, IsTold, job_of_input};
 ghost use Rattle.base_model.specs.Limits.{element_limit, input_limit, sheet_limit};
 ghost use Rattle.style_cli.specs.Loops.{LosesAtMost};
 
-use crate::input::{Stop, read_all};
+use crate::input::{InputError, read_all};
 use crate::printing::print_job;
 use crate::status::Status;
 use crate::words::read_line;
@@ -79,6 +79,7 @@ pub fn run<R: Threads + Sync, S: Source, K: Sink>(
         → ¬ Rose (S.faults source.old) (S.faults source.new) → ¬ Rose (K.faults sink.old) (K.faults sink.new)
         → (result ≡ Status.Done) ⊎ (result ≡ Status.NoMemory) }
 {
+    // The runtime is not used yet.
     let _ = rt;
     if read_line(&words).is_none() {
         return Status::Usage;
@@ -98,7 +99,7 @@ pub fn run<R: Threads + Sync, S: Source, K: Sink>(
 /// can tell what it costs.
 #[inline(never)]
 fn read_job<S: Source>(alloc: Global, source: &mut S) -> Result<Job, Status>
-    ensures job { IfOk result (λ job. IfSome (S.left source.old) (λ bytes. job_in bytes ≡ Some job)) }
+    ensures job { IfOk result (λ job. IfSome (S.left source.old) (λ bytes. job_of_input bytes ≡ Some job)) }
     ensures end { OnOk result (IsReadToEnd (S.left source.old) (S.left source.new)) }
     ensures fits { IfOk result (λ job. length job.nodes ≤ element_limit) }
     ensures few { IfOk result (λ job. length job.sheets ≤ sheet_limit) }
@@ -113,9 +114,9 @@ fn read_job<S: Source>(alloc: Global, source: &mut S) -> Result<Job, Status>
 {
     let bytes = match read_all(alloc, source) {
         Ok(bytes) => bytes,
-        Err(Stop::Fault) => return Err(Status::ReadFault),
-        Err(Stop::TooLong) => return Err(Status::Limit(Kind::Input, INPUT_LIMIT as u64)),
-        Err(Stop::NoMemory) => return Err(Status::NoMemory),
+        Err(InputError::Fault) => return Err(Status::ReadFault),
+        Err(InputError::TooLong) => return Err(Status::Limit(Kind::Input, INPUT_LIMIT as u64)),
+        Err(InputError::NoMemory) => return Err(Status::NoMemory),
     };
     match job_json::read(alloc, &bytes) {
         Ok(job) => Ok(job),

@@ -8,7 +8,7 @@ ghost use Rattle.style_cli.specs.Loops.{GrewByFront};
 use io_edges::{Sink, SinkRefused};
 
 /// Writes all of the piece. At an error the sink has taken a front of it.
-pub fn write_all<K: Sink>(sink: &mut K, piece: &[u8]) -> Result<(), SinkRefused>
+pub(crate) fn write_all<K: Sink>(sink: &mut K, piece: &[u8]) -> Result<(), SinkRefused>
     ensures ok { OnOk result (Appends (K.held sink.old) (K.held sink.new) piece.now) }
     ensures err { OnErr result (GrewByFront (K.held sink.old) (K.held sink.new) piece.now) }
     ensures cause { HasCause (K.faults sink.old) (K.faults sink.new) (IsErrOf result SinkRefused.Failed) }

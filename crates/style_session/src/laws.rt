@@ -38,7 +38,7 @@ ghost use Rattle.session_model.specs.Standing.{
   scene_applied,
   style_in,
 };
-ghost use Rattle.session_model.specs.Rule.{AllKeep, IsCalmFrom, IsReached, IsSince, IsStyleIn};
+ghost use Rattle.session_model.specs.StandingInvariant.{AllKeep, IsCalmFrom, IsReached, IsSince, IsStyleIn};
 ghost use Rattle.session_model.specs.Walk.{committed, placed_styles, results};
 ghost use Rattle.style_session.specs.Laws.{AreUnmarkedUp, IsEdit, IsUnmarked, KeepsStyle, styled_now};
 

@@ -6,7 +6,7 @@ use Rattle.std.proofs.lemmas.List.{drop_all, drop_more, get_or-map, length-map, 
 use Rattle.std.proofs.lemmas.List.FromFn.{get_or-map-range_with_len}
 use Rattle.std.proofs.lemmas.Option.{get_or_from_slice_get, none-some, slice_get-get_or}
 use Rattle.value_model.specs.Value.{Value}
-use Rattle.value_model.specs.Table.{Row, color_row, table}
+use Rattle.value_model.specs.Table.{PropertyRow, color_row, table}
 use Rattle.value_model.specs.Style.{inherited_values, initial_style}
 use Rattle.value_model.proofs.ByRow.{inherited-at, length-inherited}
 use Rattle.property_table.specs.View.{inherited_properties, property_of}
@@ -68,26 +68,26 @@ with_values_at parents (property ∷ properties) values k d lt within =
     ∙ either (k == property) (is_among k properties) (get_or parents k d) (get_or values k d))
 
 -- which properties are inherited
-all_among : map (λ k. is_among k inherited_properties) (range_with_len 0 40) ≡ map (λ (row : Row). row.inherited) table
+all_among : map (λ k. is_among k inherited_properties) (range_with_len 0 40) ≡ map (λ (row : PropertyRow). row.inherited) table
 unfolding table
 all_among = refl
 
 among_is : (k : ℕ) → k < length table → is_among k inherited_properties ≡ (get_or table k color_row).inherited
 among_is k lt =
     sym (get_or-map-range_with_len (λ k. is_among k inherited_properties) 0 40 k k false (omega (arith, length-table)) (omega arith))
-    ∙ (ap (λ l. get_or l k false) all_among ∙ get_or-map (λ (row : Row). row.inherited) table k color_row false lt)
+    ∙ (ap (λ l. get_or l k false) all_among ∙ get_or-map (λ (row : PropertyRow). row.inherited) table k color_row false lt)
 
 -- the initial values with the inherited ones of the parent
 pub all_inherited : (parents : List Value) → length parents ≡ length table → with_values_in parents inherited_properties initial_style.values ≡ inherited_values table parents
 all_inherited parents h =
-    let long : length initial_style.values ≡ length table = length-map table (λ (row : Row). row.initial) in
+    let long : length initial_style.values ≡ length table = length-map table (λ (row : PropertyRow). row.initial) in
     let same : length (with_values_in parents inherited_properties initial_style.values) ≡ length (inherited_values table parents) =
     length-with_values parents inherited_properties initial_style.values ∙ (long ∙ sym (length-inherited table parents h ∙ h)) in
     same_lists _ _ same (λ k d lt.
-    let row : Row = get_or table k color_row in
+    let row : PropertyRow = get_or table k color_row in
     let in_table : k < length table = omega (arith, lt, long, length-with_values parents inherited_properties initial_style.values) in
     let in_parents : k < length parents = omega (arith, in_table, h) in
-    let initial : get_or initial_style.values k d ≡ row.initial = get_or-map (λ (row : Row). row.initial) table k color_row d in_table in
+    let initial : get_or initial_style.values k d ≡ row.initial = get_or-map (λ (row : PropertyRow). row.initial) table k color_row d in_table in
     let here : slice_get (inherited_values table parents) k ≡ Some (if row.inherited then get_or parents k d else row.initial) =
     inherited-at table parents k row (slice_get-get_or table k color_row in_table)
     ∙ ap (option_map (λ v. if row.inherited then v else row.initial)) (slice_get-get_or parents k d in_parents) in

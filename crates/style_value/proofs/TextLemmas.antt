@@ -19,7 +19,7 @@ use Rattle.style_value.specs.StyleText.{printed_from, printed_properties, proper
 -- what the test of a row tells
 abbrev pub Tests : List Value → ℕ → Bool → Type 0
 Tests values row standing =
-    (r : model.Row) (v : Value) → slice_get table row ≡ Some r → slice_get values row ≡ Some v → standing ≡ same_value v r.standing
+    (r : model.PropertyRow) (v : Value) → slice_get table row ≡ Some r → slice_get values row ≡ Some v → standing ≡ same_value v r.standing
 
 -- the properties of the rows from an index on
 abbrev pub printed_after : List Value → ℕ → List ℕ
@@ -36,7 +36,7 @@ found_first values list = record { within = omega arith; found = refl }
 next_row : (values : List Value) (i : ℕ) (standing : Bool) → i < length table → length values ≡ length table → Tests values i standing → printed_after values i ≡ (if standing then printed_after values (i + 1) else i ∷ printed_after values (i + 1))
 next_row values i standing lt long test =
     let value : Value = get_or values i (keyword []) in
-    let row : model.Row = get_or table i color_row in
+    let row : model.PropertyRow = get_or table i color_row in
     let in_table : slice_get table i ≡ Some row = slice_get-get_or table i color_row lt in
     let here : slice_get values i ≡ Some value = slice_get-get_or values i (keyword []) (omega (arith, lt, long)) in
     ap (λ rows. printed_from i rows (drop i values)) (drop_at table i row in_table)
@@ -84,7 +84,7 @@ found_all values list count i past old =
 
 module _ (values : List Value) where
   -- each property that is printed gives its declaration
-  texts_are : (rows : List model.Row) (rest : List Value) (i : ℕ) → ((k : ℕ) (r : model.Row) (v : Value) → slice_get rows k ≡ Some r → slice_get rest k ≡ Some v → property_text values (i + k) ≡ declaration_text r v) → map (property_text values) (printed_from i rows rest) ≡ declaration_texts rows rest
+  texts_are : (rows : List model.PropertyRow) (rest : List Value) (i : ℕ) → ((k : ℕ) (r : model.PropertyRow) (v : Value) → slice_get rows k ≡ Some r → slice_get rest k ≡ Some v → property_text values (i + k) ≡ declaration_text r v) → map (property_text values) (printed_from i rows rest) ≡ declaration_texts rows rest
   texts_are [] rest i each = refl
   texts_are (row ∷ rows) [] i each = refl
   texts_are (row ∷ rows) (value ∷ rest) i each =
@@ -94,7 +94,7 @@ module _ (values : List Value) where
       ap (property_text values) (omega arith) ∙ each (suc k) r v there here) in
       one_more rows rest i row value (same_value value row.standing) first later
     where
-      one_more : (rows : List model.Row) (rest : List Value) (i : ℕ) (row : model.Row) (value : Value) (standing : Bool) → property_text values i ≡ declaration_text row value → map (property_text values) (printed_from (i + 1) rows rest) ≡ declaration_texts rows rest → map (property_text values) (if standing then printed_from (i + 1) rows rest else i ∷ printed_from (i + 1) rows rest) ≡ (if standing then declaration_texts rows rest else declaration_text row value ∷ declaration_texts rows rest)
+      one_more : (rows : List model.PropertyRow) (rest : List Value) (i : ℕ) (row : model.PropertyRow) (value : Value) (standing : Bool) → property_text values i ≡ declaration_text row value → map (property_text values) (printed_from (i + 1) rows rest) ≡ declaration_texts rows rest → map (property_text values) (if standing then printed_from (i + 1) rows rest else i ∷ printed_from (i + 1) rows rest) ≡ (if standing then declaration_texts rows rest else declaration_text row value ∷ declaration_texts rows rest)
       one_more rows rest i row value true first later = later
       one_more rows rest i row value false first later =
           ap (λ t. t ∷ map (property_text values) (printed_from (i + 1) rows rest)) first
@@ -152,13 +152,13 @@ printed_first values ids text empty = record {
 }
 
 -- a declaration is that of its property
-declared : (values : List Value) (id : PropId) (row : model.Row) (value : Value) → row ≡ row_of id → slice_get values (property_of id) ≡ Some value → declaration_text row value ≡ property_text values (property_of id)
+declared : (values : List Value) (id : PropId) (row : model.PropertyRow) (value : Value) → row ≡ row_of id → slice_get values (property_of id) ≡ Some value → declaration_text row value ≡ property_text values (property_of id)
 declared values id row value is here =
     ap (λ r. declaration_text r value) is
     ∙ ap (declaration_text (row_of id)) (sym (get_or_from_slice_get values (property_of id) value (keyword []) here))
 
 -- the next one is printed after the separator
-pub printed_next : (values : List Value) (ids : List PropId) (text led new separator next : Characters) (i : ℕ) (d : PropId) (row : model.Row) (value : Value) → i < length ids → row ≡ row_of (get_or ids i d) → slice_get values (property_of (get_or ids i d)) ≡ Some value → led ≡ text ++ separator → new ≡ led ++ declaration_text row value → next ≡ between → IsPrinted values ids text separator i → IsPrinted values ids new next (i + 1)
+pub printed_next : (values : List Value) (ids : List PropId) (text led new separator next : Characters) (i : ℕ) (d : PropId) (row : model.PropertyRow) (value : Value) → i < length ids → row ≡ row_of (get_or ids i d) → slice_get values (property_of (get_or ids i d)) ≡ Some value → led ≡ text ++ separator → new ≡ led ++ declaration_text row value → next ≡ between → IsPrinted values ids text separator i → IsPrinted values ids new next (i + 1)
 printed_next values ids text led new separator next i d row value lt row_is here after_text after_led is old =
     let id : PropId = get_or ids i d in
     let one : Characters = property_text values (property_of id) in

@@ -1,9 +1,9 @@
--- Columns of words and numbers are those of values.
+-- ValueColumns of words and numbers are those of values.
 use Rattle.std.specs.Prelude.{◌≡◌, ℕ, ℤ, pos, List, [], ◌∷◌, ◌++◌, map, length, Option, Some, None, slice_get, slice_set}
 use Rattle.std.specs.List.{AllByRecursion}
 use Rattle.value_model.specs.Value as model
 use Rattle.value_model.specs.Table.{table}
-use Rattle.property_table.specs.Columns.{HasByteParts, value_amount, value_word}
+use Rattle.property_table.specs.ValueParts.{HasByteParts, value_amount, value_word}
 use Rattle.property_table.specs.declared.keyword.Keyword.TheVariants as keyword
 use Rattle.property_table.specs.declared.value.Value.{Value}
 use Rattle.property_table.specs.declared.value.Value.TheVariants.{Keyword, Color, Pixels, Number}

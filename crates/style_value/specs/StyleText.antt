@@ -3,7 +3,7 @@ use Rattle.std.specs.Prelude.{ℕ, ◌+◌, List, [], ◌∷◌, if◌then◌els
 use Rattle.base_model.specs.Text.{Characters}
 use Rattle.custom_model.specs.Printed.{joined}
 use Rattle.value_model.specs.Value.{Value, keyword, same_value}
-use Rattle.value_model.specs.Table.{Row, color_row, table}
+use Rattle.value_model.specs.Table.{PropertyRow, color_row, table}
 use Rattle.value_model.specs.Style.{Style}
 use Rattle.value_model.specs.Printed.{declaration_text, declaration_texts}
 
@@ -16,7 +16,7 @@ abbrev pub longhands_text : Style → Characters
 longhands_text style = values_text style.values
 
 -- the same properties by their rows, of which the first has this index
-abbrev pub printed_from : ℕ → List Row → List Value → List ℕ
+abbrev pub printed_from : ℕ → List PropertyRow → List Value → List ℕ
 printed_from property [] values = []
 printed_from property (row ∷ rows) [] = []
 printed_from property (row ∷ rows) (value ∷ values) =

@@ -2,13 +2,13 @@
 
 ghost use Rattle.std.specs.Prelude.{◌≡◌, codes, not};
 ghost use Rattle.value_model.specs.Style.{adjusted, blockified, floats, is_absolute, is_keyword, is_no_border, is_positioned, with_border, with_display, with_float};
-ghost use Rattle.property_table.specs.View.{property_of, value_of};
+ghost use Rattle.property_table.specs.View.{property_of, value_seen};
 
-use crate::columns::Columns;
+use crate::value_columns::ValueColumns;
 use property_table::{Keyword, PropId, Value};
 use stylo_base::Fixed;
 
-impl Columns {
+impl ValueColumns {
     /// Adjusts the values: `float`, then `display`, then the widths of borders.
     pub fn adjust(&mut self, is_root: bool)
         ensures { self.new ≡ adjusted is_root self.old }
@@ -67,21 +67,21 @@ impl Columns {
 
 /// Whether a value of `position` takes the box out of the flow (css-position-3, section 2).
 fn is_absolute(position: Value) -> bool
-    ensures { result ≡ is_absolute (value_of position) }
+    ensures { result ≡ is_absolute (value_seen position) }
 {
     matches!(position, Value::Keyword(Keyword::Absolute | Keyword::Fixed))
 }
 
 /// Whether a value of `float` is other than `none`.
 fn is_float(float: Value) -> bool
-    ensures { result ≡ not (is_keyword (codes "none") (value_of float)) }
+    ensures { result ≡ not (is_keyword (codes "none") (value_seen float)) }
 {
     !matches!(float, Value::Keyword(Keyword::None))
 }
 
 /// Whether a border of this style is none.
 fn is_no_border(style: Value) -> bool
-    ensures { result ≡ is_no_border (value_of style) }
+    ensures { result ≡ is_no_border (value_seen style) }
 {
     matches!(style, Value::Keyword(Keyword::None | Keyword::Hidden))
 }
@@ -89,7 +89,7 @@ fn is_no_border(style: Value) -> bool
 /// The value of `display` with a block on the outside: what is inside stays (css-display-3,
 /// section 2.7).
 fn blockified(display: Value) -> Value
-    ensures { value_of result ≡ blockified (value_of display) }
+    ensures { value_seen result ≡ blockified (value_seen display) }
 {
     match display {
         Value::Keyword(Keyword::Inline | Keyword::InlineBlock) => Value::Keyword(Keyword::Block),

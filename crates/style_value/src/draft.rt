@@ -3,10 +3,10 @@
 ghost use Rattle.std.specs.Prelude.{◌≡◌, Some, IfOk, IsTrue, length, slice_get, slice_set};
 ghost use Rattle.value_model.specs.Table.{table};
 ghost use Rattle.value_model.specs.Style.{adjusted, inherited_part, initial_style};
-ghost use Rattle.property_table.specs.View.{property_of, value_of};
+ghost use Rattle.property_table.specs.View.{property_of, value_seen};
 
-use crate::columns::Columns;
-use crate::text::values_text;
+use crate::style_text::values_text;
+use crate::value_columns::ValueColumns;
 use crate::{Custom, Style};
 use property_table::{PropId, Value};
 use std::alloc::Global;
@@ -18,7 +18,7 @@ use stylo_base::NoMemory;
 /// style.
 #[derive(Debug, Drop)]
 pub struct StyleDraft {
-    columns: Columns,
+    columns: ValueColumns,
     custom: Custom,
 }
 
@@ -38,7 +38,7 @@ impl StyleDraft {
         ensures { result ≡ initial_style }
     {
         StyleDraft {
-            columns: Columns::initial(),
+            columns: ValueColumns::initial(),
             custom: Custom::none(),
         }
     }
@@ -51,14 +51,14 @@ impl StyleDraft {
     {
         let custom = parent.custom().share()?;
         Ok(StyleDraft {
-            columns: Columns::inheriting(parent.columns()),
+            columns: ValueColumns::inheriting(parent.columns()),
             custom,
         })
     }
 
     /// The value of a property.
     pub fn value(&self, id: PropId) -> Value
-        ensures value { slice_get self.now.values (property_of id) ≡ Some (value_of result) }
+        ensures value { slice_get self.now.values (property_of id) ≡ Some (value_seen result) }
         ensures all { length self.now.values ≡ length table }
     {
         self.columns.value(id)
@@ -66,7 +66,7 @@ impl StyleDraft {
 
     /// Gives a property a value.
     pub fn set(&mut self, id: PropId, value: Value)
-        ensures { let values = slice_set self.old.values (property_of id) (value_of value) in
+        ensures { let values = slice_set self.old.values (property_of id) (value_seen value) in
             self.new ≡ record self.old { values = values } }
     {
         self.columns.set(id, value);

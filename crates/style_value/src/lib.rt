@@ -3,12 +3,12 @@
 #![tactic(auto)]
 
 mod adjust;
-mod columns;
 mod custom;
 mod draft;
 mod style;
+mod style_text;
 mod table;
-mod text;
+mod value_columns;
 
 pub use custom::Custom;
 pub use draft::StyleDraft;

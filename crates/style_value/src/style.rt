@@ -5,10 +5,10 @@ ghost use Rattle.std.specs.Prelude.{◌≡◌, ◌↔◌, Some, IfOk, IsTrue, le
 ghost use Rattle.std.specs.Str.{chars};
 ghost use Rattle.value_model.specs.Table.{table};
 ghost use Rattle.value_model.specs.Style.{font_size_of, font_weight_of, inherited_part, initial_style};
-ghost use Rattle.property_table.specs.View.{property_of, value_of};
+ghost use Rattle.property_table.specs.View.{property_of, value_seen};
 ghost use Rattle.style_value.specs.StyleText.{longhands_text, values_text};
 
-use crate::columns::Columns;
+use crate::value_columns::ValueColumns;
 use crate::{Custom, StyleDraft};
 use property_table::{PropId, Value};
 use std::alloc::Global;
@@ -19,7 +19,7 @@ use stylo_base::{Fixed, NoMemory, Text};
 /// printed. It does not change: a `StyleDraft` does, and is finished as a style.
 #[derive(Debug, Drop)]
 pub struct Style {
-    columns: Columns,
+    columns: ValueColumns,
     custom: Custom,
     body: Text,
 }
@@ -48,7 +48,7 @@ impl Style {
 
     /// The style with these values, which are printed as `body`.
     #[inline]
-    pub(crate) fn of_parts(columns: Columns, custom: Custom, body: Text) -> Style
+    pub(crate) fn of_parts(columns: ValueColumns, custom: Custom, body: Text) -> Style
         requires { body ≡ values_text columns }
         ensures { result ≡ record { values = columns; custom = custom } }
     {
@@ -69,14 +69,14 @@ impl Style {
 
     /// The value of a property.
     pub fn value(&self, id: PropId) -> Value
-        ensures value { slice_get self.now.values (property_of id) ≡ Some (value_of result) }
+        ensures value { slice_get self.now.values (property_of id) ≡ Some (value_seen result) }
         ensures all { length self.now.values ≡ length table }
     {
         self.columns.value(id)
     }
 
     /// The values.
-    pub(crate) fn columns(&self) -> &Columns
+    pub(crate) fn columns(&self) -> &ValueColumns
         ensures { result.now ≡ self.now.values }
     {
         &self.columns

@@ -5,7 +5,7 @@ use Rattle.std.specs.Str.{IsAscii}
 use Rattle.std.proofs.lemmas.Fmt.{decimal_digit, decimal_step, IsAscii-decimal}
 use Rattle.std.proofs.lemmas.Str.{IsAscii-append}
 use Rattle.std.proofs.lemmas.Str.Ascii.{IsAscii-nil, IsAscii-cons}
-use Rattle.base_model.specs.Thousandths.{pointed, put_digit, spelled, without_zeros, written}
+use Rattle.base_model.specs.Thousandths.{pointed, put_digit, spelled, without_zeros, printed_number}
 
 pub length_one : (n : ℕ) → n < 10 → length (decimal n) ≡ 1
 length_one n h = ap length (decimal_digit n h)
@@ -44,9 +44,9 @@ spelled-IsAscii n h =
     IsAscii-append (decimal (n / 1000)) (pointed (without_zeros digits)) (IsAscii-decimal (n / 1000) (omega (arith, h))) (pointed-IsAscii (without_zeros digits) (without_zeros-AreDigits digits (omega arith, (omega arith, (omega arith, tt)))))
 
 -- a number as it is printed is in ASCII
-pub written-IsAscii : (z : ℤ) → unsigned_abs z < 2 ^ 64 → IsAscii (written z)
-written-IsAscii (pos n) h = spelled-IsAscii n h
-written-IsAscii (negsuc n) h = IsAscii-cons 45 (spelled (suc n)) (omega arith) (spelled-IsAscii (suc n) h)
+pub printed_number-IsAscii : (z : ℤ) → unsigned_abs z < 2 ^ 64 → IsAscii (printed_number z)
+printed_number-IsAscii (pos n) h = spelled-IsAscii n h
+printed_number-IsAscii (negsuc n) h = IsAscii-cons 45 (spelled (suc n)) (omega arith) (spelled-IsAscii (suc n) h)
 
 -- the rest of a buffer, taken whole
 pub rest_is : (buffer text : List ℕ) (start : ℕ) → length buffer ≡ 32 → drop start buffer ≡ text → take (32 - start) (drop start buffer) ≡ text

@@ -1,7 +1,7 @@
 //! Fixed-point numbers: whole thousandths within a range.
 
 ghost use Rattle.std.specs.Prelude.{◌≡◌, ◌^◌, ◌<◌, ◌+ℤ◌, ◌*ℤ◌, ◌<ℤ◌, pos, unsigned_abs, IfOk};
-ghost use Rattle.base_model.specs.Thousandths.{IsInRange, clamped, rounded, written};
+ghost use Rattle.base_model.specs.Thousandths.{IsInRange, clamped, rounded, printed_number};
 
 use crate::number_text::NUMBER_ROOM;
 use crate::{NoMemory, Text};
@@ -77,7 +77,7 @@ impl Fixed {
     /// The number in decimal digits: the whole part and, where needed, a point and up to three
     /// digits.
     pub fn write(self, alloc: Global) -> Result<Text, NoMemory>
-        ensures { IfOk result (λ t. t ≡ written self) }
+        ensures { IfOk result (λ t. t ≡ printed_number self) }
     {
         let mut text = Text::new(alloc);
         text.push_fixed(self, [b' '; NUMBER_ROOM], NUMBER_ROOM)?;
@@ -85,7 +85,7 @@ impl Fixed {
     }
 }
 
-// `z` parts of `d` as a whole number, halves away from 0.
+/// `z` parts of `d` as a whole number, halves away from 0.
 fn divide(z: i128, d: u64) -> i128
     requires divisor { 0 < d }
     requires fits { unsigned_abs z < 2 ^ 120 }

@@ -4,7 +4,7 @@ ghost use Rattle.std.specs.Prelude.{◌≡◌, encode_utf8_all};
 ghost use Rattle.std.specs.Str.{chars};
 ghost use Rattle.stylo_base.specs.NameKey.{key_of, with_byte};
 
-// The key once a byte is read.
+/// The key once a byte is read.
 fn with_byte(key: u64, byte: u8) -> u64
     ensures { result ≡ with_byte key byte }
 {

@@ -1,7 +1,7 @@
 //! Numbers in decimal digits.
 
 ghost use Rattle.std.specs.Prelude.{◌≡◌, ◌+◌, ◌<◌, ◌≤◌, ◌++◌, ◌∷◌, [], ◌/◌, ◌%◌, IsAscii, OnErr, OnOk, decimal, drop, length};
-ghost use Rattle.base_model.specs.Thousandths.{pointed, without_zeros, written};
+ghost use Rattle.base_model.specs.Thousandths.{pointed, without_zeros, printed_number};
 
 use crate::{Fixed, NoMemory, Text};
 
@@ -20,7 +20,7 @@ impl Text {
     ) -> Result<(), NoMemory>
         requires within { (28 ≤ unit) × (unit ≤ 32) }
         requires ascii { IsAscii (drop unit buffer) }
-        ensures ok { OnOk result (self.new ≡ self.old ++ (written number ++ drop unit buffer)) }
+        ensures ok { OnOk result (self.new ≡ self.old ++ (printed_number number ++ drop unit buffer)) }
         ensures err { OnErr result (self.new ≡ self.old) }
     {
         let start = write_fixed(number, &mut buffer, unit);
@@ -36,8 +36,8 @@ impl Text {
 fn write_fixed(number: Fixed, buffer: &mut [u8; NUMBER_ROOM], end: usize) -> usize
     requires { (28 ≤ end) × (end ≤ 32) }
     ensures within { result ≤ 32 }
-    ensures written { drop result buffer.new ≡ written number ++ drop end buffer.old }
-    ensures ascii { IsAscii (written number) }
+    ensures written { drop result buffer.new ≡ printed_number number ++ drop end buffer.old }
+    ensures ascii { IsAscii (printed_number number) }
 {
     let thousandths = number.thousandths();
     let size = thousandths.unsigned_abs();

@@ -5,12 +5,12 @@ use Rattle.std.proofs.lemmas.Bool.{cond_both, cond-true, cond-false, and_left, n
 use Rattle.std.proofs.lemmas.Bool.Decides.{nat_tests}
 use Rattle.base_model.specs.Text.{Characters}
 use Rattle.syntax_model.specs.Letters.{is_hex_digit, is_name_char, is_quote}
-use Rattle.syntax_model.specs.Units.{Unit, ends_url, name_unit, string_unit, url_unit}
+use Rattle.syntax_model.specs.TextUnits.{TextUnit, ends_url, name_unit, string_unit, url_unit}
 use Rattle.syntax_model.specs.Written.{hex_escape, is_control, name_char_text, string_char_text, url_char_text}
 use Rattle.syntax_model.proofs.EscapeLemmas.{digits_some, escape_reads, escape_starts, goes_on, plain_escape, string_escape_is}
 
 -- the unit that a text of a character is to be
-abbrev pub AsOne : (Characters → Unit) → Characters → ℕ → Type 0
+abbrev pub AsOne : (Characters → TextUnit) → Characters → ℕ → Type 0
 AsOne unit text c = (more : Characters) → unit (text ++ more) ≡ record { taken = length text; said = Some c }
 
 -- a control is a character of ASCII, and not U+0000
@@ -21,7 +21,7 @@ control_small c h = (grind (arith, nat_tests), grind (arith, nat_tests))
 no_hex_digit : (c : ℕ) → is_name_char c ≡ false → is_hex_digit c ≡ false
 no_hex_digit c h = grind (arith, nat_tests)
 
-no_line_feed : (c : ℕ) → is_control c ≡ false → eqb c 10 ≡ false
+pub no_line_feed : (c : ℕ) → is_control c ≡ false → eqb c 10 ≡ false
 no_line_feed c h = grind (arith, nat_tests)
 
 -- an escape, where a name may go on

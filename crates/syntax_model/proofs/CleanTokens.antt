@@ -7,14 +7,14 @@ use Rattle.std.proofs.lemmas.List.Folds.{list_all-append}
 use Rattle.base_model.specs.Text.{Characters, is_word}
 use Rattle.syntax_model.specs.Letters.{begins, is_blank, is_name_char}
 use Rattle.syntax_model.specs.Preprocess.{is_preprocessed, preprocessed, preprocessed_after}
-use Rattle.syntax_model.specs.Units.{Run, Unit, character_of, ends_url, escape, hex_len, hex_number, len_of, name_unit, run, starts_escape, string_escape, string_unit, url_unit}
+use Rattle.syntax_model.specs.TextUnits.{Run, TextUnit, character_of, ends_url, escape, hex_len, hex_number, len_of, name_unit, run, starts_escape, string_escape, string_unit, url_unit}
 use Rattle.syntax_model.specs.Numbers.{number_len}
-use Rattle.syntax_model.specs.Token.{Kind, said, close_curly, close_round, close_square, colon, comma, delim, open_curly, open_round, open_square, semicolon}
-use Rattle.syntax_model.specs.Pieces.{Piece, ident_piece, is_line_feed, mark_kind, name_in, name_len, number_piece, plain, quote_follows, row_at, row_len, row_tokens, starts_ident, string_piece, token_of, url_piece}
+use Rattle.syntax_model.specs.Token.{TokenKind, said, close_curly, close_round, close_square, colon, comma, delim, open_curly, open_round, open_square, semicolon}
+use Rattle.syntax_model.specs.Pieces.{Piece, ident_piece, is_line_feed, mark_kind, name_in, name_len, number_piece, plain, quote_follows, production_at, production_len, production_tokens, starts_ident, string_piece, token_of, url_piece}
 use Rattle.syntax_model.specs.TokensIn.{tokens_from, tokens_in}
 use Rattle.syntax_model.specs.Written.{is_writable, written}
 use Rattle.syntax_model.proofs.CleanLemmas.{is_clean, no_null}
-use Rattle.syntax_model.proofs.PieceLemmas.{row_any, url_any}
+use Rattle.syntax_model.proofs.PieceLemmas.{production_any, url_any}
 use Rattle.syntax_model.proofs.PreprocessLemmas.{is_clean_token, preprocessed_reads_back}
 
 -- what is left of such a text is one
@@ -26,7 +26,7 @@ not_null : (c : ℕ) → is_clean c ≡ true → not (eqb c 0) ≡ true
 not_null c h = not_from_false _ (or_parts (eqb c 12) _ (or_parts (eqb c 13) _ (not-true _ h)).1).1
 
 -- a unit says no U+0000
-abbrev SaysNoNull : Unit → Type 0
+abbrev SaysNoNull : TextUnit → Type 0
 SaysNoNull unit = no_null (option_to_list unit.said) ≡ true
 
 character_not_null : (n : ℕ) → not (eqb (character_of n) 0) ≡ true
@@ -68,7 +68,7 @@ url_not_null (c ∷ cs) h =
     (λ _. cond_both (ends_url c) _ _ SaysNoNull (λ _. refl) (λ _. own_not_null c cs h))
 
 -- and so does a run of them
-run_not_null : (unit : Characters → Unit) → ((text : Characters) → is_preprocessed text ≡ true → SaysNoNull (unit text)) → (n : ℕ) (text : Characters) → is_preprocessed text ≡ true → no_null (run unit n text).said ≡ true
+run_not_null : (unit : Characters → TextUnit) → ((text : Characters) → is_preprocessed text ≡ true → SaysNoNull (unit text)) → (n : ℕ) (text : Characters) → is_preprocessed text ≡ true → no_null (run unit n text).said ≡ true
 run_not_null unit each zero text h = refl
 run_not_null unit each (suc n) text h =
     let taken : ℕ = (unit text).taken in
@@ -110,7 +110,7 @@ ident_clean text h =
 
 mark_clean : (c : ℕ) → is_clean c ≡ true → IsCleanPiece (plain (mark_kind c) 1)
 mark_clean c h =
-    let P : Kind → Type 0 = λ k. IsCleanPiece (plain k 1) in
+    let P : TokenKind → Type 0 = λ k. IsCleanPiece (plain k 1) in
     cond_both (eqb c 44) comma _ P (λ _. refl) (λ _.
     cond_both (eqb c 58) colon _ P (λ _. refl) (λ _.
     cond_both (eqb c 59) semicolon _ P (λ _. refl) (λ _.
@@ -121,11 +121,11 @@ mark_clean c h =
     cond_both (eqb c 123) open_curly _ P (λ _. refl) (λ _.
     cond_both (eqb c 125) close_curly (delim c) P (λ _. refl) (λ _. h)))))))))
 
-row_clean : (start c : ℕ) (cs : Characters) → is_preprocessed (c ∷ cs) ≡ true → list_all is_clean_token (row_tokens (row_at (c ∷ cs)) start c cs) ≡ true
-row_clean start c cs h =
+production_clean : (start c : ℕ) (cs : Characters) → is_preprocessed (c ∷ cs) ≡ true → list_all is_clean_token (production_tokens (production_at (c ∷ cs)) start c cs) ≡ true
+production_clean start c cs h =
     let rest : is_preprocessed cs ≡ true = rest_clean c cs h in
     let named : (no_null (name_in cs) && true) ≡ true = and_from _ _ (name_in_clean cs rest) refl in
-    row_any (λ row. list_all is_clean_token (row_tokens row start c cs) ≡ true) c cs
+    production_any (λ production. list_all is_clean_token (production_tokens production start c cs) ≡ true) c cs
     (λ _. refl)
     (λ _. refl)
     (λ _. and_from _ _ (string_clean c cs rest) refl)
@@ -141,9 +141,9 @@ tokens_clean : (n start : ℕ) (text : Characters) → is_preprocessed text ≡ 
 tokens_clean zero start text h = refl
 tokens_clean (suc n) start [] h = refl
 tokens_clean (suc n) start (c ∷ cs) h =
-    let taken : ℕ = row_len (row_at (c ∷ cs)) c cs in
-    list_all-append is_clean_token (row_tokens (row_at (c ∷ cs)) start c cs) (tokens_from n (start + taken) (drop taken (c ∷ cs)))
-    ∙ and_from _ _ (row_clean start c cs h) (tokens_clean n (start + taken) (drop taken (c ∷ cs)) (drop_clean taken (c ∷ cs) h))
+    let taken : ℕ = production_len (production_at (c ∷ cs)) c cs in
+    list_all-append is_clean_token (production_tokens (production_at (c ∷ cs)) start c cs) (tokens_from n (start + taken) (drop taken (c ∷ cs)))
+    ∙ and_from _ _ (production_clean start c cs h) (tokens_clean n (start + taken) (drop taken (c ∷ cs)) (drop_clean taken (c ∷ cs) h))
 
 -- The tokens of a preprocessed text hold no U+0000 and are no delims that preprocessing would change.
 pub clean_tokens : (text : Characters) → is_preprocessed text ≡ true → list_all is_clean_token (tokens_in text) ≡ true

@@ -3,7 +3,7 @@ use Rattle.std.proofs.Common.{◌≡◌, ℕ, zero, suc, ◌+◌, ◌≤◌, tru
 use Rattle.std.specs.Option.{option_to_list}
 use Rattle.std.proofs.lemmas.Bool.{cond_both, cond-true, cond-false, or_parts}
 use Rattle.syntax_model.specs.Token.{Token}
-use Rattle.syntax_model.specs.Kinds.{is_at_keyword, is_between, is_semicolon, is_white}
+use Rattle.syntax_model.specs.TokenKinds.{is_at_keyword, is_between, is_semicolon, is_white}
 use Rattle.syntax_model.specs.Brackets.{Bracket, closed, open_past}
 use Rattle.syntax_model.specs.Outside.{from_first, length_before, up_to}
 use Rattle.syntax_model.specs.Rules.{Declaration}

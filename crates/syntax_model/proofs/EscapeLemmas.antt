@@ -5,11 +5,11 @@ use Rattle.std.proofs.lemmas.Bool.{cond_both, cond-true, cond-false, eqb-true, a
 use Rattle.std.proofs.lemmas.Bool.Decides.{nat_tests}
 use Rattle.base_model.specs.Text.{Characters}
 use Rattle.syntax_model.specs.Letters.{begins, is_blank, is_hex_digit}
-use Rattle.syntax_model.specs.Units.{Unit, character_of, escape, hex_len, hex_number, one_if, starts_escape, string_escape}
+use Rattle.syntax_model.specs.TextUnits.{TextUnit, character_of, escape, hex_len, hex_number, one_if, starts_escape, string_escape}
 use Rattle.syntax_model.specs.Written.{hex_digit, hex_escape}
 
 -- an escape by the number of its digits
-escape_by : ℕ → Characters → ℕ → Unit
+escape_by : ℕ → Characters → ℕ → TextUnit
 escape_by c cs digits =
     cond (eqb digits 0) (record { taken = 2; said = Some c }) (record { taken = 1 + digits + one_if is_blank (drop digits (c ∷ cs)); said = Some (character_of (hex_number 0 (take digits (c ∷ cs)))) })
 

@@ -2,7 +2,7 @@
 use Rattle.std.proofs.Common.{◌≡◌, ℕ, true, false, List, [], ◌∷◌, ◌++◌, length, map, replicate, refl}
 use Rattle.std.specs.Prelude.{codes, if◌then◌else◌}
 use Rattle.base_model.specs.Text.{Characters}
-use Rattle.syntax_model.specs.Kinds.{is_comma, trimmed}
+use Rattle.syntax_model.specs.TokenKinds.{is_comma, trimmed}
 use Rattle.syntax_model.specs.Outside.{parts_between}
 use Rattle.syntax_model.specs.Preprocess.{preprocessed}
 use Rattle.syntax_model.specs.TokensIn.{tokens_in}

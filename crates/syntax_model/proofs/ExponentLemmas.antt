@@ -12,8 +12,8 @@ use Rattle.syntax_model.specs.Pieces.{starts_ident}
 use Rattle.syntax_model.specs.Written.{ident_text, is_control, looks_like_exponent, name_text, unit_text}
 use Rattle.syntax_model.proofs.IdentLemmas.{begins_char, begins_name, unit_text_starts}
 use Rattle.syntax_model.proofs.NumberLemmas.{EndsNumber}
-use Rattle.syntax_model.proofs.RowLemmas.{ident_no}
-use Rattle.syntax_model.proofs.StopLemmas.{EndsToken}
+use Rattle.syntax_model.proofs.ProductionLemmas.{ident_no}
+use Rattle.syntax_model.proofs.TokenEndLemmas.{EndsToken}
 
 -- no `e` at the beginning
 no_e : (text : Characters) → begins is_e text ≡ false → exponent_len text ≡ 0

@@ -8,9 +8,9 @@ use Rattle.std.proofs.lemmas.Bool.{cond_both, cond-true, cond-false, eqb-true}
 use Rattle.std.proofs.lemmas.List.{drop_at, drop-drop, length-take-le}
 use Rattle.base_model.specs.Text.{Characters}
 use Rattle.syntax_model.specs.Letters.{begins}
-use Rattle.syntax_model.specs.Units.{Run, Unit, len_of, one_if, run_of, said_of, then_run}
+use Rattle.syntax_model.specs.TextUnits.{Run, TextUnit, len_of, one_if, run_of, said_of, then_run}
 use Rattle.syntax_model.specs.Reading.{Either, Form, IsNothing, IsOne, IsOptional, IsRun, IsSpan, IsText, IsUnits, Then, run_end, run_unit}
-use Rattle.syntax_model.proofs.UnitLemmas.{Fits, prefix_inside, run_inside, run_of_more, run_of_none, some_from}
+use Rattle.syntax_model.proofs.TextUnitLemmas.{Fits, prefix_inside, run_inside, run_of_more, run_of_none, some_from}
 
 -- so many characters of the text, and no other number, are of the form
 pub record Takes (form : Form) (text : Characters) (n : ℕ) : Type 0 where
@@ -126,13 +126,13 @@ pub takes_optional : (p : ℕ → Bool) (text : Characters) → Takes (IsOptiona
 takes_optional p text = takes_either (begins p) (IsOne p) IsNothing text 1 0 (λ e. takes_one p text e) (λ e. takes_nothing text)
 
 -- a unit in a text, and a run after it
-run_before : (unit : Characters → Unit) (text first more rest said : Characters) → text ≡ first ++ (more ++ rest) → 0 < length first → (unit text).taken ≡ length first → IsRun unit said more rest → IsRun unit (option_to_list (unit text).said ++ said) (first ++ more) rest
+run_before : (unit : Characters → TextUnit) (text first more rest said : Characters) → text ≡ first ++ (more ++ rest) → 0 < length first → (unit text).taken ≡ length first → IsRun unit said more rest → IsRun unit (option_to_list (unit text).said ++ said) (first ++ more) rest
 run_before unit text first more rest said is some size run =
     let sized : (unit (first ++ (more ++ rest))).taken ≡ length first = rw (← is) size in
     rw is (run_unit first more rest said (λ e. absurd (omega (arith, some, ap length e))) sized run)
 
 -- the units that a text begins with are a run
-run_fits : (unit : Characters → Unit) → Fits unit → (n : ℕ) (text : Characters) → length text ≤ n → let run = run_of unit text in IsRun unit run.said (take run.taken text) (drop run.taken text)
+run_fits : (unit : Characters → TextUnit) → Fits unit → (n : ℕ) (text : Characters) → length text ≤ n → let run = run_of unit text in IsRun unit run.said (take run.taken text) (drop run.taken text)
 run_fits unit fits zero text h =
     let none : (unit text).taken ≡ 0 = omega (arith, h, fits text) in
     rw (run_of_none unit text none) (run_end text none)
@@ -155,7 +155,7 @@ run_fits unit fits (suc n) text h = by (λ left. run_fits unit fits n (drop (uni
         rw (run_of_more unit fits text some, take-add size more.taken text, ← drop-drop more.taken size text) (run_before unit text (take size text) (take more.taken past) (drop more.taken past) more.said whole (rw first some) (sym first) (later (omega (arith, some, fits text, length-drop size text))))
 
 -- a run is all the units that the text begins with
-pub run_only : {unit : Characters → Unit} {said piece rest : Characters} → Fits unit → IsRun unit said piece rest → run_of unit (piece ++ rest) ≡ record { taken = length piece; said = said }
+pub run_only : {unit : Characters → TextUnit} {said piece rest : Characters} → Fits unit → IsRun unit said piece rest → run_of unit (piece ++ rest) ≡ record { taken = length piece; said = said }
 run_only {unit = unit} fits (run_end rest none) = run_of_none unit rest none
 run_only {unit = unit} fits (run_unit first more rest said some size run) =
     let text : Characters = first ++ (more ++ rest) in
@@ -166,16 +166,16 @@ run_only {unit = unit} fits (run_unit first more rest said some size run) =
     rw (append_assoc first more rest, now, size, length-append first more) refl
 
 -- and says what they say
-pub run_says : (unit : Characters → Unit) → Fits unit → (said piece rest text : Characters) → IsRun unit said piece rest → text ≡ piece ++ rest → said ≡ said_of unit text
+pub run_says : (unit : Characters → TextUnit) → Fits unit → (said piece rest text : Characters) → IsRun unit said piece rest → text ≡ piece ++ rest → said ≡ said_of unit text
 run_says unit fits said piece rest text run e = sym (ap (said_of unit) e ∙ ap (λ (r : Run). r.said) (run_only fits run))
 
-pub takes_run : (unit : Characters → Unit) → Fits unit → (text : Characters) → Takes (IsRun unit (said_of unit text)) text (len_of unit text)
+pub takes_run : (unit : Characters → TextUnit) → Fits unit → (text : Characters) → Takes (IsRun unit (said_of unit text)) text (len_of unit text)
 takes_run unit fits text = record {
   fits = run_fits unit fits (length text) text (omega arith);
   inside = run_inside unit fits (length text) text;
   only = λ piece rest run e. ap (len_of unit) e ∙ ap (λ (r : Run). r.taken) (run_only fits run);
 }
 
-pub takes_units : (unit : Characters → Unit) → Fits unit → (text : Characters) → Takes (IsUnits unit) text (len_of unit text)
+pub takes_units : (unit : Characters → TextUnit) → Fits unit → (text : Characters) → Takes (IsUnits unit) text (len_of unit text)
 takes_units unit fits text =
     takes_some (IsRun unit) (said_of unit text) text (len_of unit text) (takes_run unit fits text) (λ said piece rest run e. run_says unit fits said piece rest text run e)

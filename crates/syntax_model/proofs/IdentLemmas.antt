@@ -6,9 +6,10 @@ use Rattle.std.proofs.lemmas.Bool.Decides.{nat_tests}
 use Rattle.base_model.specs.Lists.{is_nil}
 use Rattle.base_model.specs.Text.{Characters}
 use Rattle.syntax_model.specs.Letters.{begins, is_digit, is_name_char, is_name_start}
-use Rattle.syntax_model.specs.Units.{starts_escape}
+use Rattle.syntax_model.specs.TextUnits.{starts_escape}
 use Rattle.syntax_model.specs.Pieces.{starts_cdc, starts_ident, starts_name}
 use Rattle.syntax_model.specs.Written.{after_hyphen, hex_escape, ident_text, is_control, looks_like_exponent, name_char_text, name_text, unit_text}
+use Rattle.syntax_model.proofs.CharacterLemmas.{no_line_feed}
 use Rattle.syntax_model.proofs.EscapeLemmas.{escape_starts}
 
 -- a name's character is written as itself or after a `\`
@@ -28,9 +29,6 @@ after_dash text = begins (λ d. is_name_start d || eqb d 45) text || starts_esca
 
 start_or_dash : (c : ℕ) → is_name_char c ≡ true → is_digit c ≡ false → (is_name_start c || eqb c 45) ≡ true
 start_or_dash c h k = grind (arith, nat_tests)
-
-no_line_feed : (c : ℕ) → is_control c ≡ false → eqb c 10 ≡ false
-no_line_feed c h = grind (arith, nat_tests)
 
 char_after_dash : (c : ℕ) (more : Characters) → is_digit c ≡ false → after_dash (name_char_text c ++ more) ≡ true
 unfolding after_dash

@@ -1,4 +1,4 @@
-pub mod UnitLemmas
+pub mod TextUnitLemmas
 pub mod PieceLemmas
 pub mod FormLemmas
 pub mod PieceForms
@@ -9,8 +9,8 @@ pub mod CharacterLemmas
 pub mod NameLemmas
 pub mod IdentLemmas
 pub mod NumberLemmas
-pub mod RowLemmas
-pub mod StopLemmas
+pub mod ProductionLemmas
+pub mod TokenEndLemmas
 pub mod ExponentLemmas
 pub mod TokenReads
 pub mod NamedReads

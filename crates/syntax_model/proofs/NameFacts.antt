@@ -6,21 +6,21 @@ use Rattle.std.proofs.lemmas.Bool.Decides.{nat_tests}
 use Rattle.base_model.specs.Lists.{is_nil}
 use Rattle.base_model.specs.Text.{Characters}
 use Rattle.syntax_model.specs.Letters.{begins, is_name_char, is_name_start}
-use Rattle.syntax_model.specs.Units.{Run, Unit, escape, hex_len, itself, name_unit, run_of, starts_escape, then_run}
+use Rattle.syntax_model.specs.TextUnits.{Run, TextUnit, escape, hex_len, itself, name_unit, run_of, starts_escape, then_run}
 use Rattle.syntax_model.specs.Pieces.{name_in, starts_ident, starts_name}
 use Rattle.syntax_model.specs.Written.{name_text}
-use Rattle.syntax_model.proofs.UnitLemmas.{name_fits, run_of_more, run_of_none}
+use Rattle.syntax_model.proofs.TextUnitLemmas.{name_fits, run_of_more, run_of_none}
 use Rattle.syntax_model.proofs.PieceLemmas.{ident_starts, unit_some}
 
 -- an escape says a character
 escape_says : (cs : Characters) → is_nil (option_to_list (escape cs).said) ≡ false
 escape_says [] = refl
-escape_says (c ∷ cs) = cond_both (eqb (hex_len (c ∷ cs)) 0) _ _ (λ (u : Unit). is_nil (option_to_list u.said) ≡ false) (λ _. refl) (λ _. refl)
+escape_says (c ∷ cs) = cond_both (eqb (hex_len (c ∷ cs)) 0) _ _ (λ (u : TextUnit). is_nil (option_to_list u.said) ≡ false) (λ _. refl) (λ _. refl)
 
 unit_says : (text : Characters) → starts_name text ≡ true → is_nil (option_to_list (name_unit text).said) ≡ false
 unit_says [] h = absurd (false≢true h)
 unit_says (c ∷ cs) h =
-    let P : Unit → Type 0 = λ u. is_nil (option_to_list u.said) ≡ false in
+    let P : TextUnit → Type 0 = λ u. is_nil (option_to_list u.said) ≡ false in
     cond_both (is_name_char c) _ _ P (λ _. refl)
     (λ e. cond_both (starts_escape (c ∷ cs)) _ _ P (λ _. escape_says cs)
     (λ k. absurd (false≢true (sym (or_from _ _ e k) ∙ h))))
@@ -43,12 +43,12 @@ name_in_char : (c : ℕ) (cs : Characters) → is_name_char c ≡ true → name_
 name_in_char c cs h =
     let text : Characters = c ∷ cs in
     let one : name_unit text ≡ itself c = cond-true (is_name_char c) _ _ h in
-    let some : 0 < (name_unit text).taken = omega (arith, ap (λ (u : Unit). u.taken) one) in
-    ap (λ (r : Run). r.said) (run_of_more name_unit name_fits text some) ∙ ap (λ (u : Unit). (then_run u (run_of name_unit (drop u.taken text))).said) one
+    let some : 0 < (name_unit text).taken = omega (arith, ap (λ (u : TextUnit). u.taken) one) in
+    ap (λ (r : Run). r.said) (run_of_more name_unit name_fits text some) ∙ ap (λ (u : TextUnit). (then_run u (run_of name_unit (drop u.taken text))).said) one
 
 name_in_none : (c : ℕ) (cs : Characters) → is_name_char c ≡ false → starts_escape (c ∷ cs) ≡ false → name_in (c ∷ cs) ≡ []
 name_in_none c cs h k =
-    ap (λ (r : Run). r.said) (run_of_none name_unit (c ∷ cs) (ap (λ (u : Unit). u.taken) (cond-false (is_name_char c) _ _ h ∙ cond-false (starts_escape (c ∷ cs)) _ _ k)))
+    ap (λ (r : Run). r.said) (run_of_none name_unit (c ∷ cs) (ap (λ (u : TextUnit). u.taken) (cond-false (is_name_char c) _ _ h ∙ cond-false (starts_escape (c ∷ cs)) _ _ k)))
 
 -- a name's text by its first character
 name_text_char : (c : ℕ) (cs : Characters) → is_name_char c ≡ true → name_text (c ∷ cs) ≡ c ∷ name_text cs

@@ -7,33 +7,33 @@ use Rattle.std.proofs.lemmas.List.{drop_at}
 use Rattle.base_model.specs.Lists.{is_nil}
 use Rattle.base_model.specs.Text.{Characters}
 use Rattle.syntax_model.specs.Letters.{is_digit, is_e, is_name_char}
-use Rattle.syntax_model.specs.Units.{Unit, name_unit, run_of, string_unit, then_run, url_unit}
+use Rattle.syntax_model.specs.TextUnits.{TextUnit, name_unit, run_of, string_unit, then_run, url_unit}
 use Rattle.syntax_model.specs.Written.{after_hyphen, hex_escape, ident_text, is_control, looks_like_exponent, name_char_text, name_text, string_char_text, unit_text, url_char_text}
-use Rattle.syntax_model.proofs.UnitLemmas.{Fits, name_fits, run_of_more, run_of_none, string_fits, url_fits}
+use Rattle.syntax_model.proofs.TextUnitLemmas.{Fits, name_fits, run_of_more, run_of_none, string_fits, url_fits}
 use Rattle.syntax_model.proofs.EscapeLemmas.{plain_escape}
 use Rattle.syntax_model.proofs.CharacterLemmas.{AsOne, in_url, name_char, name_escape, string_char, url_char}
 
 -- the text of a name, with no more of it after the text
-abbrev pub ReadsRun : (Characters → Unit) → Characters → Characters → Characters → Type 0
+abbrev pub ReadsRun : (Characters → TextUnit) → Characters → Characters → Characters → Type 0
 ReadsRun unit text name rest = run_of unit (text ++ rest) ≡ record { taken = length text; said = name }
 
-pub run_none : (unit : Characters → Unit) (rest : Characters) → (unit rest).taken ≡ 0 → ReadsRun unit [] [] rest
+pub run_none : (unit : Characters → TextUnit) (rest : Characters) → (unit rest).taken ≡ 0 → ReadsRun unit [] [] rest
 run_none unit rest none = run_of_none unit rest none
 
 -- one character more
-pub run_onto : (unit : Characters → Unit) → Fits unit → (w : Characters) (c : ℕ) → AsOne unit w c → 0 < length w → (text name rest : Characters) → ReadsRun unit text name rest → ReadsRun unit (w ++ text) (c ∷ name) rest
+pub run_onto : (unit : Characters → TextUnit) → Fits unit → (w : Characters) (c : ℕ) → AsOne unit w c → 0 < length w → (text name rest : Characters) → ReadsRun unit text name rest → ReadsRun unit (w ++ text) (c ∷ name) rest
 run_onto unit fits w c one some text name rest reads =
     let after : Characters = text ++ rest in
-    let size : (unit (w ++ after)).taken ≡ length w = ap (λ (u : Unit). u.taken) (one after) in
+    let size : (unit (w ++ after)).taken ≡ length w = ap (λ (u : TextUnit). u.taken) (one after) in
     ap (run_of unit) (append_assoc w text rest)
     ∙ (run_of_more unit fits (w ++ after) (omega (arith, size, some))
-    ∙ (ap (λ (u : Unit). then_run u (run_of unit (drop u.taken (w ++ after)))) (one after)
+    ∙ (ap (λ (u : TextUnit). then_run u (run_of unit (drop u.taken (w ++ after)))) (one after)
     ∙ (ap (λ (xs : Characters). then_run (record { taken = length w; said = Some c }) (run_of unit xs)) (drop_at w after (length w) refl)
     ∙ (ap (then_run (record { taken = length w; said = Some c })) reads
     ∙ ap (λ (n : ℕ). record { taken = n; said = c ∷ name }) (omega (arith, length-append w text))))))
 
 -- a text of one character after another
-pub run_flat : (unit : Characters → Unit) → Fits unit → (f : ℕ → Characters) → ((c : ℕ) → AsOne unit (f c) c) → ((c : ℕ) → 0 < length (f c)) → (name rest : Characters) → (unit rest).taken ≡ 0 → ReadsRun unit (flat_map f name) name rest
+pub run_flat : (unit : Characters → TextUnit) → Fits unit → (f : ℕ → Characters) → ((c : ℕ) → AsOne unit (f c) c) → ((c : ℕ) → 0 < length (f c)) → (name rest : Characters) → (unit rest).taken ≡ 0 → ReadsRun unit (flat_map f name) name rest
 run_flat unit fits f one some [] rest none = run_none unit rest none
 run_flat unit fits f one some (c ∷ cs) rest none = run_onto unit fits (f c) c (one c) (some c) (flat_map f cs) cs rest (run_flat unit fits f one some cs rest none)
 

@@ -6,18 +6,18 @@ use Rattle.std.proofs.lemmas.List.{drop_at}
 use Rattle.base_model.specs.Lists.{is_nil}
 use Rattle.base_model.specs.Text.{Characters, is_word}
 use Rattle.syntax_model.specs.Letters.{begins, is_name_start}
-use Rattle.syntax_model.specs.Units.{Run, name_unit, starts_escape}
+use Rattle.syntax_model.specs.TextUnits.{Run, name_unit, starts_escape}
 use Rattle.syntax_model.specs.Token.{ident, function, at_keyword, hash}
-use Rattle.syntax_model.specs.Pieces.{Piece, at_row, hash_row, ident_piece, ident_row, named, quote_follows, row_at, starts_ident, url_piece}
+use Rattle.syntax_model.specs.Pieces.{Piece, at_keyword_production, hash_production, ident_piece, ident_production, named, quote_follows, production_at, starts_ident, url_piece}
 use Rattle.syntax_model.specs.Written.{ident_text, name_text}
 use Rattle.syntax_model.proofs.IdentLemmas.{ident_no_cdc, ident_text_starts, name_text_starts}
 use Rattle.syntax_model.proofs.NameLemmas.{ReadsRun, ident_reads, name_reads, name_text_some}
 use Rattle.syntax_model.proofs.PieceLemmas.{ident_starts}
-use Rattle.syntax_model.proofs.RowLemmas.{at_row_at, hash_row_at, ident_row_at}
-use Rattle.syntax_model.proofs.StopLemmas.{EndsToken}
+use Rattle.syntax_model.proofs.ProductionLemmas.{at_production_at, hash_production_at, ident_production_at}
+use Rattle.syntax_model.proofs.TokenEndLemmas.{EndsToken}
 use Rattle.syntax_model.proofs.TokenReads.{ReadsOne, one_piece, piece_at}
 
--- a piece of the row of identifiers, by its name, the length of its name, and what is after that
+-- a piece of the production of identifiers, by its name, the length of its name, and what is after that
 ident_from : Characters → ℕ → Characters → Piece
 ident_from name taken rest =
     cond (not (begins (λ c. eqb c 40) rest)) (named ident name taken)
@@ -37,26 +37,26 @@ unfolding ident_from
 ident_piece_is text name rest reads =
     ap (λ (r : Run). ident_from r.said r.taken (drop r.taken (text ++ rest))) reads ∙ ap (ident_from name (length text)) (drop_at text rest (length text) refl)
 
-piece_at_ident : (text : Characters) → starts_ident text ≡ true → piece_at ident_row text ≡ ident_piece text
+piece_at_ident : (text : Characters) → starts_ident text ≡ true → piece_at ident_production text ≡ ident_piece text
 piece_at_ident [] h = absurd (false≢true h)
 piece_at_ident (c ∷ cs) h = refl
 
-ident_at : (name rest : Characters) → is_nil name ≡ false → (name_unit rest).taken ≡ 0 → piece_at ident_row (ident_text name ++ rest) ≡ ident_from name (length (ident_text name)) rest
+ident_at : (name rest : Characters) → is_nil name ≡ false → (name_unit rest).taken ≡ 0 → piece_at ident_production (ident_text name ++ rest) ≡ ident_from name (length (ident_text name)) rest
 ident_at name rest some none =
     piece_at_ident (ident_text name ++ rest) (ident_text_starts name rest some) ∙ ident_piece_is (ident_text name) name rest (ident_reads name rest none)
 
 pub ident_read : (name rest : Characters) → is_nil name ≡ false → EndsToken rest → ReadsOne (ident_text name) (record { kind = ident; name = name; spelling = [] }) rest
 unfolding ident_from
 ident_read name rest some ends =
-    one_piece ident_row (ident_text name) rest (record { kind = ident; name = name; spelling = [] }) refl (ident_some name some) (ident_row_at (ident_text name ++ rest) (ident_text_starts name rest some) (ident_no_cdc name rest some ends.no_greater)) (ident_at name rest some ends.no_name ∙ cond-true _ _ _ (not_from_false _ ends.no_open))
+    one_piece ident_production (ident_text name) rest (record { kind = ident; name = name; spelling = [] }) refl (ident_some name some) (ident_production_at (ident_text name ++ rest) (ident_text_starts name rest some) (ident_no_cdc name rest some ends.no_greater)) (ident_at name rest some ends.no_name ∙ cond-true _ _ _ (not_from_false _ ends.no_open))
 
 pub function_read : (name rest : Characters) → is_nil name ≡ false → (is_word (codes "url") name ≡ true → quote_follows rest ≡ true) → ReadsOne (ident_text name ++ 40 ∷ []) (record { kind = function; name = name; spelling = [] }) rest
 unfolding ident_from
 function_read name rest some quote =
     let text : Characters = ident_text name in
     let joined : (text ++ 40 ∷ []) ++ rest ≡ text ++ 40 ∷ rest = append_assoc text (40 ∷ []) rest in
-    one_piece ident_row (text ++ 40 ∷ []) rest (record { kind = function; name = name; spelling = [] }) refl (omega (arith, length-append text (40 ∷ []))) (ap row_at joined ∙ ident_row_at (text ++ 40 ∷ rest) (ident_text_starts name (40 ∷ rest) some) (ident_no_cdc name (40 ∷ rest) some refl))
-    (ap (piece_at ident_row) joined
+    one_piece ident_production (text ++ 40 ∷ []) rest (record { kind = function; name = name; spelling = [] }) refl (omega (arith, length-append text (40 ∷ []))) (ap production_at joined ∙ ident_production_at (text ++ 40 ∷ rest) (ident_text_starts name (40 ∷ rest) some) (ident_no_cdc name (40 ∷ rest) some refl))
+    (ap (piece_at ident_production) joined
     ∙ (ident_at name (40 ∷ rest) some refl
     ∙ (cond-false _ _ _ (no_url (is_word (codes "url") name) (quote_follows rest) quote)
     ∙ ap (named function name) (omega (arith, length-append text (40 ∷ []))))))
@@ -67,14 +67,14 @@ function_read name rest some quote =
 
 pub at_read : (name rest : Characters) → is_nil name ≡ false → EndsToken rest → ReadsOne (64 ∷ ident_text name) (record { kind = at_keyword; name = name; spelling = [] }) rest
 at_read name rest some ends =
-    one_piece at_row (64 ∷ ident_text name) rest (record { kind = at_keyword; name = name; spelling = [] }) refl (omega arith) (at_row_at (ident_text name ++ rest) (ident_text_starts name rest some))
+    one_piece at_keyword_production (64 ∷ ident_text name) rest (record { kind = at_keyword; name = name; spelling = [] }) refl (omega arith) (at_production_at (ident_text name ++ rest) (ident_text_starts name rest some))
     (ap (λ (r : Run). named at_keyword r.said (1 + r.taken)) (ident_reads name rest ends.no_name) ∙ ap (named at_keyword name) (omega arith))
 
 pub id_read : (name rest : Characters) → is_nil name ≡ false → EndsToken rest → ReadsOne (35 ∷ ident_text name) (record { kind = hash true; name = name; spelling = [] }) rest
 id_read name rest some ends =
     let text : Characters = ident_text name ++ rest in
     let starts : starts_ident text ≡ true = ident_text_starts name rest some in
-    one_piece hash_row (35 ∷ ident_text name) rest (record { kind = hash true; name = name; spelling = [] }) refl (omega arith) (hash_row_at text (ident_starts text starts))
+    one_piece hash_production (35 ∷ ident_text name) rest (record { kind = hash true; name = name; spelling = [] }) refl (omega arith) (hash_production_at text (ident_starts text starts))
     (ap (λ (r : Run). named (hash (starts_ident text)) r.said (1 + r.taken)) (ident_reads name rest ends.no_name)
     ∙ (ap (λ b. named (hash b) name (1 + length (ident_text name))) starts ∙ ap (named (hash true) name) (omega arith)))
 
@@ -97,6 +97,6 @@ no_ident_stays (c ∷ d ∷ cs) rest some ends h =
 pub hash_read : (name rest : Characters) → is_nil name ≡ false → starts_ident (name_text name) ≡ false → EndsToken rest → ReadsOne (35 ∷ name_text name) (record { kind = hash false; name = name; spelling = [] }) rest
 hash_read name rest some none ends =
     let text : Characters = name_text name ++ rest in
-    one_piece hash_row (35 ∷ name_text name) rest (record { kind = hash false; name = name; spelling = [] }) refl (omega arith) (hash_row_at text (name_text_starts name rest some))
+    one_piece hash_production (35 ∷ name_text name) rest (record { kind = hash false; name = name; spelling = [] }) refl (omega arith) (hash_production_at text (name_text_starts name rest some))
     (ap (λ (r : Run). named (hash (starts_ident text)) r.said (1 + r.taken)) (name_reads name rest ends.no_name)
     ∙ (ap (λ b. named (hash b) name (1 + length (name_text name))) (no_ident_stays (name_text name) rest (name_text_some name some) ends none) ∙ ap (named (hash false) name) (omega arith)))

@@ -8,7 +8,7 @@ use Rattle.base_model.specs.Text.{Characters}
 use Rattle.syntax_model.specs.Letters.{begins, is_digit, is_e, is_sign}
 use Rattle.syntax_model.specs.Numbers.{after_fraction, after_sign, after_whole, digits_len, exponent_len, fraction_len, is_integer, number_len, sign_len, starts_fraction, starts_number, starts_unsigned}
 use Rattle.syntax_model.specs.Written.{is_number}
-use Rattle.syntax_model.proofs.UnitLemmas.{prefix_inside}
+use Rattle.syntax_model.proofs.TextUnitLemmas.{prefix_inside}
 use Rattle.syntax_model.proofs.PieceLemmas.{fraction_inside}
 
 -- what does not go on with a number

@@ -4,7 +4,7 @@ use Rattle.std.proofs.Math.Numerals.{one-add}
 use Rattle.std.proofs.lemmas.Bool.{cond_both, cond-true, cond-false, false≢true}
 use Rattle.std.proofs.lemmas.List.{drop_all, drop_more, take_more}
 use Rattle.base_model.specs.Lists.{is_nil, onto_first}
-use Rattle.syntax_model.specs.Token.{Token, Kind}
+use Rattle.syntax_model.specs.Token.{Token, TokenKind}
 use Rattle.syntax_model.specs.Brackets.{Bracket, open_after, open_past}
 use Rattle.syntax_model.specs.Outside.{from_first, length_before, parts_between, parts_within, up_to}
 
@@ -18,20 +18,20 @@ pub nil_from_test : {X : Type 0} (xs : List X) → is_nil xs ≡ true → xs ≡
 nil_from_test [] e = refl
 nil_from_test (x ∷ xs) e = absurd (false≢true e)
 
-pub inside_all : (p : Kind → Bool) (pending : List Bracket) (tokens : List Token) → length_before p pending tokens ≤ length tokens
+pub inside_all : (p : TokenKind → Bool) (pending : List Bracket) (tokens : List Token) → length_before p pending tokens ≤ length tokens
 inside_all p pending [] = omega arith
 inside_all p pending (t ∷ tokens) =
     cond_both (is_nil pending && p t.kind) 0 (1 + length_before p (open_past pending t) tokens) (λ n. n ≤ length (t ∷ tokens)) (λ _. omega arith) (λ _. omega (arith, inside_all p (open_past pending t) tokens))
 
 -- A walk over the tokens: none of so many separates outside brackets, and these brackets are open after them.
-pub record IsBefore (p : Kind → Bool) (tokens : List Token) (n : ℕ) (pending : List Bracket) : Type 0 where
+pub record IsBefore (p : TokenKind → Bool) (tokens : List Token) (n : ℕ) (pending : List Bracket) : Type 0 where
   pub length : n + length_before p pending (drop n tokens) ≡ length_before p [] tokens
   pub brackets : pending ≡ open_after [] (take n tokens)
 
-pub before_none : (p : Kind → Bool) (tokens : List Token) → IsBefore p tokens 0 []
+pub before_none : (p : TokenKind → Bool) (tokens : List Token) → IsBefore p tokens 0 []
 before_none p tokens = record { length = omega arith; brackets = refl }
 
-pub before_more : (p : Kind → Bool) (tokens : List Token) (n : ℕ) (token : Token) (pending after : List Bracket) → IsBefore p tokens n pending → n < length tokens → token ≡ get_or tokens n token → (is_nil pending && p token.kind) ≡ false → after ≡ open_past pending token → IsBefore p tokens (n + 1) after
+pub before_more : (p : TokenKind → Bool) (tokens : List Token) (n : ℕ) (token : Token) (pending after : List Bracket) → IsBefore p tokens n pending → n < length tokens → token ≡ get_or tokens n token → (is_nil pending && p token.kind) ≡ false → after ≡ open_past pending token → IsBefore p tokens (n + 1) after
 before_more p tokens n token pending after so_far inside is fails is_after =
     let next : take (n + 1) tokens ≡ take n tokens ++ token ∷ [] = take_more tokens n token inside ∙ ap (λ t. take n tokens ++ t ∷ []) (sym is) in
     let rest : drop n tokens ≡ token ∷ drop (n + 1) tokens = drop_more tokens n token inside ∙ ap (λ t. t ∷ drop (n + 1) tokens) (sym is) in
@@ -42,24 +42,24 @@ before_more p tokens n token pending after so_far inside is fails is_after =
     }
 
 -- the walk ends at a separator
-pub before_found : (p : Kind → Bool) (tokens : List Token) (n : ℕ) (token : Token) (pending : List Bracket) → IsBefore p tokens n pending → n < length tokens → token ≡ get_or tokens n token → (is_nil pending && p token.kind) ≡ true → n ≡ length_before p [] tokens
+pub before_found : (p : TokenKind → Bool) (tokens : List Token) (n : ℕ) (token : Token) (pending : List Bracket) → IsBefore p tokens n pending → n < length tokens → token ≡ get_or tokens n token → (is_nil pending && p token.kind) ≡ true → n ≡ length_before p [] tokens
 before_found p tokens n token pending so_far inside is passes =
     let rest : drop n tokens ≡ token ∷ drop (n + 1) tokens = drop_more tokens n token inside ∙ ap (λ t. t ∷ drop (n + 1) tokens) (sym is) in
     let none : length_before p pending (drop n tokens) ≡ 0 = ap (length_before p pending) rest ∙ cond-true (is_nil pending && p token.kind) _ _ passes in
     omega (arith, none, so_far.length)
 
 -- or with the tokens
-pub before_all : (p : Kind → Bool) (tokens : List Token) (n : ℕ) (pending : List Bracket) → IsBefore p tokens n pending → n ≡ length tokens → n ≡ length_before p [] tokens
+pub before_all : (p : TokenKind → Bool) (tokens : List Token) (n : ℕ) (pending : List Bracket) → IsBefore p tokens n pending → n ≡ length tokens → n ≡ length_before p [] tokens
 before_all p tokens n pending so_far is =
     let none : length_before p pending (drop n tokens) ≡ 0 = ap (length_before p pending) (drop_all n tokens (omega (arith, is))) in
     omega (arith, none, so_far.length)
 
 -- The parts are what comes before the first separator, and the parts of what follows it, if there is one.
-abbrev pub parts_after : (Kind → Bool) → List Token → List (List Token)
+abbrev pub parts_after : (TokenKind → Bool) → List Token → List (List Token)
 parts_after p [] = []
 parts_after p (separator ∷ tokens) = parts_between p tokens
 
-parts_first : (p : Kind → Bool) (pending : List Bracket) (tokens : List Token) → parts_within p pending tokens ≡ take (length_before p pending tokens) tokens ∷ parts_after p (drop (length_before p pending tokens) tokens)
+parts_first : (p : TokenKind → Bool) (pending : List Bracket) (tokens : List Token) → parts_within p pending tokens ≡ take (length_before p pending tokens) tokens ∷ parts_after p (drop (length_before p pending tokens) tokens)
 parts_first p pending [] = refl
 parts_first p pending (t ∷ tokens) =
     let n : ℕ = 1 + length_before p (open_past pending t) tokens in
@@ -69,5 +69,5 @@ parts_first p pending (t ∷ tokens) =
       | false ↦ rw one-add (ap (onto_first t) (parts_first p (open_past pending t) tokens))
     ]
 
-pub parts_split : (p : Kind → Bool) (tokens : List Token) → parts_between p tokens ≡ up_to p tokens ∷ parts_after p (from_first p tokens)
+pub parts_split : (p : TokenKind → Bool) (tokens : List Token) → parts_between p tokens ≡ up_to p tokens ∷ parts_after p (from_first p tokens)
 parts_split p tokens = parts_first p [] tokens

@@ -1,4 +1,4 @@
--- The piece of each row takes as many characters as its row says.
+-- The piece of each production takes as many characters as its production says.
 use Rattle.std.proofs.Common.{◌≡◌, ℕ, ◌+◌, ◌<◌, true, false, cond, eqb, ◌&&◌, ◌||◌, [], ◌∷◌, ◌++◌, drop, refl, sym, ap, ◌∙◌, arith, inl, inr, append_assoc}
 use Rattle.std.specs.Prelude.{not}
 use Rattle.std.specs.List.{prefix_len}
@@ -7,12 +7,12 @@ use Rattle.std.proofs.lemmas.List.{drop-drop}
 use Rattle.base_model.specs.Lists.{is_nil}
 use Rattle.base_model.specs.Text.{Characters}
 use Rattle.syntax_model.specs.Letters.{begins, is_blank, is_digit, is_e, is_sign}
-use Rattle.syntax_model.specs.Units.{Unit, comment_unit, len_of, name_unit, one_if, remnant_unit, starts_escape, string_escape, string_unit, url_unit}
+use Rattle.syntax_model.specs.TextUnits.{TextUnit, comment_unit, len_of, name_unit, one_if, remnant_unit, starts_escape, string_escape, string_unit, url_unit}
 use Rattle.syntax_model.specs.Numbers.{after_fraction, after_sign, after_whole, digits_len, exponent_len, fraction_len, number_len, sign_len, starts_fraction}
-use Rattle.syntax_model.specs.Pieces.{Piece, comment_len, ident_piece, is_closing, is_line_feed, name_in, name_len, number_piece, row_at, row_len, starts_cdc, starts_cdo, starts_comment, starts_ident, string_piece, url_piece}
+use Rattle.syntax_model.specs.Pieces.{Piece, comment_len, ident_piece, is_closing, is_line_feed, name_in, name_len, number_piece, production_at, production_len, starts_cdc, starts_cdo, starts_comment, starts_ident, string_piece, url_piece}
 use Rattle.syntax_model.specs.Reading.{begins_url, ends_unclosed, ends_well, is_opening, is_percent, starts_exponent, Either, Form, IsAfterName, IsClosedBy, IsClosing, IsComment, IsExponent, IsFraction, IsIdentLike, IsNameAfter, IsNamed, IsNothing, IsNumber, IsOne, IsOpened, IsOptional, IsPiece, IsQuoted, IsRemnant, IsRun, IsSpan, IsString, IsStringEnd, IsSuffix, IsText, IsUnitName, IsUnits, IsUrl, IsUrlEnd, Then}
-use Rattle.syntax_model.proofs.UnitLemmas.{comment_fits, name_fits, remnant_fits, string_fits, url_fits}
-use Rattle.syntax_model.proofs.PieceLemmas.{escape_some, one_commented, row_any, run_stops}
+use Rattle.syntax_model.proofs.TextUnitLemmas.{comment_fits, name_fits, remnant_fits, string_fits, url_fits}
+use Rattle.syntax_model.proofs.PieceLemmas.{escape_some, one_commented, production_any, run_stops}
 use Rattle.syntax_model.proofs.FormLemmas.{Takes, run_says, takes_as, takes_either, takes_no, takes_nothing, takes_one, takes_optional, takes_run, takes_some, takes_span, takes_text, takes_then, takes_units, takes_yes}
 
 -- What follows the run of a comment, a string, a url or a bad url.
@@ -22,25 +22,25 @@ comment_end (c ∷ []) stops = absurd (omega (arith, stops, one_commented c))
 comment_end (c ∷ d ∷ cs) stops =
     let text : Characters = c ∷ d ∷ cs in
     let Good : Type 0 = Takes (IsClosedBy (42 ∷ 47 ∷ [])) text 2 in
-    cond_both (eqb c 42 && eqb d 47) _ _ (λ (u : Unit). u.taken ≡ 0 → Good)
+    cond_both (eqb c 42 && eqb d 47) _ _ (λ (u : TextUnit). u.taken ≡ 0 → Good)
     (λ e _. takes_no is_nil IsNothing (IsText (42 ∷ 47 ∷ [])) text 2 refl (takes_text _ text 2 refl (omega arith) (rw (eqb-true c 42 (and_parts _ _ e).0, eqb-true d 47 (and_parts (eqb c 42) _ e).1) refl)))
     (λ _ none. absurd (omega (arith, none)))
     stops
 
 string_escape_some : (cs : Characters) → 0 < (string_escape cs).taken
 string_escape_some [] = omega arith
-string_escape_some (c ∷ cs) = cond_both (eqb c 10) _ _ (λ (u : Unit). 0 < u.taken) (λ _. omega arith) (λ _. escape_some (c ∷ cs))
+string_escape_some (c ∷ cs) = cond_both (eqb c 10) _ _ (λ (u : TextUnit). 0 < u.taken) (λ _. omega arith) (λ _. escape_some (c ∷ cs))
 
 string_end : (quote : ℕ) (rest : Characters) → (string_unit quote rest).taken ≡ 0 → begins is_line_feed rest ≡ false → Takes (IsStringEnd quote) rest (one_if (λ c. eqb c quote) rest)
 string_end quote [] stops same_line = takes_yes ends_unclosed IsNothing (IsText (quote ∷ [])) [] 0 refl (takes_nothing [])
 string_end quote (c ∷ cs) stops same_line =
     let Good : Type 0 = Takes (IsStringEnd quote) (c ∷ cs) (one_if (λ c. eqb c quote) (c ∷ cs)) in
-    cond_both (eqb c quote || eqb c 10) _ _ (λ (u : Unit). u.taken ≡ 0 → Good)
+    cond_both (eqb c quote || eqb c 10) _ _ (λ (u : TextUnit). u.taken ≡ 0 → Good)
     (λ e _. elim (or_cases (eqb c quote) _ e) [
       | inl is ↦ takes_as _ _ 1 _ (sym (cond-true (eqb c quote) 1 0 is)) (takes_no ends_unclosed IsNothing (IsText (quote ∷ [])) (c ∷ cs) 1 same_line (takes_text _ (c ∷ cs) 1 refl (omega arith) (rw (eqb-true c quote is) refl)))
       | inr feed ↦ absurd (cc)
     ])
-    (λ _. cond_both (eqb c 92) _ _ (λ (u : Unit). u.taken ≡ 0 → Good) (λ _ none. absurd (omega (arith, none, string_escape_some cs))) (λ _ none. absurd (omega (arith, none))))
+    (λ _. cond_both (eqb c 92) _ _ (λ (u : TextUnit). u.taken ≡ 0 → Good) (λ _ none. absurd (omega (arith, none, string_escape_some cs))) (λ _ none. absurd (omega (arith, none))))
     stops
 
 closing : (rest : Characters) → ends_well rest ≡ true → Takes IsClosing rest (one_if is_closing rest)
@@ -51,14 +51,14 @@ closing (c ∷ cs) ends =
 remnant_end : (rest : Characters) → (remnant_unit rest).taken ≡ 0 → ends_well rest ≡ true
 remnant_end [] stops = refl
 remnant_end (c ∷ cs) stops =
-    let P : Unit → Type 0 = λ u. u.taken ≡ 0 → is_closing c ≡ true in
+    let P : TextUnit → Type 0 = λ u. u.taken ≡ 0 → is_closing c ≡ true in
     cond_both (starts_escape (c ∷ cs)) _ _ P (λ _ none. absurd (omega (arith, none, escape_some cs))) (λ _. cond_both (eqb c 41) _ _ P (λ e _. e) (λ _ none. absurd (omega (arith, none)))) stops
 
 -- one character, by its number
 takes_sign : (sign c : ℕ) (cs : Characters) → eqb c sign ≡ true → Takes (IsText (sign ∷ [])) (c ∷ cs) 1
 takes_sign sign c cs e = takes_text _ (c ∷ cs) 1 refl (omega arith) (rw (eqb-true c sign e) refl)
 
--- the rows
+-- the productions
 takes_comment : (c : ℕ) (cs : Characters) → starts_comment (c ∷ cs) ≡ true → Takes IsComment (c ∷ cs) (2 + comment_len (drop 1 cs))
 takes_comment c [] starts = absurd (let no : false ≡ true = (and_parts (eqb c 47) _ starts).1 in cc)
 takes_comment c (d ∷ cs) starts =
@@ -207,9 +207,9 @@ takes_cdo (a ∷ b ∷ c ∷ d ∷ cs) starts =
 takes_cdo cs starts = cc
 
 -- the piece that a text begins with
-pub takes_first : (c : ℕ) (cs : Characters) → Takes (IsPiece (row_at (c ∷ cs))) (c ∷ cs) (row_len (row_at (c ∷ cs)) c cs)
+pub takes_first : (c : ℕ) (cs : Characters) → Takes (IsPiece (production_at (c ∷ cs))) (c ∷ cs) (production_len (production_at (c ∷ cs)) c cs)
 takes_first c cs =
-    row_any (λ row. Takes (IsPiece row) (c ∷ cs) (row_len row c cs)) c cs
+    production_any (λ production. Takes (IsPiece production) (c ∷ cs) (production_len production c cs)) c cs
     (λ e. takes_comment c cs e)
     (λ e. takes_span is_blank (c ∷ cs))
     (λ _. takes_string c cs)

@@ -8,14 +8,14 @@ use Rattle.std.proofs.lemmas.List.{drop-drop}
 use Rattle.base_model.specs.Lists.{is_nil}
 use Rattle.base_model.specs.Text.{Characters, is_word}
 use Rattle.syntax_model.specs.Letters.{begins, is_blank, is_digit, is_e, is_name_char, is_name_start, is_quote, is_sign}
-use Rattle.syntax_model.specs.Units.{Run, Unit, comment_unit, escape, hex_len, len_of, name_unit, one_if, remnant_unit, run, said_of, starts_escape, string_unit, url_unit}
+use Rattle.syntax_model.specs.TextUnits.{Run, TextUnit, comment_unit, escape, hex_len, len_of, name_unit, one_if, remnant_unit, run, said_of, starts_escape, string_unit, url_unit}
 use Rattle.syntax_model.specs.Numbers.{after_fraction, after_sign, after_whole, digits_len, exponent_len, fraction_len, number_len, sign_len, starts_fraction, starts_number, starts_unsigned}
-use Rattle.syntax_model.specs.Pieces.{Piece, Row, at_row, cdc_row, cdo_row, comment_len, comment_row, hash_row, ident_piece, ident_row, is_closing, is_line_feed, mark_row, name_in, name_len, named, number_piece, number_row, plain, quote_follows, row_at, row_len, starts_cdc, starts_cdo, starts_comment, starts_ident, starts_name, string_piece, string_row, url_piece, white_row}
-use Rattle.syntax_model.proofs.UnitLemmas.{Fits, comment_fits, name_fits, one_inside, prefix_inside, remnant_fits, run_inside, run_ends, run_more, run_of_more, some_from, string_fits, url_fits}
+use Rattle.syntax_model.specs.Pieces.{Piece, Production, at_keyword_production, cdc_production, cdo_production, comment_len, comment_production, hash_production, ident_piece, ident_production, is_closing, is_line_feed, mark_production, name_in, name_len, named, number_piece, number_production, plain, quote_follows, production_at, production_len, starts_cdc, starts_cdo, starts_comment, starts_ident, starts_name, string_piece, string_production, url_piece, white_production}
+use Rattle.syntax_model.proofs.TextUnitLemmas.{Fits, comment_fits, name_fits, one_inside, prefix_inside, remnant_fits, run_inside, run_ends, run_more, run_of_more, some_from, string_fits, url_fits}
 
--- What is true of each row where its condition holds is true of the row of a text.
-pub row_any : (P : Row → Type 0) (c : ℕ) (cs : Characters) → (starts_comment (c ∷ cs) ≡ true → P comment_row) → (is_blank c ≡ true → P white_row) → (is_quote c ≡ true → P string_row) → (eqb c 35 ≡ true → starts_name cs ≡ true → P hash_row) → (starts_number (c ∷ cs) ≡ true → P number_row) → (starts_cdc (c ∷ cs) ≡ true → P cdc_row) → (starts_cdo (c ∷ cs) ≡ true → P cdo_row) → (eqb c 64 ≡ true → starts_ident cs ≡ true → P at_row) → (starts_ident (c ∷ cs) ≡ true → P ident_row) → P mark_row → P (row_at (c ∷ cs))
-row_any P c cs comment white quoted hashed numeric is_cdc is_cdo at named mark =
+-- What is true of each production where its condition holds is true of the production of a text.
+pub production_any : (P : Production → Type 0) (c : ℕ) (cs : Characters) → (starts_comment (c ∷ cs) ≡ true → P comment_production) → (is_blank c ≡ true → P white_production) → (is_quote c ≡ true → P string_production) → (eqb c 35 ≡ true → starts_name cs ≡ true → P hash_production) → (starts_number (c ∷ cs) ≡ true → P number_production) → (starts_cdc (c ∷ cs) ≡ true → P cdc_production) → (starts_cdo (c ∷ cs) ≡ true → P cdo_production) → (eqb c 64 ≡ true → starts_ident cs ≡ true → P at_keyword_production) → (starts_ident (c ∷ cs) ≡ true → P ident_production) → P mark_production → P (production_at (c ∷ cs))
+production_any P c cs comment white quoted hashed numeric is_cdc is_cdo at named mark =
     cond_both (starts_comment (c ∷ cs)) _ _ P comment (λ _.
     cond_both (is_blank c) _ _ P white (λ _.
     cond_both (is_quote c) _ _ P quoted (λ _.
@@ -27,7 +27,7 @@ row_any P c cs comment white quoted hashed numeric is_cdc is_cdo at named mark =
     cond_both (starts_ident (c ∷ cs)) _ _ P named (λ _. mark)))))))))
 
 -- where a run ends, no unit begins
-run_stops_by : (unit : Characters → Unit) → Fits unit → (n : ℕ) (text : Characters) → length text ≤ n → (unit (drop (run unit n text).taken text)).taken ≡ 0
+run_stops_by : (unit : Characters → TextUnit) → Fits unit → (n : ℕ) (text : Characters) → length text ≤ n → (unit (drop (run unit n text).taken text)).taken ≡ 0
 run_stops_by unit fits zero text h = omega (arith, h, fits text)
 run_stops_by unit fits (suc n) text h = by (λ left. run_stops_by unit fits n (drop (unit text).taken text) (omega (arith, left, h))) (eqb (unit text).taken 0) refl
   where
@@ -41,7 +41,7 @@ run_stops_by unit fits (suc n) text h = by (λ left. run_stops_by unit fits n (d
         let past : Characters = drop (unit text).taken text in
         rw (run_more unit n text some, ← drop-drop (run unit n past).taken (unit text).taken text) (later (omega (arith, some, fits text, length-drop (unit text).taken text)))
 
-pub run_stops : (unit : Characters → Unit) → Fits unit → (text : Characters) → (unit (drop (len_of unit text) text)).taken ≡ 0
+pub run_stops : (unit : Characters → TextUnit) → Fits unit → (text : Characters) → (unit (drop (len_of unit text) text)).taken ≡ 0
 run_stops unit fits text = run_stops_by unit fits (length text) text (omega arith)
 
 -- so many characters are a piece of the text
@@ -50,7 +50,7 @@ pub record IsPart (text : Characters) (n : ℕ) : Type 0 where
   pub inside : n ≤ length text
 
 -- a run in a text, after so many characters
-pub part_after : (unit : Characters → Unit) → Fits unit → (n : ℕ) (text : Characters) → n ≤ length text → n + len_of unit (drop n text) ≤ length text
+pub part_after : (unit : Characters → TextUnit) → Fits unit → (n : ℕ) (text : Characters) → n ≤ length text → n + len_of unit (drop n text) ≤ length text
 part_after unit fits n text inside = omega (arith, inside, run_inside unit fits (length (drop n text)) (drop n text), length-drop n text)
 
 -- and a character after it
@@ -91,7 +91,7 @@ number_inside text =
     let end : length (after_fraction text) ≡ length (after_whole text) - fraction_len (after_whole text) = length-drop (fraction_len (after_whole text)) (after_whole text) in
     omega (arith, sign, signed, whole, rest, fraction, end, exponent_inside (after_fraction text))
 
-unsigned_some : (text : Characters) → starts_unsigned text ≡ true → 0 < digits_len text + fraction_len (drop (digits_len text) text)
+pub unsigned_some : (text : Characters) → starts_unsigned text ≡ true → 0 < digits_len text + fraction_len (drop (digits_len text) text)
 unsigned_some [] starts = cc
 unsigned_some (c ∷ cs) starts =
     cond_both (is_digit c) (1 + digits_len cs) 0 (λ n. 0 < n + fraction_len (drop n (c ∷ cs))) (λ _. omega arith) (λ no.
@@ -106,12 +106,12 @@ number_some text starts = omega (arith, unsigned_some (after_sign text) starts)
 -- A name where one starts has a character.
 pub escape_some : (cs : Characters) → 0 < (escape cs).taken
 escape_some [] = omega arith
-escape_some (c ∷ cs) = cond_both (eqb (hex_len (c ∷ cs)) 0) _ _ (λ (u : Unit). 0 < u.taken) (λ _. omega arith) (λ _. omega arith)
+escape_some (c ∷ cs) = cond_both (eqb (hex_len (c ∷ cs)) 0) _ _ (λ (u : TextUnit). 0 < u.taken) (λ _. omega arith) (λ _. omega arith)
 
 pub unit_some : (text : Characters) → starts_name text ≡ true → 0 < (name_unit text).taken
 unit_some [] starts = cc
 unit_some (c ∷ cs) starts =
-    let P : Unit → Type 0 = λ u. 0 < u.taken in
+    let P : TextUnit → Type 0 = λ u. 0 < u.taken in
     cond_both (is_name_char c) _ _ P (λ _. omega arith) (λ no.
     cond_both (starts_escape (c ∷ cs)) _ _ P (λ _. escape_some cs) (λ none.
     elim (or_cases (is_name_char c) _ starts) [ inl is ↦ cc | inr is ↦ cc ]))
@@ -133,7 +133,7 @@ ident_starts (c ∷ cs) starts =
 
 -- a character alone ends no comment
 pub one_commented : (c : ℕ) → (comment_unit (c ∷ [])).taken ≡ 1
-one_commented c = ap (λ (u : Unit). u.taken) (cond-false _ _ _ (and_right (eqb c 42) false refl))
+one_commented c = ap (λ (u : TextUnit). u.taken) (cond-false _ _ _ (and_right (eqb c 42) false refl))
 
 -- what is read after `/*`
 comment_inside : (text : Characters) → comment_len text ≤ length text
@@ -229,10 +229,10 @@ four (a ∷ b ∷ c ∷ d ∷ cs) starts = omega arith
 four cs starts = cc
 
 -- the piece that a text begins with
-pub first_is : (c : ℕ) (cs : Characters) → IsPart (c ∷ cs) (row_len (row_at (c ∷ cs)) c cs)
+pub first_is : (c : ℕ) (cs : Characters) → IsPart (c ∷ cs) (production_len (production_at (c ∷ cs)) c cs)
 first_is c cs =
     let one : IsPart (c ∷ cs) 1 = record { some = omega arith; inside = omega arith } in
-    row_any (λ row. IsPart (c ∷ cs) (row_len row c cs)) c cs
+    production_any (λ production. IsPart (c ∷ cs) (production_len production c cs)) c cs
     (λ e. after_two c cs e)
     (λ e. record { some = omega (arith, cond-true (is_blank c) (1 + prefix_len is_blank cs) 0 e); inside = prefix_inside is_blank (c ∷ cs) })
     (λ _. string_part c cs)

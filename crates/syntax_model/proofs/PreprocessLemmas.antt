@@ -6,7 +6,7 @@ use Rattle.std.proofs.lemmas.Bool.{and_from, and_parts, cond_both, cond-false, e
 use Rattle.base_model.specs.Lists.{is_nil}
 use Rattle.base_model.specs.Text.{Characters}
 use Rattle.syntax_model.specs.Preprocess.{is_preprocessed, preprocessed, preprocessed_after}
-use Rattle.syntax_model.specs.Token.{Span, Token, said, Kind, ident, function, at_keyword, hash, string, url, delim, number, percentage, dimension}
+use Rattle.syntax_model.specs.Token.{Span, Token, said, TokenKind, ident, function, at_keyword, hash, string, url, delim, number, percentage, dimension}
 use Rattle.syntax_model.specs.TokensIn.{tokens_in}
 use Rattle.syntax_model.specs.Written.{begins_itself, ends_itself, gap, ident_text, is_number, is_sound, is_writable, string_char_text, token_text, unit_text, url_char_text, written}
 use Rattle.syntax_model.proofs.CleanLemmas.{clean_both, ident_text_clean, is_clean, name_text_clean, no_null, number_clean, string_text_clean, unit_text_clean, url_text_clean}
@@ -35,7 +35,7 @@ preprocessed_same text h = same_after text h
 abbrev pub is_clean_token : Token → Bool
 is_clean_token token = no_null token.name && (elim token.kind [ delim c ↦ is_clean c | _ ↦ true ])
 
-token_clean : (kind : Kind) (name spelling : Characters) (span : Option Span) → is_sound (token kind name spelling span) ≡ true → no_null name ≡ true → (elim kind [ delim c ↦ is_clean c | _ ↦ true ]) ≡ true → is_preprocessed (token_text (token kind name spelling span)) ≡ true
+token_clean : (kind : TokenKind) (name spelling : Characters) (span : Option Span) → is_sound (token kind name spelling span) ≡ true → no_null name ≡ true → (elim kind [ delim c ↦ is_clean c | _ ↦ true ]) ≡ true → is_preprocessed (token_text (token kind name spelling span)) ≡ true
 token_clean ident name spelling span sound h k = ident_text_clean name h
 token_clean function name spelling span sound h k = clean_both (ident_text name) (40 ∷ []) (ident_text_clean name h) refl
 token_clean at_keyword name spelling span sound h k = ident_text_clean name h
@@ -51,7 +51,7 @@ token_clean (dimension integer) name spelling span sound h k =
     clean_both spelling (unit_text name) (number_clean spelling (and_parts (is_number spelling) _ (and_parts _ (not (is_nil name)) sound).0).0) (unit_text_clean name h)
 token_clean kind name spelling span sound h k = refl
 
-gap_clean : (kind : Kind) (tokens : List Token) → is_preprocessed (gap kind tokens) ≡ true
+gap_clean : (kind : TokenKind) (tokens : List Token) → is_preprocessed (gap kind tokens) ≡ true
 gap_clean kind [] = refl
 gap_clean kind (next ∷ tokens) =
     cond_both (ends_itself kind || begins_itself next.kind) _ _ (λ (w : Characters). is_preprocessed w ≡ true) (λ _. refl) (λ _. refl)

@@ -8,15 +8,15 @@ use Rattle.std.proofs.lemmas.List.{drop_at}
 use Rattle.base_model.specs.Lists.{is_nil}
 use Rattle.base_model.specs.Text.{Characters}
 use Rattle.syntax_model.specs.Letters.{begins, is_blank, is_quote}
-use Rattle.syntax_model.specs.Units.{Run, len_of, one_if, remnant_unit, run_of, url_unit}
+use Rattle.syntax_model.specs.TextUnits.{Run, len_of, one_if, remnant_unit, run_of, url_unit}
 use Rattle.syntax_model.specs.Token.{string, url, bad_string, bad_url}
-use Rattle.syntax_model.specs.Pieces.{Piece, ident_piece, ident_row, is_closing, is_line_feed, named, plain, quote_follows, string_piece, string_row, url_piece}
+use Rattle.syntax_model.specs.Pieces.{Piece, ident_piece, ident_production, is_closing, is_line_feed, named, plain, quote_follows, string_piece, string_production, url_piece}
 use Rattle.syntax_model.specs.Written.{hex_escape, string_char_text, url_char_text}
 use Rattle.syntax_model.proofs.CharacterLemmas.{in_url}
 use Rattle.syntax_model.proofs.NameLemmas.{string_reads, url_reads}
 use Rattle.syntax_model.proofs.TokenReads.{ReadsOne, one_piece}
 
--- a piece of the row of strings, by what it says, the length of that, and what is after it
+-- a piece of the production of strings, by what it says, the length of that, and what is after it
 string_from : Characters → ℕ → Characters → Piece
 string_from said taken rest =
     cond (begins is_line_feed rest) (plain bad_string (1 + taken)) (named string said (1 + taken + one_if (λ c. eqb c 34) rest))
@@ -26,7 +26,7 @@ unfolding string_from
 string_read name rest =
     let body : Characters = flat_map string_char_text name in
     let joined : (body ++ 34 ∷ []) ++ rest ≡ body ++ 34 ∷ rest = append_assoc body (34 ∷ []) rest in
-    one_piece string_row (34 ∷ body ++ 34 ∷ []) rest (record { kind = string; name = name; spelling = [] }) refl (omega arith) refl
+    one_piece string_production (34 ∷ body ++ 34 ∷ []) rest (record { kind = string; name = name; spelling = [] }) refl (omega arith) refl
     (ap (string_piece 34) joined
     ∙ (ap (λ (r : Run). string_from r.said r.taken (drop r.taken (body ++ 34 ∷ rest))) (string_reads name rest)
     ∙ (ap (string_from name (length body)) (drop_at body (34 ∷ rest) (length body) refl)
@@ -98,7 +98,7 @@ pub url_read : (name rest : Characters) → ReadsOne (codes "url(" ++ flat_map u
 url_read name rest =
     let body : Characters = flat_map url_char_text name in
     let joined : (body ++ 41 ∷ []) ++ rest ≡ body ++ 41 ∷ rest = append_assoc body (41 ∷ []) rest in
-    one_piece ident_row (codes "url(" ++ body ++ 41 ∷ []) rest (record { kind = url; name = name; spelling = [] }) refl (omega arith) refl
+    one_piece ident_production (codes "url(" ++ body ++ 41 ∷ []) rest (record { kind = url; name = name; spelling = [] }) refl (omega arith) refl
     (ap (λ (text : Characters). ident_piece (117 ∷ 114 ∷ 108 ∷ 40 ∷ text)) joined
     ∙ (cond-true _ _ _ (not_from_false _ (no_quote_follows name rest))
     ∙ (url_piece_is name rest ∙ ap (named url name) (omega (arith, length-append body (41 ∷ []))))))

@@ -3,7 +3,7 @@ use Rattle.std.proofs.Common.{◌≡◌, ◌≢◌, ◌↔◌, ◌⊎◌, ℕ, z
 use Rattle.std.proofs.lemmas.List.{drop-drop, drop_at, take_at}
 use Rattle.base_model.specs.Text.{Characters}
 use Rattle.syntax_model.specs.Token.{Token}
-use Rattle.syntax_model.specs.Pieces.{Row, comment_row, piece_of, row_at, row_len, row_tokens}
+use Rattle.syntax_model.specs.Pieces.{Production, comment_production, piece_of, production_at, production_len, production_tokens}
 use Rattle.syntax_model.specs.TokensIn.{tokens_in}
 use Rattle.syntax_model.specs.Reading.{IsPiece, Reads, Reading, nothing_left, skip_comment, take_piece, token_at}
 use Rattle.syntax_model.specs.Spans.{IsAt, StandInOrder}
@@ -13,23 +13,23 @@ use Rattle.syntax_model.proofs.PieceLemmas.{first_is}
 use Rattle.syntax_model.proofs.TokensLemmas.{tokens_at, tokens_more}
 
 -- a comment, or the piece of a token
-pub comment_or : (row : Row) → (row ≡ comment_row) ⊎ (row ≢ comment_row)
-comment_or comment_row = inl refl
-comment_or row = inr (λ e. cc)
+pub comment_or : (production : Production) → (production ≡ comment_production) ⊎ (production ≢ comment_production)
+comment_or comment_production = inl refl
+comment_or production = inr (λ e. cc)
 
--- the token of a row but that of comments
-pub row_token : (row : Row) (start c : ℕ) (cs : Characters) → row ≢ comment_row → row_tokens row start c cs ≡ token_at start (piece_of row c cs) (row_len row c cs) ∷ []
-row_token comment_row start c cs other = absurd (other refl)
-row_token row start c cs other = refl
+-- the token of a production but that of comments
+pub production_token : (production : Production) (start c : ℕ) (cs : Characters) → production ≢ comment_production → production_tokens production start c cs ≡ token_at start (piece_of production c cs) (production_len production c cs) ∷ []
+production_token comment_production start c cs other = absurd (other refl)
+production_token production start c cs other = refl
 
--- a piece has as many characters as its row says
-pub piece_size : (c : ℕ) (cs piece rest : Characters) → c ∷ cs ≡ piece ++ rest → IsPiece (row_at (c ∷ cs)) piece rest → row_len (row_at (c ∷ cs)) c cs ≡ length piece
+-- a piece has as many characters as its production says
+pub piece_size : (c : ℕ) (cs piece rest : Characters) → c ∷ cs ≡ piece ++ rest → IsPiece (production_at (c ∷ cs)) piece rest → production_len (production_at (c ∷ cs)) c cs ≡ length piece
 piece_size c cs piece rest is form = (takes_first c cs).only piece rest form is
 
 -- the tokens of the first piece, and then those of what comes after it
-tokens_after : (start c : ℕ) (cs piece rest : Characters) → c ∷ cs ≡ piece ++ rest → IsPiece (row_at (c ∷ cs)) piece rest → tokens_at start (c ∷ cs) ≡ row_tokens (row_at (c ∷ cs)) start c cs ++ tokens_at (start + length piece) rest
+tokens_after : (start c : ℕ) (cs piece rest : Characters) → c ∷ cs ≡ piece ++ rest → IsPiece (production_at (c ∷ cs)) piece rest → tokens_at start (c ∷ cs) ≡ production_tokens (production_at (c ∷ cs)) start c cs ++ tokens_at (start + length piece) rest
 tokens_after start c cs piece rest is form =
-    let size : row_len (row_at (c ∷ cs)) c cs ≡ length piece = piece_size c cs piece rest is form in
+    let size : production_len (production_at (c ∷ cs)) c cs ≡ length piece = piece_size c cs piece rest is form in
     let left : drop (length piece) (c ∷ cs) ≡ rest = rw is (drop_at piece rest (length piece) refl) in
     rw (tokens_more start c cs, size, left) refl
 
@@ -37,16 +37,16 @@ tokens_after start c cs piece rest is form =
 tokens_are : {start : ℕ} {text : Characters} {tokens : List Token} → Reads start text tokens → tokens ≡ tokens_at start text
 tokens_are (nothing_left start) = refl
 tokens_are (skip_comment start c cs piece rest tokens is comment form reads) =
-    let here : IsPiece (row_at (c ∷ cs)) piece rest = rw comment form in
+    let here : IsPiece (production_at (c ∷ cs)) piece rest = rw comment form in
     rw (tokens_after start c cs piece rest is here, comment) (tokens_are reads)
 tokens_are (take_piece start c cs piece rest tokens is other form reads) =
-    rw (tokens_after start c cs piece rest is form, row_token (row_at (c ∷ cs)) start c cs other, piece_size c cs piece rest is form, ← tokens_are reads) refl
+    rw (tokens_after start c cs piece rest is form, production_token (production_at (c ∷ cs)) start c cs other, piece_size c cs piece rest is form, ← tokens_are reads) refl
 
 -- a piece, and then the rest
-read_piece : (start c : ℕ) (cs piece rest : Characters) (tokens : List Token) → c ∷ cs ≡ piece ++ rest → IsPiece (row_at (c ∷ cs)) piece rest → Reads (start + length piece) rest tokens → Reads start (c ∷ cs) (row_tokens (row_at (c ∷ cs)) start c cs ++ tokens)
-read_piece start c cs piece rest tokens is form reads = elim (comment_or (row_at (c ∷ cs))) [
+read_piece : (start c : ℕ) (cs piece rest : Characters) (tokens : List Token) → c ∷ cs ≡ piece ++ rest → IsPiece (production_at (c ∷ cs)) piece rest → Reads (start + length piece) rest tokens → Reads start (c ∷ cs) (production_tokens (production_at (c ∷ cs)) start c cs ++ tokens)
+read_piece start c cs piece rest tokens is form reads = elim (comment_or (production_at (c ∷ cs))) [
   | inl comment ↦ rw comment (skip_comment start c cs piece rest tokens is comment (rw comment at form) reads)
-  | inr other ↦ rw (row_token (row_at (c ∷ cs)) start c cs other, piece_size c cs piece rest is form) (take_piece start c cs piece rest tokens is other form reads)
+  | inr other ↦ rw (production_token (production_at (c ∷ cs)) start c cs other, piece_size c cs piece rest is form) (take_piece start c cs piece rest tokens is other form reads)
 ]
 
 -- as its tokens
@@ -54,8 +54,8 @@ reads_from : (n start : ℕ) (text : Characters) → length text ≤ n → Reads
 reads_from n start [] h = nothing_left start
 reads_from zero start (c ∷ cs) h = absurd (omega (arith, h))
 reads_from (suc n) start (c ∷ cs) h =
-    let taken : ℕ = row_len (row_at (c ∷ cs)) c cs in
-    let first : Takes (IsPiece (row_at (c ∷ cs))) (c ∷ cs) taken = takes_first c cs in
+    let taken : ℕ = production_len (production_at (c ∷ cs)) c cs in
+    let first : Takes (IsPiece (production_at (c ∷ cs))) (c ∷ cs) taken = takes_first c cs in
     let piece : Characters = take taken (c ∷ cs) in
     let rest : Characters = drop taken (c ∷ cs) in
     let joined : c ∷ cs ≡ piece ++ rest = sym (take-append-drop taken (c ∷ cs)) in
@@ -89,7 +89,7 @@ stand_from text left (take_piece start c cs piece rest tokens is other form read
     let some : 0 < n = rw (← piece_size c cs piece rest is form) (first_is c cs).some in
     let same : start + n - start ≡ n = omega arith in
     let there : take (start + n - start) (c ∷ cs) ≡ piece = rw same (ap (take n) is ∙ take_at piece rest n refl) in
-    let at : IsAt text (record { start = start; end = start + n }) (token_at start (piece_of (row_at (c ∷ cs)) c cs) n) = record {
+    let at : IsAt text (record { start = start; end = start + n }) (token_at start (piece_of (production_at (c ∷ cs)) c cs) n) = record {
       spanned = refl;
       some = omega (arith, some);
       inside = omega (arith, some, length-drop start text, ap length (left ∙ is), length-append piece rest);

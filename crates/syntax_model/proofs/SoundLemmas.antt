@@ -7,16 +7,16 @@ use Rattle.std.proofs.lemmas.List.Folds.{list_all-append}
 use Rattle.base_model.specs.Lists.{is_nil}
 use Rattle.base_model.specs.Text.{Characters, is_word}
 use Rattle.syntax_model.specs.Letters.{begins, is_blank, is_digit, is_name_start, is_quote, is_sign}
-use Rattle.syntax_model.specs.Units.{len_of, string_unit}
+use Rattle.syntax_model.specs.TextUnits.{len_of, string_unit}
 use Rattle.syntax_model.specs.Numbers.{number_len, starts_number, starts_unsigned}
-use Rattle.syntax_model.specs.Token.{Token, Kind, hash, delim, comma, colon, semicolon, open_round, close_round, open_square, close_square, open_curly, close_curly}
-use Rattle.syntax_model.specs.Kinds.{is_delim}
-use Rattle.syntax_model.specs.Pieces.{Piece, Row, at_row, cdc_row, cdo_row, comment_row, hash_row, ident_piece, ident_row, is_line_feed, mark_kind, mark_row, name_in, name_len, named, number_piece, number_row, plain, quote_follows, row_at, row_len, row_tokens, starts_cdc, starts_cdo, starts_comment, starts_ident, starts_name, string_piece, string_row, token_of, url_piece, white_row}
+use Rattle.syntax_model.specs.Token.{Token, TokenKind, hash, delim, comma, colon, semicolon, open_round, close_round, open_square, close_square, open_curly, close_curly}
+use Rattle.syntax_model.specs.TokenKinds.{is_delim}
+use Rattle.syntax_model.specs.Pieces.{Piece, Production, at_keyword_production, cdc_production, cdo_production, comment_production, hash_production, ident_piece, ident_production, is_line_feed, mark_kind, mark_production, name_in, name_len, named, number_piece, number_production, plain, quote_follows, production_at, production_len, production_tokens, starts_cdc, starts_cdo, starts_comment, starts_ident, starts_name, string_piece, string_production, token_of, url_piece, white_production}
 use Rattle.syntax_model.specs.TokensIn.{tokens_from, tokens_in}
 use Rattle.syntax_model.specs.Written.{is_broken, is_delim_char, is_sound}
 use Rattle.syntax_model.proofs.MarkReads.{kind_is, past}
 use Rattle.syntax_model.proofs.NameFacts.{ident_name_some, name_in_some, no_ident_written}
-use Rattle.syntax_model.proofs.PieceLemmas.{row_any, url_any}
+use Rattle.syntax_model.proofs.PieceLemmas.{production_any, url_any}
 use Rattle.syntax_model.proofs.SpellingLemmas.{number_alone, spelling_as}
 
 -- broken or sound
@@ -61,17 +61,17 @@ record Alone (c : ℕ) (cs : Characters) : Type 0 where
   no_number : starts_number (c ∷ cs) ≡ false
   no_ident : starts_ident (c ∷ cs) ≡ false
 
-alone : (c : ℕ) (cs : Characters) → row_at (c ∷ cs) ≡ mark_row → Alone c cs
+alone : (c : ℕ) (cs : Characters) → production_at (c ∷ cs) ≡ mark_production → Alone c cs
 alone c cs h =
-    let comment = past (starts_comment (c ∷ cs)) comment_row _ refl h in
-    let blank = past (is_blank c) white_row _ refl comment.1 in
-    let quote = past (is_quote c) string_row _ refl blank.1 in
-    let name = past (eqb c 35 && starts_name cs) hash_row _ refl quote.1 in
-    let digits = past (starts_number (c ∷ cs)) number_row _ refl name.1 in
-    let closing = past (starts_cdc (c ∷ cs)) cdc_row _ refl digits.1 in
-    let opening = past (starts_cdo (c ∷ cs)) cdo_row _ refl closing.1 in
-    let at = past (eqb c 64 && starts_ident cs) at_row _ refl opening.1 in
-    let letters = past (starts_ident (c ∷ cs)) ident_row _ refl at.1 in
+    let comment = past (starts_comment (c ∷ cs)) comment_production _ refl h in
+    let blank = past (is_blank c) white_production _ refl comment.1 in
+    let quote = past (is_quote c) string_production _ refl blank.1 in
+    let name = past (eqb c 35 && starts_name cs) hash_production _ refl quote.1 in
+    let digits = past (starts_number (c ∷ cs)) number_production _ refl name.1 in
+    let closing = past (starts_cdc (c ∷ cs)) cdc_production _ refl digits.1 in
+    let opening = past (starts_cdo (c ∷ cs)) cdo_production _ refl closing.1 in
+    let at = past (eqb c 64 && starts_ident cs) at_keyword_production _ refl opening.1 in
+    let letters = past (starts_ident (c ∷ cs)) ident_production _ refl at.1 in
     record { no_blank = blank.0; no_quote = quote.0; no_number = digits.0; no_ident = letters.0 }
 
 no_number_alone : (c : ℕ) (cs : Characters) → starts_number (c ∷ cs) ≡ false → starts_number (c ∷ []) ≡ false
@@ -86,7 +86,7 @@ no_ident_alone : (c : ℕ) (cs : Characters) → eqb c 92 ≡ false → starts_i
 no_ident_alone c cs other h =
     cond_both (eqb c 45) _ _ (λ b. b ≡ false) (λ _. refl) (λ k. or_from _ _ (or_parts (is_name_start c) _ (sym (cond-false _ _ _ k) ∙ h)).0 (and_left _ _ other))
 
-mark_alone : (c : ℕ) (cs : Characters) → eqb c 92 ≡ false → row_at (c ∷ cs) ≡ mark_row → row_at (c ∷ []) ≡ mark_row
+mark_alone : (c : ℕ) (cs : Characters) → eqb c 92 ≡ false → production_at (c ∷ cs) ≡ mark_production → production_at (c ∷ []) ≡ mark_production
 mark_alone c cs other h =
     let facts : Alone c cs = alone c cs h in
     cond-false _ _ _ (and_right _ _ refl)
@@ -98,10 +98,10 @@ mark_alone c cs other h =
     ∙ cond-false _ _ _ (no_ident_alone c cs other facts.no_ident))))))
 
 -- such a character, where it is no mark, is a delim
-delim_alone : (c : ℕ) → row_at (c ∷ []) ≡ mark_row → is_delim c (mark_kind c) ≡ true → is_delim_char c ≡ true
-delim_alone c h k = ap (λ (row : Row). elim row [ mark_row ↦ is_delim c (mark_kind c) | _ ↦ false ]) h ∙ k
+delim_alone : (c : ℕ) → production_at (c ∷ []) ≡ mark_production → is_delim c (mark_kind c) ≡ true → is_delim_char c ≡ true
+delim_alone c h k = ap (λ (production : Production). elim production [ mark_production ↦ is_delim c (mark_kind c) | _ ↦ false ]) h ∙ k
 
-delim_known : (c : ℕ) (cs : Characters) → row_at (c ∷ cs) ≡ mark_row → is_delim c (mark_kind c) ≡ true → IsKnown (plain (delim c) 1)
+delim_known : (c : ℕ) (cs : Characters) → production_at (c ∷ cs) ≡ mark_production → is_delim c (mark_kind c) ≡ true → IsKnown (plain (delim c) 1)
 delim_known c cs h k =
     elim (cases_Bool (eqb c 92)) [
       | inl e ↦ or_left _ _ e
@@ -111,7 +111,7 @@ delim_known c cs h k =
 -- and a mark is sound
 mark_known : (c : ℕ) → is_delim c (mark_kind c) ≡ false → IsKnown (plain (mark_kind c) 1)
 mark_known c =
-    let P : Kind → Type 0 = λ k. is_delim c k ≡ false → IsKnown (plain k 1) in
+    let P : TokenKind → Type 0 = λ k. is_delim c k ≡ false → IsKnown (plain k 1) in
     cond_both (eqb c 44) comma _ P (λ _ _. refl) (λ _.
     cond_both (eqb c 58) colon _ P (λ _ _. refl) (λ _.
     cond_both (eqb c 59) semicolon _ P (λ _ _. refl) (λ _.
@@ -122,17 +122,17 @@ mark_known c =
     cond_both (eqb c 123) open_curly _ P (λ _ _. refl) (λ _.
     cond_both (eqb c 125) close_curly (delim c) P (λ _ _. refl) (λ _ h. absurd (false≢true (sym h ∙ eq-eqb c c refl)))))))))))
 
-one_known : (c : ℕ) (cs : Characters) → row_at (c ∷ cs) ≡ mark_row → IsKnown (plain (mark_kind c) 1)
+one_known : (c : ℕ) (cs : Characters) → production_at (c ∷ cs) ≡ mark_production → IsKnown (plain (mark_kind c) 1)
 one_known c cs h =
     elim (cases_Bool (is_delim c (mark_kind c))) [
-      | inl e ↦ ap (λ (k : Kind). is_known (token_of 0 (plain k 1))) (kind_is c (mark_kind c) e) ∙ delim_known c cs h e
+      | inl e ↦ ap (λ (k : TokenKind). is_known (token_of 0 (plain k 1))) (kind_is c (mark_kind c) e) ∙ delim_known c cs h e
       | inr e ↦ mark_known c e
     ]
 
--- the tokens of one row
-row_known : (start c : ℕ) (cs : Characters) → list_all is_known (row_tokens (row_at (c ∷ cs)) start c cs) ≡ true
-row_known start c cs =
-    row_any (λ row. row_at (c ∷ cs) ≡ row → list_all is_known (row_tokens row start c cs) ≡ true) c cs
+-- the tokens of one production
+production_known : (start c : ℕ) (cs : Characters) → list_all is_known (production_tokens (production_at (c ∷ cs)) start c cs) ≡ true
+production_known start c cs =
+    production_any (λ production. production_at (c ∷ cs) ≡ production → list_all is_known (production_tokens production start c cs) ≡ true) c cs
     (λ _ _. refl)
     (λ _ _. refl)
     (λ _ _. and_from _ _ (string_known c cs) refl)
@@ -149,9 +149,9 @@ tokens_known : (n start : ℕ) (text : Characters) → list_all is_known (tokens
 tokens_known zero start text = refl
 tokens_known (suc n) start [] = refl
 tokens_known (suc n) start (c ∷ cs) =
-    let taken : ℕ = row_len (row_at (c ∷ cs)) c cs in
-    list_all-append is_known (row_tokens (row_at (c ∷ cs)) start c cs) (tokens_from n (start + taken) (drop taken (c ∷ cs)))
-    ∙ and_from _ _ (row_known start c cs) (tokens_known n (start + taken) (drop taken (c ∷ cs)))
+    let taken : ℕ = production_len (production_at (c ∷ cs)) c cs in
+    list_all-append is_known (production_tokens (production_at (c ∷ cs)) start c cs) (tokens_from n (start + taken) (drop taken (c ∷ cs)))
+    ∙ and_from _ _ (production_known start c cs) (tokens_known n (start + taken) (drop taken (c ∷ cs)))
 
 -- Each token of a text is sound, or one of these.
 pub sound_tokens : (text : Characters) → list_all is_known (tokens_in text) ≡ true

@@ -5,11 +5,11 @@ use Rattle.std.proofs.lemmas.Bool.{and_parts, false≢true, not-true}
 use Rattle.base_model.specs.Lists.{is_nil}
 use Rattle.base_model.specs.Text.{Characters, is_word}
 use Rattle.syntax_model.specs.Letters.{begins, is_blank}
-use Rattle.syntax_model.specs.Token.{Said, Span, Token, Kind, ident, function, at_keyword, hash, string, bad_string, url, bad_url, delim, number, percentage, dimension, whitespace, cdo, cdc, colon, semicolon, comma, open_square, close_square, open_round, close_round, open_curly, close_curly}
-use Rattle.syntax_model.specs.Kinds.{is_white}
+use Rattle.syntax_model.specs.Token.{Said, Span, Token, TokenKind, ident, function, at_keyword, hash, string, bad_string, url, bad_url, delim, number, percentage, dimension, whitespace, cdo, cdc, colon, semicolon, comma, open_square, close_square, open_round, close_round, open_curly, close_curly}
+use Rattle.syntax_model.specs.TokenKinds.{is_white}
 use Rattle.syntax_model.specs.Pieces.{quote_follows, starts_ident}
 use Rattle.syntax_model.specs.Written.{ends_itself, is_number, is_sound, name_text, token_text}
-use Rattle.syntax_model.proofs.StopLemmas.{EndsToken}
+use Rattle.syntax_model.proofs.TokenEndLemmas.{EndsToken}
 use Rattle.syntax_model.proofs.TokenReads.{ReadsOne}
 use Rattle.syntax_model.proofs.NamedReads.{at_read, function_read, hash_read, id_read, ident_read}
 use Rattle.syntax_model.proofs.QuotedReads.{string_read, url_read}
@@ -17,11 +17,11 @@ use Rattle.syntax_model.proofs.NumberReads.{dimension_read, number_read, percent
 use Rattle.syntax_model.proofs.MarkReads.{bare, cdc_read, cdo_read, close_curly_read, close_round_read, close_square_read, colon_read, comma_read, delim_read, open_curly_read, open_round_read, open_square_read, semicolon_read, white_read}
 
 -- a token, by its fields
-abbrev pub token : Kind → Characters → Characters → Option Span → Token
+abbrev pub token : TokenKind → Characters → Characters → Option Span → Token
 token kind name spelling span = record { kind = kind; name = name; spelling = spelling; span = span }
 
 -- what is after a token in a list that is written
-pub record Follows (kind : Kind) (name rest : Characters) : Type 0 where
+pub record Follows (kind : TokenKind) (name rest : Characters) : Type 0 where
   pub stop : ends_itself kind ≡ false → EndsToken rest
   pub no_blank : is_white kind ≡ true → begins is_blank rest ≡ false
   pub quote : (elim kind [ function ↦ is_word (codes "url") name | _ ↦ false ]) ≡ true → quote_follows rest ≡ true
@@ -31,23 +31,23 @@ is_empty [] h = refl
 is_empty (c ∷ cs) h = absurd (false≢true h)
 
 -- a token with this kind, whose name and spelling are empty
-of_bare : (kind : Kind) (text name spelling rest : Characters) → (is_nil name && is_nil spelling) ≡ true → ReadsOne text (bare kind) rest → ReadsOne text (record { kind = kind; name = name; spelling = spelling }) rest
+of_bare : (kind : TokenKind) (text name spelling rest : Characters) → (is_nil name && is_nil spelling) ≡ true → ReadsOne text (bare kind) rest → ReadsOne text (record { kind = kind; name = name; spelling = spelling }) rest
 of_bare kind text name spelling rest h reads =
     let parts : (is_nil name ≡ true) × (is_nil spelling ≡ true) = and_parts _ _ h in
     subst (λ (s : Said). ReadsOne text s rest) (ap (λ (x : Characters). record { kind = kind; name = x; spelling = [] }) (sym (is_empty name parts.0)) ∙ ap (λ (x : Characters). record { kind = kind; name = name; spelling = x }) (sym (is_empty spelling parts.1))) reads
 
 -- a token whose spelling is empty
-of_named : (kind : Kind) (text name spelling rest : Characters) → is_nil spelling ≡ true → ReadsOne text (record { kind = kind; name = name; spelling = [] }) rest → ReadsOne text (record { kind = kind; name = name; spelling = spelling }) rest
+of_named : (kind : TokenKind) (text name spelling rest : Characters) → is_nil spelling ≡ true → ReadsOne text (record { kind = kind; name = name; spelling = [] }) rest → ReadsOne text (record { kind = kind; name = name; spelling = spelling }) rest
 of_named kind text name spelling rest h reads =
     subst (λ (s : Said). ReadsOne text s rest) (ap (λ (x : Characters). record { kind = kind; name = name; spelling = x }) (sym (is_empty spelling h))) reads
 
 -- a token whose name is empty
-of_spelled : (kind : Kind) (text name spelling rest : Characters) → is_nil name ≡ true → ReadsOne text (record { kind = kind; name = []; spelling = spelling }) rest → ReadsOne text (record { kind = kind; name = name; spelling = spelling }) rest
+of_spelled : (kind : TokenKind) (text name spelling rest : Characters) → is_nil name ≡ true → ReadsOne text (record { kind = kind; name = []; spelling = spelling }) rest → ReadsOne text (record { kind = kind; name = name; spelling = spelling }) rest
 of_spelled kind text name spelling rest h reads =
     subst (λ (s : Said). ReadsOne text s rest) (ap (λ (x : Characters). record { kind = kind; name = x; spelling = spelling }) (sym (is_empty name h))) reads
 
 -- each token that is sound reads back, where such a text is after it
-pub token_reads : (kind : Kind) (name spelling : Characters) (span : Option Span) (rest : Characters) → is_sound (token kind name spelling span) ≡ true → Follows kind name rest → ReadsOne (token_text (token kind name spelling span)) (record { kind = kind; name = name; spelling = spelling }) rest
+pub token_reads : (kind : TokenKind) (name spelling : Characters) (span : Option Span) (rest : Characters) → is_sound (token kind name spelling span) ≡ true → Follows kind name rest → ReadsOne (token_text (token kind name spelling span)) (record { kind = kind; name = name; spelling = spelling }) rest
 token_reads ident name spelling span rest sound follows =
     let parts = and_parts (not (is_nil name)) (is_nil spelling) sound in
     of_named ident _ name spelling rest parts.1 (ident_read name rest (not-true _ parts.0) (follows.stop refl))

@@ -2,13 +2,13 @@
 use Rattle.std.proofs.Common.{◌≡◌, ℕ, zero, suc, ◌+◌, ◌<◌, ◌≤◌, Bool, true, false, cond, eqb, [], ◌∷◌, length, take, drop, refl, sym, ap, ◌∙◌, arith, inl, inr}
 use Rattle.std.specs.Prelude.{◌&&◌, not}
 use Rattle.std.specs.List.{prefix_len}
-use Rattle.std.proofs.lemmas.Bool.{and_cases, and_from, and_left, and_parts, and_right, cases_Bool, cond-false, cond-true, eq-eqb, false≢true, or_cases, or_left, or_right}
+use Rattle.std.proofs.lemmas.Bool.{and_cases, and_from, and_left, and_parts, and_right, cases_Bool, cond-false, cond-true, eq-eqb, false≢true, or_left, or_right}
 use Rattle.std.proofs.lemmas.List.{drop-drop, drop-take, length-take-le}
 use Rattle.base_model.specs.Text.{Characters}
 use Rattle.syntax_model.specs.Letters.{begins, is_digit, is_e}
 use Rattle.syntax_model.specs.Numbers.{after_fraction, after_sign, after_whole, digits_len, exponent_len, fraction_len, is_integer, number_len, sign_len, starts_fraction, starts_number, starts_unsigned}
 use Rattle.syntax_model.specs.Written.{is_number, is_number_as}
-use Rattle.syntax_model.proofs.PieceLemmas.{number_inside}
+use Rattle.syntax_model.proofs.PieceLemmas.{number_inside, unsigned_some}
 
 -- the beginning of a text begins as the text
 begins_take : (p : ℕ → Bool) (n : ℕ) (text : Characters) → 0 < n → begins p (take n text) ≡ begins p text
@@ -120,19 +120,6 @@ unsigned_from text some =
     no_digits : (text : Characters) → begins is_digit text ≡ false → digits_len text ≡ 0
     no_digits [] h = refl
     no_digits (c ∷ cs) h = cond-false (is_digit c) _ _ h
-
-unsigned_some : (text : Characters) → starts_unsigned text ≡ true → 0 < digits_len text + fraction_len (drop (digits_len text) text)
-unsigned_some text starts =
-    elim (cases_Bool (begins is_digit text)) [
-      | inl e ↦ omega (arith, digits_some text e)
-      | inr e ↦ point text e (elim (or_cases (begins is_digit text) _ starts) [ inl k ↦ absurd (false≢true (sym e ∙ k)) | inr k ↦ k ])
-    ]
-  where
-    point : (text : Characters) → begins is_digit text ≡ false → starts_fraction text ≡ true → 0 < digits_len text + fraction_len (drop (digits_len text) text)
-    point [] h k = absurd (false≢true k)
-    point (c ∷ cs) h k =
-        let none : digits_len (c ∷ cs) ≡ 0 = cond-false (is_digit c) _ _ h in
-        omega (arith, none, ap (λ (m : ℕ). fraction_len (drop m (c ∷ cs))) none, cond-true (starts_fraction (c ∷ cs)) (1 + digits_len cs) 0 k)
 
 -- a number, without what is after it
 pub record IsSpelling (text : Characters) : Type 0 where

@@ -6,20 +6,20 @@ use Rattle.std.proofs.lemmas.Bool.{cond_both, cond-false, cond-true, and_from, a
 use Rattle.std.proofs.lemmas.List.{drop-drop}
 use Rattle.base_model.specs.Text.{Characters, is_word}
 use Rattle.syntax_model.specs.Letters.{begins, is_blank, is_quote}
-use Rattle.syntax_model.specs.Units.{len_of, string_unit}
+use Rattle.syntax_model.specs.TextUnits.{len_of, string_unit}
 use Rattle.syntax_model.specs.Numbers.{number_len}
-use Rattle.syntax_model.specs.Token.{Token, Kind, function, string, bad_string}
-use Rattle.syntax_model.specs.Kinds.{begins_with, is_white, without_white}
-use Rattle.syntax_model.specs.Pieces.{Piece, Row, comment_row, ident_piece, is_line_feed, mark_kind, name_in, name_len, number_piece, piece_of, plain, quote_follows, row_at, row_len, row_tokens, starts_ident, string_piece, string_row, token_of, url_piece, white_row}
+use Rattle.syntax_model.specs.Token.{Token, TokenKind, function, string, bad_string}
+use Rattle.syntax_model.specs.TokenKinds.{begins_with, is_white, without_white}
+use Rattle.syntax_model.specs.Pieces.{Piece, Production, comment_production, ident_piece, is_line_feed, mark_kind, name_in, name_len, number_piece, piece_of, plain, quote_follows, production_at, production_len, production_tokens, starts_ident, string_piece, string_production, token_of, url_piece, white_production}
 use Rattle.syntax_model.specs.TokensIn.{tokens_from, tokens_in}
 use Rattle.syntax_model.specs.Written.{is_bad_string, is_string, is_url_function, urls_go_on}
-use Rattle.syntax_model.proofs.PieceLemmas.{first_is, row_any, url_any}
+use Rattle.syntax_model.proofs.PieceLemmas.{first_is, production_any, url_any}
 
 abbrev NoBad : List Token → Type 0
 NoBad tokens = list_all (λ token. not (is_bad_string token.kind)) tokens ≡ true
 
 -- a string, or a bad one
-abbrev pub is_quoted : Kind → Bool
+abbrev pub is_quoted : TokenKind → Bool
 is_quoted kind = is_string kind || is_bad_string kind
 
 -- such a token comes, with whitespace or none before it
@@ -31,16 +31,16 @@ abbrev pub QuotesFollow : List Token → Type 0
 QuotesFollow [] = Unit
 QuotesFollow (token ∷ tokens) = (is_url_function token ≡ true → QuoteComes tokens) × QuotesFollow tokens
 
--- quotes and blanks decide their rows
-quote_row : (c : ℕ) (cs : Characters) → is_quote c ≡ true → row_at (c ∷ cs) ≡ string_row
-quote_row c cs quote =
+-- quotes and blanks decide their productions
+quote_production : (c : ℕ) (cs : Characters) → is_quote c ≡ true → production_at (c ∷ cs) ≡ string_production
+quote_production c cs quote =
     elim (or_cases (eqb c 34) _ quote) [
       | inl is ↦ rw (eqb-true c 34 is) refl
       | inr is ↦ rw (eqb-true c 39 is) refl
     ]
 
-blank_row : (c : ℕ) (cs : Characters) → is_blank c ≡ true → row_at (c ∷ cs) ≡ white_row
-blank_row c cs blank =
+blank_production : (c : ℕ) (cs : Characters) → is_blank c ≡ true → production_at (c ∷ cs) ≡ white_production
+blank_production c cs blank =
     elim (or_cases (eqb c 10) _ blank) [
       | inl is ↦ rw (eqb-true c 10 is) refl
       | inr other ↦ elim (or_cases (eqb c 9) _ other) [
@@ -56,7 +56,7 @@ string_first start c cs more =
 -- from a quote on
 from_quote : (n start c : ℕ) (cs : Characters) → is_quote c ≡ true → QuoteComes (tokens_from (suc n) start (c ∷ cs))
 from_quote n start c cs quote =
-    rw (quote_row c cs quote) (string_first start c cs (tokens_from n (start + (string_piece c cs).length) (drop (string_piece c cs).length (c ∷ cs))))
+    rw (quote_production c cs quote) (string_first start c cs (tokens_from n (start + (string_piece c cs).length) (drop (string_piece c cs).length (c ∷ cs))))
 
 -- from whitespace on, where a quote comes after it
 past_white : (m start : ℕ) (rest : Characters) → length rest ≤ m → begins is_quote rest ≡ true → QuoteComes (tokens_from m start rest)
@@ -68,7 +68,7 @@ white_first : (n start c : ℕ) (cs : Characters) → length (c ∷ cs) ≤ suc 
 white_first n start c cs h blank quote =
     let k : ℕ = prefix_len is_blank (c ∷ cs) in
     let some : 0 < k = omega (arith, cond-true (is_blank c) (1 + prefix_len is_blank cs) 0 blank) in
-    rw (blank_row c cs blank) (past_white n (start + k) (drop k (c ∷ cs)) (omega (arith, h, some, length-drop k (c ∷ cs))) quote)
+    rw (blank_production c cs blank) (past_white n (start + k) (drop k (c ∷ cs)) (omega (arith, h, some, length-drop k (c ∷ cs))) quote)
 
 quote_after : (n start : ℕ) (text : Characters) → length text ≤ n → quote_follows text ≡ true → QuoteComes (tokens_from n start text)
 quote_after n start [] h quote = absurd (false≢true quote)
@@ -84,11 +84,11 @@ abbrev GoesOn : Characters → Piece → Type 0
 GoesOn text piece = is_url_function (token_of 0 piece) ≡ true → quote_follows (drop piece.length text) ≡ true
 
 -- a token without a name is no such function
-no_name : (kind : Kind) (n : ℕ) → is_url_function (token_of 0 (plain kind n)) ≡ false
+no_name : (kind : TokenKind) (n : ℕ) → is_url_function (token_of 0 (plain kind n)) ≡ false
 no_name function n = refl
 no_name kind n = refl
 
-plain_goes_on : (kind : Kind) (n : ℕ) (text : Characters) → GoesOn text (plain kind n)
+plain_goes_on : (kind : TokenKind) (n : ℕ) (text : Characters) → GoesOn text (plain kind n)
 plain_goes_on kind n text url = absurd (false≢true (sym (no_name kind n) ∙ url))
 
 string_goes_on : (c : ℕ) (cs text : Characters) → GoesOn text (string_piece c cs)
@@ -115,10 +115,10 @@ ident_goes_on text =
     by true none url = rw (← drop-drop 1 (name_len text) text) (not-false _ none)
     by false none url = absurd (false≢true url)
 
-piece_goes_on : (c : ℕ) (cs : Characters) → GoesOn (c ∷ cs) (piece_of (row_at (c ∷ cs)) c cs)
+piece_goes_on : (c : ℕ) (cs : Characters) → GoesOn (c ∷ cs) (piece_of (production_at (c ∷ cs)) c cs)
 piece_goes_on c cs =
-    row_any (λ row. GoesOn (c ∷ cs) (piece_of row c cs)) c cs
-    (λ _. plain_goes_on (piece_of comment_row c cs).kind 1 (c ∷ cs))
+    production_any (λ production. GoesOn (c ∷ cs) (piece_of production c cs)) c cs
+    (λ _. plain_goes_on (piece_of comment_production c cs).kind 1 (c ∷ cs))
     (λ _ url. absurd (false≢true url))
     (λ _. string_goes_on c cs (c ∷ cs))
     (λ _ _ url. absurd (false≢true url))
@@ -129,25 +129,25 @@ piece_goes_on c cs =
     (λ _. ident_goes_on (c ∷ cs))
     (plain_goes_on (mark_kind c) 1 (c ∷ cs))
 
--- the token of a row, before the others
-row_follows : (row : Row) (start c : ℕ) (cs : Characters) (rest : List Token) → (is_url_function (token_of start (piece_of row c cs)) ≡ true → QuoteComes rest) → QuotesFollow rest → QuotesFollow (row_tokens row start c cs ++ rest)
-row_follows comment_row start c cs rest comes later = later
-row_follows row start c cs rest comes later = (comes, later)
+-- the token of a production, before the others
+production_follows : (production : Production) (start c : ℕ) (cs : Characters) (rest : List Token) → (is_url_function (token_of start (piece_of production c cs)) ≡ true → QuoteComes rest) → QuotesFollow rest → QuotesFollow (production_tokens production start c cs ++ rest)
+production_follows comment_production start c cs rest comes later = later
+production_follows production start c cs rest comes later = (comes, later)
 
 -- what comes after the piece is read from where it ends
-url_comes : (n start : ℕ) (row : Row) (c : ℕ) (cs : Characters) → length (drop (row_len row c cs) (c ∷ cs)) ≤ n → GoesOn (c ∷ cs) (piece_of row c cs) → is_url_function (token_of 0 (piece_of row c cs)) ≡ true → QuoteComes (tokens_from n start (drop (row_len row c cs) (c ∷ cs)))
-url_comes n start comment_row c cs h goes url = absurd (false≢true (sym (no_name (mark_kind c) 1) ∙ url))
-url_comes n start row c cs h goes url = quote_after n start (drop (row_len row c cs) (c ∷ cs)) h (goes url)
+url_comes : (n start : ℕ) (production : Production) (c : ℕ) (cs : Characters) → length (drop (production_len production c cs) (c ∷ cs)) ≤ n → GoesOn (c ∷ cs) (piece_of production c cs) → is_url_function (token_of 0 (piece_of production c cs)) ≡ true → QuoteComes (tokens_from n start (drop (production_len production c cs) (c ∷ cs)))
+url_comes n start comment_production c cs h goes url = absurd (false≢true (sym (no_name (mark_kind c) 1) ∙ url))
+url_comes n start production c cs h goes url = quote_after n start (drop (production_len production c cs) (c ∷ cs)) h (goes url)
 
 quotes_from : (n start : ℕ) (text : Characters) → length text ≤ n → QuotesFollow (tokens_from n start text)
 quotes_from zero start text h = tt
 quotes_from (suc n) start [] h = tt
 quotes_from (suc n) start (c ∷ cs) h =
-    let row : Row = row_at (c ∷ cs) in
-    let taken : ℕ = row_len row c cs in
+    let production : Production = production_at (c ∷ cs) in
+    let taken : ℕ = production_len production c cs in
     let rest : Characters = drop taken (c ∷ cs) in
     let inside : length rest ≤ n = omega (arith, h, (first_is c cs).some, length-drop taken (c ∷ cs)) in
-    row_follows row start c cs (tokens_from n (start + taken) rest) (url_comes n (start + taken) row c cs inside (piece_goes_on c cs)) (quotes_from n (start + taken) rest inside)
+    production_follows production start c cs (tokens_from n (start + taken) rest) (url_comes n (start + taken) production c cs inside (piece_goes_on c cs)) (quotes_from n (start + taken) rest inside)
 
 -- In the tokens of a text, a string or a bad one follows each function `url`.
 pub quotes_in : (text : Characters) → QuotesFollow (tokens_in text)
@@ -156,7 +156,7 @@ quotes_in text = quotes_from (length text) 0 text (omega arith)
 
 -- without bad strings it is a string
 
-quoted_string : (kind : Kind) → not (is_bad_string kind) ≡ true → is_quoted kind ≡ true → is_string kind ≡ true
+quoted_string : (kind : TokenKind) → not (is_bad_string kind) ≡ true → is_quoted kind ≡ true → is_string kind ≡ true
 quoted_string string good h = refl
 quoted_string bad_string good h = absurd (false≢true good)
 quoted_string kind good h = absurd (false≢true h)

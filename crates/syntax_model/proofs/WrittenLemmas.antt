@@ -7,20 +7,20 @@ use Rattle.std.specs.List.{prefix_len}
 use Rattle.base_model.specs.Lists.{is_nil}
 use Rattle.base_model.specs.Text.{Characters, is_word}
 use Rattle.syntax_model.specs.Letters.{begins, is_blank, is_quote}
-use Rattle.syntax_model.specs.Token.{Span, Token, said, Kind, ident, function, hash, string, delim, number, percentage, dimension, whitespace}
-use Rattle.syntax_model.specs.Kinds.{begins_with, is_white, without_white}
+use Rattle.syntax_model.specs.Token.{Span, Token, said, TokenKind, ident, function, hash, string, delim, number, percentage, dimension, whitespace}
+use Rattle.syntax_model.specs.TokenKinds.{begins_with, is_white, without_white}
 use Rattle.syntax_model.specs.Pieces.{quote_follows}
 use Rattle.syntax_model.specs.TokensIn.{tokens_from, tokens_in}
 use Rattle.syntax_model.specs.Written.{begins_itself, ends_itself, gap, goes_before, ident_text, is_number, is_sound, is_string, is_writable, token_text, unit_text, written}
 use Rattle.syntax_model.proofs.IdentLemmas.{ident_text_starts}
-use Rattle.syntax_model.proofs.RowLemmas.{ident_no, number_no_blank}
-use Rattle.syntax_model.proofs.StopLemmas.{gap_stops, ends_token}
+use Rattle.syntax_model.proofs.ProductionLemmas.{ident_no, number_no_blank}
+use Rattle.syntax_model.proofs.TokenEndLemmas.{gap_stops, ends_token}
 use Rattle.syntax_model.proofs.TokenReads.{ReadsOne}
 use Rattle.syntax_model.proofs.SoundReads.{Follows, token, token_reads}
 use Rattle.syntax_model.proofs.MarkReads.{delim_no_blank}
 
 -- no token but whitespace begins with a blank
-no_blank_begins : (kind : Kind) (name spelling : Characters) (span : Option Span) (more : Characters) → is_sound (token kind name spelling span) ≡ true → is_white kind ≡ false → begins is_blank (token_text (token kind name spelling span) ++ more) ≡ false
+no_blank_begins : (kind : TokenKind) (name spelling : Characters) (span : Option Span) (more : Characters) → is_sound (token kind name spelling span) ≡ true → is_white kind ≡ false → begins is_blank (token_text (token kind name spelling span) ++ more) ≡ false
 no_blank_begins ident name spelling span more sound other =
     (ident_no (ident_text name ++ more) (ident_text_starts name more (not-true _ (and_parts (not (is_nil name)) (is_nil spelling) sound).0))).0
 no_blank_begins function name spelling span more sound other =
@@ -71,7 +71,7 @@ quote_past_blank : (text : Characters) → quote_follows text ≡ true → quote
 quote_past_blank text h = ap (begins is_quote) (sym (drop-drop (prefix_len is_blank text) 1 (32 ∷ text))) ∙ h
 
 -- a string after optional whitespace is written as a quote after optional blanks
-quote_first : (kind : Kind) (name spelling : Characters) (span : Option Span) (tokens : List Token) → (begins_with is_string (without_white tokens) ≡ true → quote_follows (written tokens) ≡ true) → begins_with is_string (without_white (token kind name spelling span ∷ tokens)) ≡ true → quote_follows (token_text (token kind name spelling span) ++ (gap kind tokens ++ written tokens)) ≡ true
+quote_first : (kind : TokenKind) (name spelling : Characters) (span : Option Span) (tokens : List Token) → (begins_with is_string (without_white tokens) ≡ true → quote_follows (written tokens) ≡ true) → begins_with is_string (without_white (token kind name spelling span ∷ tokens)) ≡ true → quote_follows (token_text (token kind name spelling span) ++ (gap kind tokens ++ written tokens)) ≡ true
 quote_first whitespace name spelling span tokens later h =
     quote_past_blank (gap whitespace tokens ++ written tokens) (ap (λ (w : Characters). quote_follows (w ++ written tokens)) (white_gap tokens) ∙ later h)
 quote_first string name spelling span tokens later h = refl
@@ -83,12 +83,12 @@ quote_written (next ∷ tokens) h =
     ap quote_follows (written_is next tokens) ∙ quote_first next.kind next.name next.spelling next.span tokens (quote_written tokens) h
 
 -- after whitespace and after a function, what is written is what goes before it
-white_follows : (kind : Kind) (name spelling : Characters) (span : Option Span) (tokens : List Token) → goes_before (token kind name spelling span) tokens ≡ true → is_writable tokens ≡ true → is_white kind ≡ true → begins is_blank (gap kind tokens ++ written tokens) ≡ false
+white_follows : (kind : TokenKind) (name spelling : Characters) (span : Option Span) (tokens : List Token) → goes_before (token kind name spelling span) tokens ≡ true → is_writable tokens ≡ true → is_white kind ≡ true → begins is_blank (gap kind tokens ++ written tokens) ≡ false
 white_follows whitespace name spelling span tokens goes writable h =
     ap (λ (w : Characters). begins is_blank (w ++ written tokens)) (white_gap tokens) ∙ no_blank_first tokens writable (not-true _ goes)
 white_follows kind name spelling span tokens goes writable h = absurd (false≢true h)
 
-quote_after : (kind : Kind) (name spelling : Characters) (span : Option Span) (tokens : List Token) → goes_before (token kind name spelling span) tokens ≡ true → (elim kind [ function ↦ is_word (codes "url") name | _ ↦ false ]) ≡ true → quote_follows (gap kind tokens ++ written tokens) ≡ true
+quote_after : (kind : TokenKind) (name spelling : Characters) (span : Option Span) (tokens : List Token) → goes_before (token kind name spelling span) tokens ≡ true → (elim kind [ function ↦ is_word (codes "url") name | _ ↦ false ]) ≡ true → quote_follows (gap kind tokens ++ written tokens) ≡ true
 quote_after function name spelling span tokens goes h =
     ap (λ (w : Characters). quote_follows (w ++ written tokens)) (function_gap tokens) ∙ quote_written tokens (sym (cond-true _ _ _ h) ∙ goes)
 quote_after kind name spelling span tokens goes h = absurd (false≢true h)
@@ -112,7 +112,7 @@ past_comment : (tokens : List Token) → ReadsList tokens → (n start : ℕ) �
 past_comment tokens reads zero start h = absurd (omega (arith, h))
 past_comment tokens reads (suc n) start h = ap (map said) (over_comment n start (written tokens)) ∙ reads n (start + 4) (omega (arith, h))
 
-over_gap : (kind : Kind) (tokens : List Token) → ReadsList tokens → (n start : ℕ) → length (gap kind tokens ++ written tokens) ≤ n → map said (tokens_from n start (gap kind tokens ++ written tokens)) ≡ map said tokens
+over_gap : (kind : TokenKind) (tokens : List Token) → ReadsList tokens → (n start : ℕ) → length (gap kind tokens ++ written tokens) ≤ n → map said (tokens_from n start (gap kind tokens ++ written tokens)) ≡ map said tokens
 over_gap kind [] reads n start = λ h. reads n start h
 over_gap kind (next ∷ tokens) reads n start =
     cond_both (ends_itself kind || begins_itself next.kind) _ _ (λ (w : Characters). length (w ++ written (next ∷ tokens)) ≤ n → map said (tokens_from n start (w ++ written (next ∷ tokens))) ≡ map said (next ∷ tokens)) (λ _ h. reads n start h) (λ _ h. past_comment (next ∷ tokens) reads n start h)

@@ -1,7 +1,7 @@
 -- Brackets, and what is outside them (css-syntax-3, section 5.4).
 use Rattle.std.specs.Prelude.{ℕ, nat_le, List, [], ◌∷◌, ◌++◌, length, Bool, true, false, ◌&&◌, Option, Some, None}
 use Rattle.std.specs.Prelude.{if◌then◌else◌}
-use Rattle.syntax_model.specs.Token.{Token, Kind, function, open_square, close_square, open_round, close_round}
+use Rattle.syntax_model.specs.Token.{Token, TokenKind, function, open_square, close_square, open_round, close_round}
 use Rattle.syntax_model.specs.Token.{open_curly, close_curly}
 
 pub data Bracket : Type 0 where
@@ -10,14 +10,14 @@ pub data Bracket : Type 0 where
   curly : Bracket
 
 -- a function opens a round bracket too
-abbrev pub opened_by : Kind → Option Bracket
+abbrev pub opened_by : TokenKind → Option Bracket
 opened_by open_square = Some square
 opened_by open_round = Some round
 opened_by function = Some round
 opened_by open_curly = Some curly
 opened_by kind = None
 
-abbrev pub closed_by : Kind → Option Bracket
+abbrev pub closed_by : TokenKind → Option Bracket
 closed_by close_square = Some square
 closed_by close_round = Some round
 closed_by close_curly = Some curly
@@ -49,7 +49,7 @@ abbrev pub open_after : List Bracket → List Token → List Bracket
 open_after pending [] = pending
 open_after pending (token ∷ tokens) = open_after (open_past pending token) tokens
 
-abbrev pub closer_kind : Bracket → Kind
+abbrev pub closer_kind : Bracket → TokenKind
 closer_kind square = close_square
 closer_kind round = close_round
 closer_kind curly = close_curly

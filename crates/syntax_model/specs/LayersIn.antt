@@ -6,7 +6,7 @@ use Rattle.base_model.specs.Lists.{is_nil, split_by, every}
 use Rattle.base_model.specs.Options.{◌>>=◌}
 use Rattle.layer_model.specs.Name.{Part, named, anonymous, LayerName, part_limit}
 use Rattle.syntax_model.specs.Token.{Token}
-use Rattle.syntax_model.specs.Kinds.{is_ident, is_delim, is_comma, without_white, trimmed}
+use Rattle.syntax_model.specs.TokenKinds.{is_ident, is_delim, is_comma, without_white, trimmed}
 use Rattle.syntax_model.specs.Wide.{wide_named}
 use Rattle.syntax_model.specs.Rules.{SheetEdition, Context}
 

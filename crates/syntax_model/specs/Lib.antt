@@ -2,13 +2,13 @@ pub mod Token
 pub mod Preprocess
 pub mod Signs
 pub mod Letters
-pub mod Units
+pub mod TextUnits
 pub mod Numbers
 pub mod Pieces
 pub mod TokensIn
 pub mod Reading
 pub mod Spans
-pub mod Kinds
+pub mod TokenKinds
 pub mod Brackets
 pub mod Outside
 pub mod Wide

@@ -7,7 +7,7 @@ use Rattle.base_model.specs.Text.{Characters}
 use Rattle.base_model.specs.Thousandths.{clamped, rounded}
 use Rattle.syntax_model.specs.Letters.{begins, is_digit, is_e, is_sign}
 use Rattle.syntax_model.specs.Token.{Token, number, percentage, dimension}
-use Rattle.syntax_model.specs.Units.{one_if}
+use Rattle.syntax_model.specs.TextUnits.{one_if}
 
 -- a point and a digit
 abbrev pub starts_fraction : Characters → Bool
@@ -93,8 +93,8 @@ unfoldable pub thousandths : Characters → ℤ
 thousandths text = clamped (if is_minus text then neg_ℤ (size text) else size text)
 
 -- the value of a number, a percentage or a dimension, in thousandths
-abbrev pub value_of : Token → Option ℤ
-value_of token = elim token.kind [
+abbrev pub numeric_value : Token → Option ℤ
+numeric_value token = elim token.kind [
   | number is_integer ↦ Some (thousandths token.spelling)
   | percentage ↦ Some (thousandths token.spelling)
   | dimension is_integer ↦ Some (thousandths token.spelling)

@@ -1,5 +1,5 @@
--- The pieces of a preprocessed text: which row of the grammar fits where one begins, and what it is (css-syntax-3,
--- section 4.3).
+-- The pieces of a preprocessed text: which production of the grammar fits where one begins, and what it is
+-- (css-syntax-3, section 4.3).
 use Rattle.std.specs.Prelude.{ℕ, ◌+◌, ◌==◌, List, [], ◌∷◌, take, drop, codes}
 use Rattle.std.specs.Prelude.{Bool, false, not, ◌&&◌, ◌||◌, if◌then◌else◌, Some}
 use Rattle.std.specs.List.{prefix_len}
@@ -11,27 +11,28 @@ use Rattle.base_model.specs.Text.{Characters, is_word}
 use Rattle.syntax_model.specs.Signs.{exclamation_mark, percent_sign, solidus, less_than_sign, greater_than_sign}
 use Rattle.syntax_model.specs.Signs.{commercial_at}
 use Rattle.syntax_model.specs.Letters.{begins, is_blank, is_name_char, is_name_start, is_quote}
-use Rattle.syntax_model.specs.Units.{starts_escape, one_if, name_unit, string_unit, url_unit, remnant_unit}
-use Rattle.syntax_model.specs.Units.{comment_unit, len_of, said_of}
+use Rattle.syntax_model.specs.TextUnits.{starts_escape, one_if, name_unit, string_unit, url_unit, remnant_unit}
+use Rattle.syntax_model.specs.TextUnits.{comment_unit, len_of, said_of}
 use Rattle.syntax_model.specs.Numbers.{starts_number, number_len, is_integer}
-use Rattle.syntax_model.specs.Token.{Token, Kind, ident, function, at_keyword, hash, string, bad_string, url, bad_url, delim}
+use Rattle.syntax_model.specs.Token.{Token, TokenKind, ident, function, at_keyword, hash, string, bad_string, url}
+use Rattle.syntax_model.specs.Token.{bad_url, delim}
 use Rattle.syntax_model.specs.Token.{number, percentage, dimension, whitespace, cdo, cdc, colon, semicolon, comma}
 use Rattle.syntax_model.specs.Token.{open_square, close_square, open_round, close_round, open_curly, close_curly}
 
--- The rows of the grammar, in the order in which they are tried.
-pub data Row : Type 0 where
-  comment_row : Row
-  white_row : Row
-  string_row : Row
-  hash_row : Row
-  number_row : Row
-  cdc_row : Row
-  cdo_row : Row
-  at_row : Row
+-- The productions of the grammar, in the order in which they are tried.
+pub data Production : Type 0 where
+  comment_production : Production
+  white_production : Production
+  string_production : Production
+  hash_production : Production
+  number_production : Production
+  cdc_production : Production
+  cdo_production : Production
+  at_keyword_production : Production
   -- an identifier, a function or a url
-  ident_row : Row
+  ident_production : Production
   -- one character
-  mark_row : Row
+  mark_production : Production
 
 -- `/` and `*`
 abbrev pub starts_comment : Characters → Bool
@@ -61,23 +62,23 @@ starts_cdo (a ∷ b ∷ c ∷ d ∷ cs) =
     (a == less_than_sign) && ((b == exclamation_mark) && ((c == hyphen) && (d == hyphen)))
 starts_cdo cs = false
 
--- The row of the piece that a text begins with: the first that fits. Four characters decide.
-abbrev pub row_at : Characters → Row
-row_at [] = mark_row
-row_at (c ∷ cs) =
-    if starts_comment (c ∷ cs) then comment_row
-    else if is_blank c then white_row
-    else if is_quote c then string_row
-    else if (c == number_sign) && starts_name cs then hash_row
-    else if starts_number (c ∷ cs) then number_row
-    else if starts_cdc (c ∷ cs) then cdc_row
-    else if starts_cdo (c ∷ cs) then cdo_row
-    else if (c == commercial_at) && starts_ident cs then at_row
-    else if starts_ident (c ∷ cs) then ident_row
-    else mark_row
+-- The production of the piece that a text begins with: the first that fits. Four characters decide.
+abbrev pub production_at : Characters → Production
+production_at [] = mark_production
+production_at (c ∷ cs) =
+    if starts_comment (c ∷ cs) then comment_production
+    else if is_blank c then white_production
+    else if is_quote c then string_production
+    else if (c == number_sign) && starts_name cs then hash_production
+    else if starts_number (c ∷ cs) then number_production
+    else if starts_cdc (c ∷ cs) then cdc_production
+    else if starts_cdo (c ∷ cs) then cdo_production
+    else if (c == commercial_at) && starts_ident cs then at_keyword_production
+    else if starts_ident (c ∷ cs) then ident_production
+    else mark_production
 
 -- the token of one character
-abbrev pub mark_kind : ℕ → Kind
+abbrev pub mark_kind : ℕ → TokenKind
 mark_kind c =
     if c == comma_sign then comma
     else if c == colon_sign then colon
@@ -92,15 +93,15 @@ mark_kind c =
 
 -- What a token says, and how many characters its text has.
 pub record Piece : Type 0 where
-  pub kind : Kind
+  pub kind : TokenKind
   pub name : Characters
   pub spelling : Characters
   pub length : ℕ
 
-abbrev pub plain : Kind → ℕ → Piece
+abbrev pub plain : TokenKind → ℕ → Piece
 plain kind length = record { kind = kind; name = []; spelling = []; length = length }
 
-abbrev pub named : Kind → Characters → ℕ → Piece
+abbrev pub named : TokenKind → Characters → ℕ → Piece
 named kind name length = record { kind = kind; name = name; spelling = []; length = length }
 
 abbrev pub name_len : Characters → ℕ
@@ -170,26 +171,26 @@ ident_piece text =
     else if is_word (codes "url") name && not (quote_follows (drop 1 rest)) then url_piece (taken + 1) (drop 1 rest)
     else named function name (taken + 1)
 
--- the piece of a row that a text begins with, by its first character and the others
-abbrev pub piece_of : Row → ℕ → Characters → Piece
-piece_of white_row c cs = plain whitespace (prefix_len is_blank (c ∷ cs))
-piece_of string_row c cs = string_piece c cs
-piece_of hash_row c cs = named (hash (starts_ident cs)) (name_in cs) (1 + name_len cs)
-piece_of number_row c cs = number_piece (c ∷ cs)
-piece_of cdc_row c cs = plain cdc 3
-piece_of cdo_row c cs = plain cdo 4
-piece_of at_row c cs = named at_keyword (name_in cs) (1 + name_len cs)
-piece_of ident_row c cs = ident_piece (c ∷ cs)
-piece_of row c cs = plain (mark_kind c) 1
+-- the piece of a production that a text begins with, by its first character and the others
+abbrev pub piece_of : Production → ℕ → Characters → Piece
+piece_of white_production c cs = plain whitespace (prefix_len is_blank (c ∷ cs))
+piece_of string_production c cs = string_piece c cs
+piece_of hash_production c cs = named (hash (starts_ident cs)) (name_in cs) (1 + name_len cs)
+piece_of number_production c cs = number_piece (c ∷ cs)
+piece_of cdc_production c cs = plain cdc 3
+piece_of cdo_production c cs = plain cdo 4
+piece_of at_keyword_production c cs = named at_keyword (name_in cs) (1 + name_len cs)
+piece_of ident_production c cs = ident_piece (c ∷ cs)
+piece_of production c cs = plain (mark_kind c) 1
 
 -- after `/*`: up to `*/` or the end of input (section 4.3.2)
 abbrev pub comment_len : Characters → ℕ
 comment_len text = let taken = len_of comment_unit text in taken + (if is_nil (drop taken text) then 0 else 2)
 
 -- how many characters the piece has
-abbrev pub row_len : Row → ℕ → Characters → ℕ
-row_len comment_row c cs = 2 + comment_len (drop 1 cs)
-row_len row c cs = (piece_of row c cs).length
+abbrev pub production_len : Production → ℕ → Characters → ℕ
+production_len comment_production c cs = 2 + comment_len (drop 1 cs)
+production_len production c cs = (piece_of production c cs).length
 
 -- the token of a piece whose text begins at an offset
 abbrev pub token_of : ℕ → Piece → Token
@@ -201,6 +202,6 @@ token_of start piece = record {
 }
 
 -- a comment is no token
-abbrev pub row_tokens : Row → ℕ → ℕ → Characters → List Token
-row_tokens comment_row start c cs = []
-row_tokens row start c cs = token_of start (piece_of row c cs) ∷ []
+abbrev pub production_tokens : Production → ℕ → ℕ → Characters → List Token
+production_tokens comment_production start c cs = []
+production_tokens production start c cs = token_of start (piece_of production c cs) ∷ []

@@ -9,12 +9,14 @@ use Rattle.base_model.specs.Text.{Characters, is_word}
 use Rattle.syntax_model.specs.Signs.{exclamation_mark, percent_sign, solidus, less_than_sign, greater_than_sign}
 use Rattle.syntax_model.specs.Signs.{commercial_at}
 use Rattle.syntax_model.specs.Letters.{begins, is_blank, is_digit, is_e, is_sign}
-use Rattle.syntax_model.specs.Units.{Unit, name_unit, string_unit, url_unit, remnant_unit, comment_unit}
+use Rattle.syntax_model.specs.TextUnits.{TextUnit, name_unit, string_unit, url_unit, remnant_unit, comment_unit}
 use Rattle.syntax_model.specs.Numbers.{after_sign, starts_fraction}
 use Rattle.syntax_model.specs.Token.{Token, Said}
-use Rattle.syntax_model.specs.Pieces.{Piece, Row, at_row, cdc_row, cdo_row, comment_row, hash_row, ident_row, is_closing}
-use Rattle.syntax_model.specs.Pieces.{is_line_feed, mark_row, number_row, piece_of, quote_follows, row_at, starts_ident}
-use Rattle.syntax_model.specs.Pieces.{string_row, white_row}
+use Rattle.syntax_model.specs.Pieces.{Piece, Production, at_keyword_production, cdc_production, cdo_production}
+use Rattle.syntax_model.specs.Pieces.{comment_production, hash_production, ident_production, is_closing}
+use Rattle.syntax_model.specs.Pieces.{is_line_feed, mark_production, number_production, piece_of, quote_follows}
+use Rattle.syntax_model.specs.Pieces.{production_at, starts_ident}
+use Rattle.syntax_model.specs.Pieces.{string_production, white_production}
 
 -- A form of pieces: it says of some characters, and of what comes after them, that they are a piece of the form there.
 abbrev pub Form : Type 1
@@ -39,14 +41,14 @@ pub record IsSpan (passes : ℕ → Bool) (piece rest : Characters) : Type 0 whe
 
 -- Units, as many as there are, which together say a text: the run ends where no unit begins; else its first characters
 -- are a unit, and the others are a run.
-pub data IsRun (unit : Characters → Unit) : Characters → Characters → Characters → Type 0 where
+pub data IsRun (unit : Characters → TextUnit) : Characters → Characters → Characters → Type 0 where
   run_end : (rest : Characters) → (unit rest).taken ≡ 0 → IsRun unit [] [] rest
   run_unit : (first more rest said : Characters)
       → first ≢ [] → (unit (first ++ (more ++ rest))).taken ≡ length first → IsRun unit said more rest
       → IsRun unit (option_to_list (unit (first ++ (more ++ rest))).said ++ said) (first ++ more) rest
 
 -- such a run, whatever it says
-abbrev pub IsUnits : (Characters → Unit) → Form
+abbrev pub IsUnits : (Characters → TextUnit) → Form
 IsUnits unit piece rest = (said : Characters) × IsRun unit said piece rest
 
 -- characters of one form, and then of another
@@ -161,21 +163,21 @@ IsNamed name = Then (IsRun name_unit name) (IsAfterName name)
 abbrev pub IsIdentLike : Form
 IsIdentLike piece rest = (name : Characters) × IsNamed name piece rest
 
--- the form of the pieces of a row
-abbrev pub IsPiece : Row → Form
-IsPiece comment_row = IsComment
+-- the form of the pieces of a production
+abbrev pub IsPiece : Production → Form
+IsPiece comment_production = IsComment
 -- whitespace, as much as there is
-IsPiece white_row = IsSpan is_blank
-IsPiece string_row = IsString
-IsPiece hash_row = IsNameAfter number_sign
-IsPiece number_row = Then IsNumber IsSuffix
+IsPiece white_production = IsSpan is_blank
+IsPiece string_production = IsString
+IsPiece hash_production = IsNameAfter number_sign
+IsPiece number_production = Then IsNumber IsSuffix
 -- `-->` and `<!--`
-IsPiece cdc_row = IsText (hyphen ∷ hyphen ∷ greater_than_sign ∷ [])
-IsPiece cdo_row = IsText (less_than_sign ∷ exclamation_mark ∷ hyphen ∷ hyphen ∷ [])
-IsPiece at_row = IsNameAfter commercial_at
-IsPiece ident_row = IsIdentLike
+IsPiece cdc_production = IsText (hyphen ∷ hyphen ∷ greater_than_sign ∷ [])
+IsPiece cdo_production = IsText (less_than_sign ∷ exclamation_mark ∷ hyphen ∷ hyphen ∷ [])
+IsPiece at_keyword_production = IsNameAfter commercial_at
+IsPiece ident_production = IsIdentLike
 -- any other character
-IsPiece mark_row = IsOne (λ c. true)
+IsPiece mark_production = IsOne (λ c. true)
 
 -- what a piece says, apart from where it is
 abbrev pub said_by : Piece → Said
@@ -190,17 +192,18 @@ token_at start piece size = record {
   span = Some (record { start = start; end = start + size });
 }
 
--- The text from an offset on is the join of pieces, each a comment or the text of one token: no earlier row fits at its
--- place, and it is a piece of its row before what follows it.
+-- The text from an offset on is the join of pieces, each a comment or the text of one token: no earlier production fits
+-- at its place, and it is a piece of its production before what follows it.
 pub data Reads : ℕ → Characters → List Token → Type 0 where
   nothing_left : (start : ℕ) → Reads start [] []
   skip_comment : (start c : ℕ) (cs piece rest : Characters) (tokens : List Token)
-      → c ∷ cs ≡ piece ++ rest → row_at (c ∷ cs) ≡ comment_row → IsPiece comment_row piece rest
+      → c ∷ cs ≡ piece ++ rest → production_at (c ∷ cs) ≡ comment_production → IsPiece comment_production piece rest
       → Reads (start + length piece) rest tokens → Reads start (c ∷ cs) tokens
   take_piece : (start c : ℕ) (cs piece rest : Characters) (tokens : List Token)
-      → c ∷ cs ≡ piece ++ rest → row_at (c ∷ cs) ≢ comment_row → IsPiece (row_at (c ∷ cs)) piece rest
+      → c ∷ cs ≡ piece ++ rest
+      → production_at (c ∷ cs) ≢ comment_production → IsPiece (production_at (c ∷ cs)) piece rest
       → Reads (start + length piece) rest tokens
-      → Reads start (c ∷ cs) (token_at start (piece_of (row_at (c ∷ cs)) c cs) (length piece) ∷ tokens)
+      → Reads start (c ∷ cs) (token_at start (piece_of (production_at (c ∷ cs)) c cs) (length piece) ∷ tokens)
 
 abbrev pub Reading : Characters → List Token → Type 0
 Reading text tokens = Reads 0 text tokens

@@ -7,19 +7,20 @@ use Rattle.base_model.specs.Lists.{is_nil}
 use Rattle.base_model.specs.Options.{◌>>=◌}
 use Rattle.base_model.specs.Text.{Characters, is_word}
 use Rattle.syntax_model.specs.Signs.{exclamation_mark}
-use Rattle.syntax_model.specs.Token.{Token, Kind}
-use Rattle.syntax_model.specs.Kinds.{is_white, is_ident, is_at_keyword, is_delim, is_cdo, is_cdc, is_colon, is_semicolon}
-use Rattle.syntax_model.specs.Kinds.{is_open_curly, is_close_curly, is_between, without_white, trimmed}
+use Rattle.syntax_model.specs.Token.{Token, TokenKind}
+use Rattle.syntax_model.specs.TokenKinds.{is_white, is_ident, is_at_keyword, is_delim, is_cdo, is_cdc, is_colon}
+use Rattle.syntax_model.specs.TokenKinds.{is_semicolon}
+use Rattle.syntax_model.specs.TokenKinds.{is_open_curly, is_close_curly, is_between, without_white, trimmed}
 use Rattle.syntax_model.specs.Brackets.{Bracket, curly, open_past, closed, is_shallow}
 use Rattle.syntax_model.specs.Outside.{up_to, from_first}
 use Rattle.syntax_model.specs.Rules.{Declaration, Head, qualified_head, at_head, Piece, qualified_rule, at_rule}
 
 -- skipped between rules: whitespace, and at the top level CDO and CDC
-abbrev pub is_between_rules : Bool → Kind → Bool
+abbrev pub is_between_rules : Bool → TokenKind → Bool
 is_between_rules top kind = is_white kind || (top && (is_cdo kind || is_cdc kind))
 
 -- an at-rule may end with a semicolon; in a qualified rule it is a token like any other
-abbrev pub is_last : Head → Kind → Bool
+abbrev pub is_last : Head → TokenKind → Bool
 is_last qualified_head kind = false
 is_last (at_head name) kind = is_semicolon kind
 

@@ -12,11 +12,11 @@ use Rattle.syntax_model.specs.RulesIn.{pieces_in}
 use Rattle.syntax_model.specs.LayersIn.{layers_declared, is_anonymous, block_layer}
 
 -- What a part of a text gives: rules, and how many anonymous layers there are in the text up to its end.
-pub record Found : Type 0 where
+pub record RulesFound : Type 0 where
   pub rules : List Rule
   pub anonymous : ℕ
 
-abbrev pub found : List Rule → ℕ → Found
+abbrev pub found : List Rule → ℕ → RulesFound
 found rules anonymous = record { rules = rules; anonymous = anonymous }
 
 -- a qualified rule is dropped where its prelude has brackets nested too deep
@@ -38,20 +38,20 @@ counted count prelude = if is_anonymous prelude then count + 1 else count
 
 -- what reads a block that is in this context and comes after so many anonymous layers
 abbrev pub BlockReader : Type 0
-BlockReader = Context → ℕ → List Token → Found
+BlockReader = Context → ℕ → List Token → RulesFound
 
-abbrev pub in_layer : BlockReader → Option Context → ℕ → List Token → Found
+abbrev pub in_layer : BlockReader → Option Context → ℕ → List Token → RulesFound
 in_layer read None count block = found [] count
 in_layer read (Some inner) count block =
     let inside = read inner count block in found (layer inner ∷ inside.rules) inside.anonymous
 
 -- `@layer` with a block: the layer is declared, and what is in the block is in it; any other at-rule is dropped
-abbrev pub block_found : BlockReader → SheetEdition → Context → ℕ → Characters → List Token → List Token → Found
+abbrev pub block_found : BlockReader → SheetEdition → Context → ℕ → Characters → List Token → List Token → RulesFound
 block_found read edition context count name prelude block =
     if is_layer_name name then in_layer read (block_layer edition count context prelude) (counted count prelude) block
     else found [] count
 
-abbrev pub piece_found : BlockReader → SheetEdition → Context → ℕ → Piece → Found
+abbrev pub piece_found : BlockReader → SheetEdition → Context → ℕ → Piece → RulesFound
 piece_found read edition context count (qualified_rule prelude block) =
     found (qualified_found context prelude block) count
 piece_found read edition context count (at_rule name prelude None) =
@@ -59,7 +59,7 @@ piece_found read edition context count (at_rule name prelude None) =
 piece_found read edition context count (at_rule name prelude (Some block)) =
     block_found read edition context count name prelude block
 
-abbrev pub pieces_found : BlockReader → SheetEdition → Context → ℕ → List Piece → Found
+abbrev pub pieces_found : BlockReader → SheetEdition → Context → ℕ → List Piece → RulesFound
 pieces_found read edition context count [] = found [] count
 pieces_found read edition context count (piece ∷ pieces) =
     let first = piece_found read edition context count piece in

@@ -2,33 +2,33 @@
 use Rattle.std.specs.Prelude.{ℕ, Bool, Option}
 use Rattle.base_model.specs.Text.{Characters}
 
-pub data Kind : Type 0 where
-  ident : Kind
-  function : Kind
-  at_keyword : Kind
+pub data TokenKind : Type 0 where
+  ident : TokenKind
+  function : TokenKind
+  at_keyword : TokenKind
   -- whether the name is an identifier (type id), else unrestricted
-  hash : Bool → Kind
-  string : Kind
-  bad_string : Kind
-  url : Kind
-  bad_url : Kind
-  delim : ℕ → Kind
+  hash : Bool → TokenKind
+  string : TokenKind
+  bad_string : TokenKind
+  url : TokenKind
+  bad_url : TokenKind
+  delim : ℕ → TokenKind
   -- whether it is an integer
-  number : Bool → Kind
-  percentage : Kind
-  dimension : Bool → Kind
-  whitespace : Kind
-  cdo : Kind
-  cdc : Kind
-  colon : Kind
-  semicolon : Kind
-  comma : Kind
-  open_square : Kind
-  close_square : Kind
-  open_round : Kind
-  close_round : Kind
-  open_curly : Kind
-  close_curly : Kind
+  number : Bool → TokenKind
+  percentage : TokenKind
+  dimension : Bool → TokenKind
+  whitespace : TokenKind
+  cdo : TokenKind
+  cdc : TokenKind
+  colon : TokenKind
+  semicolon : TokenKind
+  comma : TokenKind
+  open_square : TokenKind
+  close_square : TokenKind
+  open_round : TokenKind
+  close_round : TokenKind
+  open_curly : TokenKind
+  close_curly : TokenKind
 
 -- where a token's text is, in characters of the preprocessed text
 pub record Span : Type 0 where
@@ -39,14 +39,14 @@ pub record Span : Type 0 where
 -- and empty where there is none. The spelling is that of the number in a number, percentage or dimension, and empty in
 -- any other token. A closer that the end of input adds has no span.
 pub record Token : Type 0 where
-  pub kind : Kind
+  pub kind : TokenKind
   pub name : Characters
   pub spelling : Characters
   pub span : Option Span
 
 -- What a token says, wherever it is.
 pub record Said : Type 0 where
-  pub kind : Kind
+  pub kind : TokenKind
   pub name : Characters
   pub spelling : Characters
 

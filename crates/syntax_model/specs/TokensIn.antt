@@ -3,16 +3,16 @@
 use Rattle.std.specs.Prelude.{ℕ, zero, suc, ◌+◌, List, [], ◌∷◌, ◌++◌, length, drop}
 use Rattle.base_model.specs.Text.{Characters}
 use Rattle.syntax_model.specs.Token.{Token}
-use Rattle.syntax_model.specs.Pieces.{row_at, row_len, row_tokens}
+use Rattle.syntax_model.specs.Pieces.{production_at, production_len, production_tokens}
 
 -- So many pieces at most, of a text that begins at an offset: the first one, and then the rest.
 abbrev pub tokens_from : ℕ → ℕ → Characters → List Token
 tokens_from zero start text = []
 tokens_from (suc most) start [] = []
 tokens_from (suc most) start (c ∷ cs) =
-    let row = row_at (c ∷ cs) in
-    let taken = row_len row c cs in
-    row_tokens row start c cs ++ tokens_from most (start + taken) (drop taken (c ∷ cs))
+    let production = production_at (c ∷ cs) in
+    let taken = production_len production c cs in
+    production_tokens production start c cs ++ tokens_from most (start + taken) (drop taken (c ∷ cs))
 
 -- each piece has a character at least
 unfoldable pub tokens_in : Characters → List Token

@@ -8,12 +8,13 @@ use Rattle.base_model.specs.Lists.{is_nil}
 use Rattle.base_model.specs.Text.{Characters, is_word}
 use Rattle.syntax_model.specs.Signs.{quotation_mark, percent_sign, commercial_at, reverse_solidus}
 use Rattle.syntax_model.specs.Letters.{begins, is_digit, is_e, is_name_char, is_quote}
-use Rattle.syntax_model.specs.Token.{Token, Kind, ident, function, at_keyword, hash, string, bad_string, url, bad_url, delim}
+use Rattle.syntax_model.specs.Token.{Token, TokenKind, ident, function, at_keyword, hash, string, bad_string, url}
+use Rattle.syntax_model.specs.Token.{bad_url, delim}
 use Rattle.syntax_model.specs.Token.{number, percentage, dimension, whitespace, cdo, cdc, colon, semicolon, comma}
 use Rattle.syntax_model.specs.Token.{open_square, close_square, open_round, close_round, open_curly, close_curly}
-use Rattle.syntax_model.specs.Kinds.{is_delim, is_white, begins_with, without_white}
+use Rattle.syntax_model.specs.TokenKinds.{is_delim, is_white, begins_with, without_white}
 use Rattle.syntax_model.specs.Numbers.{starts_number, number_len, is_integer}
-use Rattle.syntax_model.specs.Pieces.{mark_row, row_at, mark_kind, starts_ident}
+use Rattle.syntax_model.specs.Pieces.{mark_production, production_at, mark_kind, starts_ident}
 
 abbrev pub hex_digit : ℕ → ℕ
 hex_digit d = if nat_le d 9 then 48 + d else 87 + d
@@ -111,7 +112,7 @@ token_text token = elim token.kind [
 ]
 
 -- a token after which nothing can be taken for a part of it
-abbrev pub ends_itself : Kind → Bool
+abbrev pub ends_itself : TokenKind → Bool
 ends_itself kind = elim kind [
   | ident ↦ false
   | at_keyword ↦ false
@@ -125,7 +126,7 @@ ends_itself kind = elim kind [
 ]
 
 -- a token that can be taken for a part of no other before it
-abbrev pub begins_itself : Kind → Bool
+abbrev pub begins_itself : TokenKind → Bool
 begins_itself kind = elim kind [
   | whitespace ↦ true
   | comma ↦ true
@@ -141,7 +142,7 @@ begins_itself kind = elim kind [
 ]
 
 -- an empty comment stands between two tokens that would read as others without it
-abbrev pub gap : Kind → List Token → Characters
+abbrev pub gap : TokenKind → List Token → Characters
 gap kind [] = []
 gap kind (next ∷ tokens) = if ends_itself kind || begins_itself next.kind then [] else codes "/**/"
 
@@ -157,7 +158,7 @@ says_nothing token = is_nil token.name && is_nil token.spelling
 
 -- the character is a token alone, and no mark of its own
 abbrev pub is_delim_char : ℕ → Bool
-is_delim_char c = elim (row_at (c ∷ [])) [ mark_row ↦ is_delim c (mark_kind c) | _ ↦ false ]
+is_delim_char c = elim (production_at (c ∷ [])) [ mark_production ↦ is_delim c (mark_kind c) | _ ↦ false ]
 
 -- the text is one number, and an integer where it is to be one
 abbrev pub is_number : Characters → Bool
@@ -167,7 +168,7 @@ abbrev pub is_number_as : Bool → Characters → Bool
 is_number_as integer text = is_number text && (if integer then is_integer text else not (is_integer text))
 
 -- a bad string, a bad url or a `\` alone: what is written of one reads as something else
-abbrev pub is_broken : Kind → Bool
+abbrev pub is_broken : TokenKind → Bool
 is_broken bad_string = true
 is_broken bad_url = true
 is_broken (delim c) = c == reverse_solidus
@@ -195,11 +196,11 @@ is_sound token = elim token.kind [
 abbrev pub is_url_function : Token → Bool
 is_url_function token = elim token.kind [ function ↦ is_word (codes "url") token.name | _ ↦ false ]
 
-abbrev pub is_string : Kind → Bool
+abbrev pub is_string : TokenKind → Bool
 is_string string = true
 is_string kind = false
 
-abbrev pub is_bad_string : Kind → Bool
+abbrev pub is_bad_string : TokenKind → Bool
 is_bad_string bad_string = true
 is_bad_string kind = false
 

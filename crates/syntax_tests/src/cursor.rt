@@ -8,7 +8,7 @@ fn tokens_of(alloc: Global, text: &str) -> Result<Vec<Token>, NoMemory> {
     tokens(alloc, text.as_str())
 }
 
-// Whether the text is an identifier, whitespace, `.`, a colon, and one token more.
+/// Whether the text is an identifier, whitespace, `.`, a colon, and one token more.
 fn takes_all(alloc: Global, text: &str) -> Result<bool, NoMemory> {
     let list = tokens_of(alloc, text)?;
     let mut left = Cursor::new(list.as_slice());
@@ -26,8 +26,8 @@ fn steps(rt: HostRuntime) -> Result<(), Fail> {
     Ok(())
 }
 
-// How many tokens come before the first comma outside brackets, how many are left from there, and
-// whether brackets are open.
+/// How many tokens come before the first comma outside brackets, how many are left from there, and
+/// whether brackets are open.
 fn first_part(alloc: Global, text: &str) -> Result<(usize, usize, bool), NoMemory> {
     let list = tokens_of(alloc, text)?;
     let mut left = Cursor::new(list.as_slice());
@@ -42,7 +42,7 @@ fn parts(rt: HostRuntime) -> Result<(), Fail> {
     Ok(())
 }
 
-// The tokens with the closers of what they leave open.
+/// The tokens with the closers of what they leave open.
 fn closed(alloc: Global, text: &str) -> Result<String, NoMemory> {
     let mut list = tokens_of(alloc, text)?;
     let mut brackets = OpenBrackets::new(alloc);

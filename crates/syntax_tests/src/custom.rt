@@ -12,7 +12,7 @@ fn tokens_of(alloc: Global, text: &str) -> Result<Vec<Token>, NoMemory> {
     tokens(alloc, text.as_str())
 }
 
-// The names of the tokens that are kept of a value, each after its kind.
+/// The names of the tokens that are kept of a value, each after its kind.
 fn shown(alloc: Global, value: &CustomValue) -> Result<String, NoMemory> {
     let mut out = String::new(alloc);
     for token in value.tokens() {
@@ -51,7 +51,7 @@ fn referring_values(rt: HostRuntime) -> Result<(), Fail> {
     Ok(())
 }
 
-// The steps of a text, as a value.
+/// The steps of a text, as a value.
 fn steps(alloc: Global, text: &str) -> Result<String, NoMemory> {
     let list = tokens_of(alloc, text)?;
     let mut reader = PartReader::new(alloc, list.as_slice());
@@ -76,7 +76,7 @@ fn steps_of_a_value(rt: HostRuntime) -> Result<(), Fail> {
     Ok(())
 }
 
-// The value that is whitespace alone, which no text has.
+/// The value that is whitespace alone, which no text has.
 fn space(alloc: Global) -> Result<CustomValue, NoMemory> {
     let mut list = Vec::new(alloc);
     list.push(Token::white_space(alloc))?;

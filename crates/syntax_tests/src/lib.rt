@@ -8,7 +8,7 @@ mod custom;
 #[cfg(test)]
 mod rules;
 #[cfg(test)]
-mod tokens;
+mod tokenizing;
 #[cfg(test)]
 mod values;
 #[cfg(test)]

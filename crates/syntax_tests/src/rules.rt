@@ -4,7 +4,7 @@ use std::alloc::Global;
 use std::test::Fail;
 use stylo_base::NoMemory;
 
-// The names of identifiers, and of any other token its kind.
+/// The names of identifiers, and of any other token its kind.
 fn push_shown(out: &mut String, list: &[Token]) -> Result<(), NoMemory> {
     for token in list {
         if token.is_ident() {
@@ -16,7 +16,7 @@ fn push_shown(out: &mut String, list: &[Token]) -> Result<(), NoMemory> {
     Ok(())
 }
 
-// The rules, each after how many parts the name of its layer has, and the layers that are declared by as many.
+/// The rules, each after how many parts the name of its layer has, and the layers that are declared by as many.
 fn shown(alloc: Global, rules: &[Rule]) -> Result<String, NoMemory> {
     let mut out = String::new(alloc);
     for rule in rules {

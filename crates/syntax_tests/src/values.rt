@@ -3,7 +3,7 @@ use std::alloc::Global;
 use std::test::Fail;
 use stylo_base::NoMemory;
 
-// The value of the one token of a text, in thousandths.
+/// The value of the one token of a text, in thousandths.
 fn value(alloc: Global, text: &str) -> Result<Option<i64>, NoMemory> {
     let text = preprocess(alloc, text)?;
     let list = tokens(alloc, text.as_str())?;

@@ -4,7 +4,7 @@ use std::alloc::Global;
 use std::test::Fail;
 use stylo_base::{NoMemory, Text};
 
-// The text of the tokens of a text.
+/// The text of the tokens of a text.
 fn written(alloc: Global, text: &str) -> Result<Text, NoMemory> {
     let text = preprocess(alloc, text)?;
     let list = tokens(alloc, text.as_str())?;
@@ -18,7 +18,7 @@ fn gaps(rt: HostRuntime) -> Result<(), Fail> {
     Ok(())
 }
 
-// The map in which one custom property has a value.
+/// The map in which one custom property has a value.
 fn map_of(alloc: Global, name: &str, value: CustomValue) -> Result<CustomMap, NoMemory> {
     let name = CustomName::of_text(alloc, Text::of_str(alloc, name)?)?;
     let mut entries = Vec::new(alloc);
@@ -26,7 +26,7 @@ fn map_of(alloc: Global, name: &str, value: CustomValue) -> Result<CustomMap, No
     CustomMap::of_entries(alloc, entries)
 }
 
-// The declaration of a custom property, if the value is valid.
+/// The declaration of a custom property, if the value is valid.
 fn declaration(alloc: Global, name: &str, value: &str) -> Result<Option<Text>, NoMemory> {
     let text = preprocess(alloc, value)?;
     let list = tokens(alloc, text.as_str())?;

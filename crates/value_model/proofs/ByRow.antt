@@ -3,26 +3,26 @@ use Rattle.std.proofs.Common.{◌≡◌, ℕ, ◌+◌, ◌≤◌, zero, suc, Lis
 use Rattle.std.proofs.lemmas.List.{append-nil, take_all, drop_all}
 use Rattle.std.proofs.lemmas.Option.{none-some, same_Some}
 use Rattle.value_model.specs.Value.{Value}
-use Rattle.value_model.specs.Table.{Row}
+use Rattle.value_model.specs.Table.{PropertyRow}
 use Rattle.value_model.specs.Style.{inherited_values}
 
 -- the values of rows, of which the first has this index: each by its row and the value that is there
-abbrev pub by_row : (ℕ → Row → Value → Value) → ℕ → List Row → List Value → List Value
+abbrev pub by_row : (ℕ → PropertyRow → Value → Value) → ℕ → List PropertyRow → List Value → List Value
 by_row f i [] values = []
 by_row f i (row ∷ rows) [] = []
 by_row f i (row ∷ rows) (value ∷ values) = f i row value ∷ by_row f (i + 1) rows values
 
-pub length-by_row : (f g : ℕ → Row → Value → Value) (i : ℕ) (rows : List Row) (values : List Value) → length (by_row f i rows values) ≡ length (by_row g i rows values)
+pub length-by_row : (f g : ℕ → PropertyRow → Value → Value) (i : ℕ) (rows : List PropertyRow) (values : List Value) → length (by_row f i rows values) ≡ length (by_row g i rows values)
 length-by_row f g i [] values = refl
 length-by_row f g i (row ∷ rows) [] = refl
 length-by_row f g i (row ∷ rows) (value ∷ values) = ap suc (length-by_row f g (i + 1) rows values)
 
-pub by_row-within : (f : ℕ → Row → Value → Value) (i : ℕ) (rows : List Row) (values : List Value) → length (by_row f i rows values) ≤ length rows
+pub by_row-within : (f : ℕ → PropertyRow → Value → Value) (i : ℕ) (rows : List PropertyRow) (values : List Value) → length (by_row f i rows values) ≤ length rows
 by_row-within f i [] values = omega arith
 by_row-within f i (row ∷ rows) [] = omega arith
 by_row-within f i (row ∷ rows) (value ∷ values) = omega (arith, by_row-within f (i + 1) rows values)
 
-get-by_row : (f : ℕ → Row → Value → Value) (i : ℕ) (rows : List Row) (values : List Value) (k : ℕ) (row : Row) → slice_get rows k ≡ Some row → slice_get (by_row f i rows values) k ≡ option_map (f (i + k) row) (slice_get values k)
+get-by_row : (f : ℕ → PropertyRow → Value → Value) (i : ℕ) (rows : List PropertyRow) (values : List Value) (k : ℕ) (row : PropertyRow) → slice_get rows k ≡ Some row → slice_get (by_row f i rows values) k ≡ option_map (f (i + k) row) (slice_get values k)
 get-by_row f i [] values k row at = absurd (none-some row at)
 get-by_row f i (first ∷ rows) [] k row at = refl
 get-by_row f i (first ∷ rows) (value ∷ values) zero row at =
@@ -32,35 +32,35 @@ get-by_row f i (first ∷ rows) (value ∷ values) (suc k) row at =
     get-by_row f (i + 1) rows values k row at ∙ ap (λ n. option_map (f n row) (slice_get values k)) same
 
 -- the value at an index of the table
-pub by_row-at : (f : ℕ → Row → Value → Value) (rows : List Row) (values : List Value) (k : ℕ) (row : Row) → slice_get rows k ≡ Some row → slice_get (by_row f 0 rows values) k ≡ option_map (f k row) (slice_get values k)
+pub by_row-at : (f : ℕ → PropertyRow → Value → Value) (rows : List PropertyRow) (values : List Value) (k : ℕ) (row : PropertyRow) → slice_get rows k ≡ Some row → slice_get (by_row f 0 rows values) k ≡ option_map (f k row) (slice_get values k)
 by_row-at f rows values k row at =
     let same : 0 + k ≡ k = omega arith in
     get-by_row f 0 rows values k row at ∙ ap (λ n. option_map (f n row) (slice_get values k)) same
 
-abbrev pub keeps : ℕ → Row → Value → Value
+abbrev pub keeps : ℕ → PropertyRow → Value → Value
 keeps i row value = value
 
-abbrev pub unsets : ℕ → Row → Value → Value
+abbrev pub unsets : ℕ → PropertyRow → Value → Value
 unsets i row value = if row.inherited then value else row.initial
 
-pub by_row-keeps : (i : ℕ) (rows : List Row) (values : List Value) → length values ≡ length rows → by_row keeps i rows values ≡ values
+pub by_row-keeps : (i : ℕ) (rows : List PropertyRow) (values : List Value) → length values ≡ length rows → by_row keeps i rows values ≡ values
 by_row-keeps i [] [] h = refl
 by_row-keeps i [] (value ∷ values) h = absurd (omega (arith, h))
 by_row-keeps i (row ∷ rows) [] h = refl
 by_row-keeps i (row ∷ rows) (value ∷ values) h = ap (λ l. value ∷ l) (by_row-keeps (i + 1) rows values (omega arith))
 
-pub by_row-unsets : (i : ℕ) (rows : List Row) (values : List Value) → by_row unsets i rows values ≡ inherited_values rows values
+pub by_row-unsets : (i : ℕ) (rows : List PropertyRow) (values : List Value) → by_row unsets i rows values ≡ inherited_values rows values
 by_row-unsets i [] values = refl
 by_row-unsets i (row ∷ rows) [] = refl
 by_row-unsets i (row ∷ rows) (value ∷ values) =
     ap (λ l. unsets i row value ∷ l) (by_row-unsets (i + 1) rows values)
 
-pub length-inherited : (rows : List Row) (values : List Value) → length values ≡ length rows → length (inherited_values rows values) ≡ length values
+pub length-inherited : (rows : List PropertyRow) (values : List Value) → length values ≡ length rows → length (inherited_values rows values) ≡ length values
 length-inherited rows values h =
     ap length (sym (by_row-unsets 0 rows values))
     ∙ (length-by_row unsets keeps 0 rows values ∙ ap length (by_row-keeps 0 rows values h))
 
-pub inherited-at : (rows : List Row) (values : List Value) (k : ℕ) (row : Row) → slice_get rows k ≡ Some row → slice_get (inherited_values rows values) k ≡ option_map (unsets k row) (slice_get values k)
+pub inherited-at : (rows : List PropertyRow) (values : List Value) (k : ℕ) (row : PropertyRow) → slice_get rows k ≡ Some row → slice_get (inherited_values rows values) k ≡ option_map (unsets k row) (slice_get values k)
 inherited-at rows values k row at =
     ap (λ l. slice_get l k) (sym (by_row-unsets 0 rows values)) ∙ by_row-at unsets rows values k row at
 

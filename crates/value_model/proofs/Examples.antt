@@ -9,8 +9,8 @@ use Rattle.base_model.specs.Text.{Characters}
 use Rattle.std.specs.FinMap as finmap
 use Rattle.custom_model.proofs.Maps.{texts-empty}
 use Rattle.value_model.specs.Color.{Color, opaque, rgba, transparent, black}
-use Rattle.value_model.specs.Value.{Value, keyword, color, pixels, percent, number, em, rem, written, same_value, current_color}
-use Rattle.value_model.specs.Table.{Row, table, property_named}
+use Rattle.value_model.specs.Value.{Value, keyword, color, pixels, percent, number, em, rem, printed_value, same_value, current_color}
+use Rattle.value_model.specs.Table.{PropertyRow, table, property_named}
 use Rattle.value_model.specs.Shorthand.{Short, short_named, longhands_of, margin, padding, border_width, border_style}
 use Rattle.value_model.specs.Shorthand.{border_color, overflow, all}
 use Rattle.value_model.specs.Style.{Style, initial_style, inherited_part, blockified, adjusted, font_size_of, font_weight_of}
@@ -70,10 +70,10 @@ amount_texts =
     ∷ codes "-1.5px" ∷ codes "2.34%" ∷ codes "-9%" ∷ codes "4"
     ∷ codes "1.01" ∷ codes "1.5em" ∷ codes "-0.25rem" ∷ []
 
-amounts_written : map written amounts ≡ amount_texts
+amounts_written : map printed_value amounts ≡ amount_texts
 amounts_written = simp (digit_0, digit_1, digit_2, digit_3, digit_4, digit_5, digit_7, digit_9)
 
-values_written : map written values ≡ texts
+values_written : map printed_value values ≡ texts
 values_written = refl
 
 -- the names of the table, in its order
@@ -90,7 +90,7 @@ all_names =
     ∷ codes "border-bottom-color" ∷ codes "border-left-color" ∷ codes "background-color" ∷ codes "font-size"
     ∷ codes "font-weight" ∷ codes "font-style" ∷ codes "line-height" ∷ []
 
-names_in_order : map (λ (row : Row). row.name) table ≡ all_names
+names_in_order : map (λ (row : PropertyRow). row.name) table ≡ all_names
 unfolding table
 names_in_order = refl
 
@@ -111,7 +111,7 @@ no_shorts = refl
 
 -- what a shorthand sets
 abbrev row_names : Short → List Characters
-row_names short = map (λ property. option_map_or (λ (row : Row). row.name) (slice_get table property) []) (longhands_of short)
+row_names short = map (λ property. option_map_or (λ (row : PropertyRow). row.name) (slice_get table property) []) (longhands_of short)
 
 sides : map row_names (margin ∷ padding ∷ border_width ∷ border_style ∷ border_color ∷ overflow ∷ []) ≡ map (λ (range : ℕ × ℕ). slice_range all_names range.0 range.1) ((15, 19) ∷ (19, 23) ∷ (23, 27) ∷ (27, 31) ∷ (31, 35) ∷ (7, 9) ∷ [])
 unfolding table

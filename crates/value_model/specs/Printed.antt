@@ -2,16 +2,16 @@
 use Rattle.std.specs.Prelude.{List, [], ◌∷◌, ◌++◌, if◌then◌else◌, codes}
 use Rattle.base_model.specs.Text.{Characters}
 use Rattle.custom_model.specs.Printed.{joined, custom_texts}
-use Rattle.value_model.specs.Value.{Value, written, same_value}
-use Rattle.value_model.specs.Table.{Row, table}
+use Rattle.value_model.specs.Value.{Value, printed_value, same_value}
+use Rattle.value_model.specs.Table.{PropertyRow, table}
 use Rattle.value_model.specs.Style.{Style}
 
 -- `name: value`
-abbrev pub declaration_text : Row → Value → Characters
-declaration_text row value = row.name ++ (codes ": " ++ written value)
+abbrev pub declaration_text : PropertyRow → Value → Characters
+declaration_text row value = row.name ++ (codes ": " ++ printed_value value)
 
 -- the properties whose value is not the standing one, in the order of the table
-abbrev pub declaration_texts : List Row → List Value → List Characters
+abbrev pub declaration_texts : List PropertyRow → List Value → List Characters
 declaration_texts [] values = []
 declaration_texts (row ∷ rows) [] = []
 declaration_texts (row ∷ rows) (value ∷ values) =

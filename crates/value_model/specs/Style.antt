@@ -7,7 +7,8 @@ use Rattle.std.specs.Coded.{Coded, code_by, coded×, coded_list}
 use Rattle.base_model.specs.Text.{Characters}
 use Rattle.custom_model.specs.Value.{CustomValues, values_code}
 use Rattle.value_model.specs.Value.{Value, keyword, pixels, number, same_value, value_code}
-use Rattle.value_model.specs.Table.{Row, table, display_property, position_property, float_property, border_sides}
+use Rattle.value_model.specs.Table.{PropertyRow, table, display_property, position_property, float_property}
+use Rattle.value_model.specs.Table.{border_sides}
 use Rattle.value_model.specs.Table.{font_size_property, font_weight_property}
 
 pub record Style : Type 0 where
@@ -27,7 +28,7 @@ initial_style = record { values = map (λ row. row.initial) table; custom = finm
 
 -- each inherited property keeps its value, each other one has its initial value (css-cascade-5, section 7); custom
 -- properties are inherited (css-variables-1, section 2)
-abbrev pub inherited_values : List Row → List Value → List Value
+abbrev pub inherited_values : List PropertyRow → List Value → List Value
 inherited_values [] values = []
 inherited_values (row ∷ rows) [] = []
 inherited_values (row ∷ rows) (value ∷ values) =

@@ -18,15 +18,15 @@ pub data ValueForm : Type 0 where
   number_within : ℤ → ℤ → ValueForm
 
 -- how a value of a property is computed
-pub data Rule : Type 0 where
+pub data ComputeRule : Type 0 where
   -- lengths become pixels
-  plain : Rule
-  of_color : Rule
-  of_font_size : Rule
-  of_font_weight : Rule
-  of_line_height : Rule
+  plain : ComputeRule
+  of_color : ComputeRule
+  of_font_size : ComputeRule
+  of_font_weight : ComputeRule
+  of_line_height : ComputeRule
 
-pub record Row : Type 0 where
+pub record PropertyRow : Type 0 where
   pub name : Characters
   pub inherited : Bool
   -- what the property is where nothing sets it
@@ -35,14 +35,14 @@ pub record Row : Type 0 where
   pub standing : Value
   -- what it takes
   pub forms : List ValueForm
-  pub rule : Rule
+  pub rule : ComputeRule
 
 -- a keyword, which is read as itself
 abbrev pub word : Characters → ValueForm
 word text = named text (keyword text)
 
 -- the name, the initial value and the keywords of a property that takes keywords alone
-abbrev pub of_words : Characters → Bool → Characters → List Characters → Row
+abbrev pub of_words : Characters → Bool → Characters → List Characters → PropertyRow
 of_words name inherited initial others = record {
   name = name;
   inherited = inherited;
@@ -53,7 +53,7 @@ of_words name inherited initial others = record {
 }
 
 -- css-color-4, section 3; CSS 2.2, section 8.5.2; CSS 2.2, section 14.2.1
-abbrev pub color_row : Row
+abbrev pub color_row : PropertyRow
 color_row = record {
   name = codes "color";
   inherited = true;
@@ -63,7 +63,7 @@ color_row = record {
   rule = of_color;
 }
 
-abbrev pub color_of_part : Characters → Value → Row
+abbrev pub color_of_part : Characters → Value → PropertyRow
 color_of_part name initial = record {
   name = name;
   inherited = false;
@@ -74,7 +74,7 @@ color_of_part name initial = record {
 }
 
 -- a property that takes lengths, percentages and perhaps a word, and none of them negative unless said
-abbrev pub of_size : Characters → Value → Bool → List ValueForm → Row
+abbrev pub of_size : Characters → Value → Bool → List ValueForm → PropertyRow
 of_size name initial negative words = record {
   name = name;
   inherited = false;
@@ -85,21 +85,21 @@ of_size name initial negative words = record {
 }
 
 -- css-sizing-3, section 3.1
-abbrev pub box_size : Characters → Row
+abbrev pub box_size : Characters → PropertyRow
 box_size name = of_size name (keyword (codes "auto")) false (word (codes "auto") ∷ [])
 
-abbrev pub box_limit : Characters → Row
+abbrev pub box_limit : Characters → PropertyRow
 box_limit name = of_size name (keyword (codes "none")) false (word (codes "none") ∷ [])
 
 -- CSS 2.2, section 8.3 and 8.4
-abbrev pub margin_row : Characters → Row
+abbrev pub margin_row : Characters → PropertyRow
 margin_row name = of_size name (pixels (pos 0)) true (word (codes "auto") ∷ [])
 
-abbrev pub padding_row : Characters → Row
+abbrev pub padding_row : Characters → PropertyRow
 padding_row name = of_size name (pixels (pos 0)) false []
 
 -- CSS 2.2, section 8.5.1; css-backgrounds-3, section 3.3
-abbrev pub border_width_row : Characters → Row
+abbrev pub border_width_row : Characters → PropertyRow
 border_width_row name = record {
   name = name;
   inherited = false;
@@ -112,19 +112,19 @@ border_width_row name = record {
 }
 
 -- css-backgrounds-3, section 3.2
-abbrev pub border_style_row : Characters → Row
+abbrev pub border_style_row : Characters → PropertyRow
 border_style_row name =
     of_words name false (codes "none")
     (codes "hidden" ∷ codes "dotted" ∷ codes "dashed" ∷ codes "solid" ∷ codes "double" ∷ codes "groove"
     ∷ codes "ridge" ∷ codes "inset" ∷ codes "outset" ∷ [])
 
 -- css-overflow-3, section 3
-abbrev pub overflow_row : Characters → Row
+abbrev pub overflow_row : Characters → PropertyRow
 overflow_row name =
     of_words name false (codes "visible") (codes "hidden" ∷ codes "scroll" ∷ codes "auto" ∷ [])
 
 -- the forms of `font-size` (css-fonts-4, section 2.5)
-abbrev pub font_size_row : Row
+abbrev pub font_size_row : PropertyRow
 font_size_row = record {
   name = codes "font-size";
   inherited = true;
@@ -140,7 +140,7 @@ font_size_row = record {
 }
 
 -- css-fonts-4, section 2.2
-abbrev pub font_weight_row : Row
+abbrev pub font_weight_row : PropertyRow
 font_weight_row = record {
   name = codes "font-weight";
   inherited = true;
@@ -153,7 +153,7 @@ font_weight_row = record {
 }
 
 -- CSS 2.2, section 10.8.1
-abbrev pub line_height_row : Row
+abbrev pub line_height_row : PropertyRow
 line_height_row = record {
   name = codes "line-height";
   inherited = true;
@@ -165,7 +165,7 @@ line_height_row = record {
 }
 
 -- css-writing-modes-4, section 2.1; css-display-3, sections 2 and 4; css-position-3, section 2; CSS 2.2, section 9.5
-abbrev pub first_rows : List Row
+abbrev pub first_rows : List PropertyRow
 first_rows =
     color_row
     ∷ of_words (codes "direction") true (codes "ltr") (codes "rtl" ∷ [])
@@ -180,7 +180,7 @@ first_rows =
     ∷ overflow_row (codes "overflow-y")
     ∷ []
 
-abbrev pub box_rows : List Row
+abbrev pub box_rows : List PropertyRow
 box_rows =
     box_size (codes "width") ∷ box_size (codes "height")
     ∷ box_size (codes "min-width") ∷ box_size (codes "min-height")
@@ -191,7 +191,7 @@ box_rows =
     ∷ padding_row (codes "padding-bottom") ∷ padding_row (codes "padding-left")
     ∷ []
 
-abbrev pub border_rows : List Row
+abbrev pub border_rows : List PropertyRow
 border_rows =
     border_width_row (codes "border-top-width") ∷ border_width_row (codes "border-right-width")
     ∷ border_width_row (codes "border-bottom-width") ∷ border_width_row (codes "border-left-width")
@@ -204,14 +204,14 @@ border_rows =
     ∷ color_of_part (codes "background-color") (color transparent)
     ∷ []
 
-abbrev pub font_rows : List Row
+abbrev pub font_rows : List PropertyRow
 font_rows =
     font_size_row ∷ font_weight_row
     ∷ of_words (codes "font-style") true (codes "normal") (codes "italic" ∷ codes "oblique" ∷ [])
     ∷ line_height_row
     ∷ []
 
-unfoldable pub table : List Row
+unfoldable pub table : List PropertyRow
 table = first_rows ++ (box_rows ++ (border_rows ++ font_rows))
 
 -- A property is its row, from 0. These are the properties that have a rule of their own.

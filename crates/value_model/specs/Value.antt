@@ -25,14 +25,14 @@ abbrev pub current_color : Value
 current_color = keyword (codes "currentcolor")
 
 -- the text that stands for it (css-values-4, sections 2 and 5 to 6; css-color-4, section 15)
-abbrev pub written : Value → Characters
-written (keyword word) = word
-written (color c) = color_text c
-written (pixels z) = thousandths.written z ++ codes "px"
-written (percent z) = thousandths.written z ++ codes "%"
-written (number z) = thousandths.written z
-written (em z) = thousandths.written z ++ codes "em"
-written (rem z) = thousandths.written z ++ codes "rem"
+abbrev pub printed_value : Value → Characters
+printed_value (keyword word) = word
+printed_value (color c) = color_text c
+printed_value (pixels z) = thousandths.printed_number z ++ codes "px"
+printed_value (percent z) = thousandths.printed_number z ++ codes "%"
+printed_value (number z) = thousandths.printed_number z
+printed_value (em z) = thousandths.printed_number z ++ codes "em"
+printed_value (rem z) = thousandths.printed_number z ++ codes "rem"
 
 abbrev pub same_value : Value → Value → Bool
 same_value (keyword a) (keyword b) = bytes_eq a b

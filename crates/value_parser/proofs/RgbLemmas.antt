@@ -3,7 +3,7 @@ use Rattle.std.proofs.Common.{◌≡◌, Bool, true, ap, ◌∙◌, sym}
 use Rattle.std.specs.Prelude.{codes, ◌&&◌}
 use Rattle.base_model.specs.Text.{Characters, ascii_lower, is_word, same_text}
 use Rattle.syntax_model.specs.Token.{Token}
-use Rattle.syntax_model.specs.Kinds.{is_function}
+use Rattle.syntax_model.specs.TokenKinds.{is_function}
 use Rattle.sheet_model.specs.ValueIn.{is_rgb}
 
 -- a function is `rgb(` where its name is

@@ -8,7 +8,7 @@ use Rattle.std.proofs.lemmas.Option.{slice_get-map, slice_get-get_or}
 use Rattle.base_model.specs.Lists.{first_some}
 use Rattle.base_model.specs.Text.{Characters, same_text, ascii_lower, is_word}
 use Rattle.value_model.specs.Color.{NamedColor, named_colors}
-use Rattle.sheet_model.specs.ValueIn.{Unit, units}
+use Rattle.sheet_model.specs.ValueIn.{LengthUnit, units}
 use Rattle.property_table.proofs.RowLemmas.{drop_at, alike_at}
 
 -- what passes for all of a list passes for the item at an index
@@ -69,7 +69,7 @@ module _ {X Y : Type 0} (seen : X → Y) (name_of : Y → Characters) (table : L
 abbrev pub color_name : NamedColor → Characters
 color_name row = row.name
 
-abbrev pub unit_name : Unit → Characters
+abbrev pub unit_name : LengthUnit → Characters
 unit_name unit = unit.name
 
 -- the names of colours and units are in lower case

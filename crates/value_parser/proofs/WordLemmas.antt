@@ -5,7 +5,7 @@ use Rattle.std.specs.List.{list_all}
 use Rattle.base_model.specs.Text.{ascii_lower}
 use Rattle.stylo_base.specs.Ascii.{is_all_ascii}
 use Rattle.stylo_base.proofs.TextLemmas.{chars-ascii}
-use Rattle.value_model.specs.Table.{Row, table}
+use Rattle.value_model.specs.Table.{PropertyRow, table}
 use Rattle.property_table.specs.View.{word_of}
 use Rattle.property_table.specs.declared.keyword.Keyword.{Keyword}
 use Rattle.property_table.specs.declared.keyword.Keyword.TheVariants.{Inline}
@@ -23,10 +23,10 @@ lower_text keyword text is ascii =
     let word : chars text ≡ word_of keyword = chars-ascii text ascii ∙ is in
     ap ascii_lower word ∙ (lower_word keyword ∙ sym word)
 
-abbrev are_lower : Row → Bool
+abbrev are_lower : PropertyRow → Bool
 are_lower row = list_all is_lower row.forms
 
-abbrev always : Row → Bool
+abbrev always : PropertyRow → Bool
 always row = true
 
 -- the words of the table are in lower case
@@ -35,5 +35,5 @@ unfolding table
 all_lower = refl
 
 -- so are those of a row
-pub row_lower : (i : ℕ) (row : Row) → slice_get table i ≡ Some row → list_all is_lower row.forms ≡ true
+pub row_lower : (i : ℕ) (row : PropertyRow) → slice_get table i ≡ Some row → list_all is_lower row.forms ≡ true
 row_lower i row at = alike_at are_lower always table i row all_lower at

@@ -8,9 +8,9 @@ use Rattle.value_model.specs.Table.{ValueForm, named}
 use Rattle.sheet_model.specs.ValueIn as model
 use Rattle.property_table.specs.View.{color_of}
 use Rattle.value_parser.specs.declared.named.Named.{Named}
-use Rattle.value_parser.specs.declared.unit.Unit.{Unit}
-use Rattle.value_parser.specs.declared.unit.Measure.{Measure}
-use Rattle.value_parser.specs.declared.unit.Measure.TheVariants.{Pixel, Element, Root}
+use Rattle.value_parser.specs.declared.length_unit.LengthUnit.{LengthUnit}
+use Rattle.value_parser.specs.declared.length_unit.Measure.{Measure}
+use Rattle.value_parser.specs.declared.length_unit.Measure.TheVariants.{Pixel, Element, Root}
 
 abbrev pub named_seen : Named → NamedColor
 named_seen row = record { name = chars row.name.now; color = color_of row.color }
@@ -20,7 +20,7 @@ measure_seen (Pixel parts of) = model.of_pixel parts (unsigned_abs of)
 measure_seen Element = model.of_element
 measure_seen Root = model.of_root
 
-abbrev pub unit_seen : Unit → model.Unit
+abbrev pub unit_seen : LengthUnit → model.LengthUnit
 unit_seen row = record { name = chars row.name.now; measure = measure_seen row.measure }
 
 -- whether the parts of a pixel, where there are any, are of more than none

@@ -3,7 +3,7 @@
 ghost use Rattle.std.specs.Prelude.{◌≡◌, option_map};
 ghost use Rattle.std.specs.Option.{option_or};
 ghost use Rattle.value_model.specs.Color.{opaque};
-ghost use Rattle.property_table.specs.View.{color_of, value_of};
+ghost use Rattle.property_table.specs.View.{color_of, value_seen};
 ghost use Rattle.sheet_model.specs.ValueIn.{color_in, hex_color_in, named_color_in, rgb_in};
 
 use crate::hex::hex_color;
@@ -15,8 +15,8 @@ use css_tokens::Token;
 use property_table::{Color, Keyword, Value};
 
 /// The colour that the tokens are.
-pub fn color_of(tokens: &[Token]) -> Option<Value>
-    ensures { option_map value_of result ≡ color_in tokens.now }
+pub(crate) fn color_of(tokens: &[Token]) -> Option<Value>
+    ensures { option_map value_seen result ≡ color_in tokens.now }
 {
     if let Some(current) = keyword_of(Keyword::CurrentColor, tokens) {
         return Some(current);
@@ -24,7 +24,7 @@ pub fn color_of(tokens: &[Token]) -> Option<Value>
     Some(Value::Color(exact_color_of(tokens)?))
 }
 
-// The colour that the tokens are, where they say which.
+/// The colour that the tokens are, where they say which.
 fn exact_color_of(tokens: &[Token]) -> Option<Color>
     ensures { option_map color_of result
         ≡ option_or (hex_color_in tokens.now) (option_or (named_color_in tokens.now) (rgb_in tokens.now)) }
@@ -38,14 +38,14 @@ fn exact_color_of(tokens: &[Token]) -> Option<Color>
     }
 }
 
-// The colour in hexadecimal.
+/// The colour in hexadecimal.
 fn hex_color_of(tokens: &[Token]) -> Option<Color>
     ensures { option_map color_of result ≡ hex_color_in tokens.now }
 {
     hex_color(hash_of(tokens)?.as_str())
 }
 
-// The colour by its name.
+/// The colour by its name.
 fn named_color_of(tokens: &[Token]) -> Option<Color>
     ensures { option_map color_of result ≡ named_color_in tokens.now }
 {
@@ -53,7 +53,7 @@ fn named_color_of(tokens: &[Token]) -> Option<Color>
 }
 
 /// The colour where nothing says its alpha.
-pub fn opaque(red: u8, green: u8, blue: u8) -> Color
+pub(crate) fn opaque(red: u8, green: u8, blue: u8) -> Color
     ensures { color_of result ≡ opaque red green blue }
 {
     Color {

@@ -11,13 +11,13 @@ use crate::color::opaque;
 use property_table::Color;
 
 /// The colour of the digits after a `#`.
-pub fn hex_color(text: &str) -> Option<Color>
+pub(crate) fn hex_color(text: &str) -> Option<Color>
     ensures { option_map color_of result ≡ hex_color (chars text.now) }
 {
     color_of_digits(text.as_bytes())
 }
 
-// The colour of three, four, six or eight digits.
+/// The colour of three, four, six or eight digits.
 fn color_of_digits(digits: &[u8]) -> Option<Color>
     ensures { option_map color_of result ≡ hex_color digits.now }
 {
@@ -43,7 +43,7 @@ fn color_of_digits(digits: &[u8]) -> Option<Color>
     }
 }
 
-// Whether each is a digit.
+/// Whether each is a digit.
 fn are_digits(text: &[u8]) -> bool
     ensures test { result ≡ list_all is_ascii_hexdigit text.now }
     ensures each { IsTrue result → AllPass is_ascii_hexdigit text.now }
@@ -51,7 +51,7 @@ fn are_digits(text: &[u8]) -> bool
     text.iter().all(|byte| byte.is_ascii_hexdigit())
 }
 
-// The number of a digit twice.
+/// The number of a digit twice.
 fn doubled(digit: u8) -> u8
     requires { is_ascii_hexdigit digit ≡ true }
     ensures { result ≡ doubled (digit_value digit) }
@@ -59,7 +59,7 @@ fn doubled(digit: u8) -> u8
     pair(digit, digit)
 }
 
-// The number of two digits.
+/// The number of two digits.
 fn pair(high: u8, low: u8) -> u8
     requires high { is_ascii_hexdigit high ≡ true }
     requires low { is_ascii_hexdigit low ≡ true }
@@ -68,7 +68,7 @@ fn pair(high: u8, low: u8) -> u8
     16 * value_of_digit(high) + value_of_digit(low)
 }
 
-// The number of a digit.
+/// The number of a digit.
 fn value_of_digit(digit: u8) -> u8
     requires { is_ascii_hexdigit digit ≡ true }
     ensures value { result ≡ digit_value digit }

@@ -8,13 +8,13 @@
 mod color;
 mod hex;
 mod length;
+mod length_unit;
 mod named;
 mod number;
 mod one_token;
 mod property_value;
 mod rgb;
 mod taken;
-mod unit;
 mod word;
 
 pub use css_tokens::wide_keyword;

@@ -12,7 +12,7 @@ use stylo_base::eq_ascii_case;
 
 /// A colour and its name, in lower-case ASCII.
 #[derive(Clone, Copy, Debug)]
-pub struct Named {
+pub(crate) struct Named {
     pub name: &'static str,
     pub color: Color,
 }
@@ -54,7 +54,7 @@ static NAMED: [Named; 18] = [
 ];
 
 /// The colour of that name, ignoring ASCII case.
-pub fn named_color(text: &str) -> Option<Color>
+pub(crate) fn named_color(text: &str) -> Option<Color>
     ensures { option_map color_of result ≡ option_map (λ row. row.color)
         (find (λ row. is_word row.name (chars text.now)) named_colors) }
 {
@@ -66,7 +66,7 @@ pub fn named_color(text: &str) -> Option<Color>
     None
 }
 
-// All of them.
+/// All of them.
 fn all_named() -> &'static [Named]
     ensures { map named_seen result.now ≡ named_colors }
 {

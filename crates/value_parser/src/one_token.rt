@@ -8,7 +8,7 @@ use css_tokens::{Cursor, Token, name_of};
 use stylo_base::Text;
 
 /// The name, where the tokens are one identifier.
-pub fn ident_of(tokens: &[Token]) -> Option<&Text>
+pub(crate) fn ident_of(tokens: &[Token]) -> Option<&Text>
     ensures { option_copied result ≡ ident_in tokens.now }
 {
     let token = only_token(tokens)?;
@@ -20,7 +20,7 @@ pub fn ident_of(tokens: &[Token]) -> Option<&Text>
 }
 
 /// The name, where the tokens are one hash.
-pub fn hash_of(tokens: &[Token]) -> Option<&Text>
+pub(crate) fn hash_of(tokens: &[Token]) -> Option<&Text>
     ensures { option_copied result ≡ hash_in tokens.now }
 {
     let token = only_token(tokens)?;
@@ -32,7 +32,7 @@ pub fn hash_of(tokens: &[Token]) -> Option<&Text>
 }
 
 /// The token, where it is alone.
-pub fn only_token(tokens: &[Token]) -> Option<&Token>
+pub(crate) fn only_token(tokens: &[Token]) -> Option<&Token>
     ensures { option_copied result ≡ only tokens.now }
 {
     let mut cursor = Cursor::new(tokens);

@@ -5,12 +5,12 @@ ghost use Rattle.property_table.specs.View.{color_of};
 ghost use Rattle.sheet_model.specs.ValueIn.{channel_at, channel_by, channel_of, channels_in, is_closed, is_rgb, next_channel_at, rgb_in};
 
 use crate::color::opaque;
-use css_tokens::{Cursor, Kind, Token, name_of, value_of};
+use css_tokens::{Cursor, Token, TokenKind, name_of, value_of};
 use property_table::Color;
 use stylo_base::{Fixed, eq_ascii_case};
 
 /// The colour that the tokens are, by its parts.
-pub fn rgb_of(tokens: &[Token]) -> Option<Color>
+pub(crate) fn rgb_of(tokens: &[Token]) -> Option<Color>
     ensures { option_map color_of result ≡ rgb_in tokens.now }
 {
     let mut cursor = Cursor::new(tokens);
@@ -21,14 +21,14 @@ pub fn rgb_of(tokens: &[Token]) -> Option<Color>
     }
 }
 
-// Whether the token is `rgb(`.
+/// Whether the token is `rgb(`.
 fn is_rgb(token: &Token) -> bool
     ensures { result ≡ is_rgb token.now }
 {
     token.is_function() && eq_ascii_case(name_of(token).as_str(), "rgb")
 }
 
-// The colour of three integers, and after them the closing bracket alone.
+/// The colour of three integers, and after them the closing bracket alone.
 fn channels(cursor: &mut Cursor) -> Option<Color>
     ensures { option_map color_of result ≡ channels_in cursor.old }
 {
@@ -42,7 +42,7 @@ fn channels(cursor: &mut Cursor) -> Option<Color>
     }
 }
 
-// The integer after a comma.
+/// The integer after a comma.
 fn next_channel(cursor: &mut Cursor) -> Option<u8>
     ensures { option_map (λ n. (n, cursor.new)) result ≡ next_channel_at cursor.old }
 {
@@ -53,7 +53,7 @@ fn next_channel(cursor: &mut Cursor) -> Option<u8>
     }
 }
 
-// The integer that is next, and the whitespace around it.
+/// The integer that is next, and the whitespace around it.
 fn channel(cursor: &mut Cursor) -> Option<u8>
     ensures { option_map (λ n. (n, cursor.new)) result ≡ channel_at cursor.old }
 {
@@ -63,24 +63,24 @@ fn channel(cursor: &mut Cursor) -> Option<u8>
     Some(part)
 }
 
-// The part that the token is, where it is an integer.
+/// The part that the token is, where it is an integer.
 fn channel_by(token: &Token) -> Option<u8>
     ensures { result ≡ channel_by token.now.kind token.now.spelling }
 {
     match token.kind() {
-        Kind::Number { is_integer: true } => Some(channel_of(value_of(token)?)),
+        TokenKind::Number { is_integer: true } => Some(channel_of(value_of(token)?)),
         _ => None,
     }
 }
 
-// An integer as a part of a colour, from 0 to 255.
+/// An integer as a part of a colour, from 0 to 255.
 fn channel_of(amount: Fixed) -> u8
     ensures { result ≡ channel_of amount }
 {
     (amount.thousandths().max(0) / 1000).min(255) as u8
 }
 
-// Whether the closing bracket is next, and nothing after it.
+/// Whether the closing bracket is next, and nothing after it.
 fn is_closed(cursor: &mut Cursor) -> bool
     ensures { result ≡ is_closed cursor.old }
 {

@@ -1,7 +1,7 @@
 use Rattle.std.proofs.Common.{◌≡◌, ◌++◌, length}
 use Rattle.std.specs.Str.{chars}
 use Rattle.std.specs.String.{string_bytes}
-use Rattle.syntax_model.specs.Units.{said_of}
+use Rattle.syntax_model.specs.TextUnits.{said_of}
 use Rattle.css_tokens.specs.Scanned.{unit_by}
 use Rattle.css_tokens.proofs.run.run_text.Given as goal
 

@@ -1,5 +1,5 @@
 use Rattle.std.proofs.Common.{◌≡◌, length}
-use Rattle.syntax_model.specs.Kinds.{without_white}
+use Rattle.syntax_model.specs.TokenKinds.{without_white}
 use Rattle.css_tokens.proofs.trim.without_white.Given as goal
 
 abbrev pub invariant-loop-first : goal.invariant-loop-first

@@ -1,5 +1,5 @@
 use Rattle.std.proofs.Common.{◌≡◌, length, reverse}
-use Rattle.syntax_model.specs.Kinds.{without_white}
+use Rattle.syntax_model.specs.TokenKinds.{without_white}
 use Rattle.css_tokens.proofs.trim.without_white_end.Given as goal
 
 abbrev pub invariant-loop-last : goal.invariant-loop-last

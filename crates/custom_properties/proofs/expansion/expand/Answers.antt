@@ -6,7 +6,7 @@ use Rattle.custom_properties.proofs.expansion.expand.Goals as goal
 
 pub returns-then-branch : goal.returns-then-branch
 returns-then-branch g c =
-    let list = (state_of c.run.new.self).front.tokens in
+    let list = (state_of c.run.new.self).output.tokens in
     ap (λ l. Some l) c.into_tokens.ensures
     ∙ put-answer (g.V.Values.lookup c.args.values.now) (map said c.args.tokens.now) (state_of c.new-expander.result)
     c.new-reader.result.steps c.in_ok-run.field-0 true list c.new-expander.ensures c.new-reader.ensures.steps
@@ -14,7 +14,7 @@ returns-then-branch g c =
 
 pub returns : goal.returns
 returns g c =
-    let list = (state_of c.run.new.self).front.tokens in
+    let list = (state_of c.run.new.self).output.tokens in
     put-answer (g.V.Values.lookup c.args.values.now) (map said c.args.tokens.now) (state_of c.new-expander.result)
     c.new-reader.result.steps c.in_ok-run.field-0 false list c.new-expander.ensures c.new-reader.ensures.steps
     c.in_ok-run.ensures c.if-branch.false

@@ -1,4 +1,4 @@
-use Rattle.std.proofs.Common.{◌≡◌, ◌++◌, drop, map}
+use Rattle.std.proofs.Common.{◌≡◌, ◌++◌, drop}
 use Rattle.std.specs.FinMap as finmap
 use Rattle.custom_properties.specs.Graph.{edges_of, graph}
 use Rattle.custom_properties.proofs.graph.graph.Given as goal

@@ -1,12 +1,12 @@
-use Rattle.std.proofs.Common.{◌≡◌, ◌+◌, ◌<◌, length, slice_get, slice_set, true, Option, Some, None, Vec, Global, replicate, inl, inr, ⊎_elim, refl, sym, ap, subst, ◌∙◌, arith}
+use Rattle.std.proofs.Common.{◌≡◌, ◌+◌, length, slice_get, slice_set, true, Option, Some, None, Vec, Global, replicate, inl, inr, ⊎_elim, refl, sym, ap, subst, ◌∙◌, arith}
 use Rattle.std.specs.FinMap as finmap
 use Rattle.std.proofs.lemmas.List.{length-replicate, length-set}
 use Rattle.std.proofs.lemmas.Option.{slice_get_read}
-use Rattle.css_tokens.specs.declared.custom_value.CustomValue.{CustomValue}
+use Rattle.css_tokens.specs.declared.custom.value.CustomValue.{CustomValue}
 use Rattle.custom_properties.specs.Confirmed.{is_in_group}
 use Rattle.custom_properties.proofs.EntryLemmas.{length_of_entries}
 use Rattle.custom_properties.proofs.GraphLemmas.{all_of}
-use Rattle.custom_properties.proofs.OrderLemmas.{AreRight, in_group_within, right_first, right_set, right_kept, right_whole, value_seen}
+use Rattle.custom_properties.proofs.OrderLemmas.{AreRight, in_group_within, right_first, right_set, right_kept, right_whole, listed_value_seen}
 use Rattle.custom_properties.proofs.ordered.values_in_order.Goals as goal
 use Rattle.custom_properties.proofs.ordered.values_in_order.Goals.{then-is_in_group+in_ok-value, else-is_in_group}
 
@@ -61,7 +61,7 @@ loop-group-preserved c =
             long = ap length now ∙ (length-set values place w.in_ok-value.value ∙ c.loop-group.invariant.long);
             right = subst (λ l. AreRight declared inherited marks order c.requires.confirmed full l (group + 1)) (sym now)
                 (right_set declared inherited marks order c.requires.confirmed full values group place w.in_ok-value.value c.loop-group.invariant.long c.loop-group.invariant.right ordered chosen
-                (value_seen declared inherited c.entries-entries.result.now place values w.deref-then-is_in_group.result.now w.in_ok-value.value c.entries-entries.ensures (omega arith) w.deref-then-is_in_group.ensures.value w.in_ok-value.ensures));
+                (listed_value_seen declared inherited c.entries-entries.result.now place values w.deref-then-is_in_group.result.now w.in_ok-value.value c.entries-entries.ensures (omega arith) w.deref-then-is_in_group.ensures.value w.in_ok-value.ensures));
           }
       | else-is_in_group w ↦
           let now : c.if-is_in_group.values.items ≡ values = ap (λ (v : Vec (Option CustomValue) Global). v.items) w.values-is in

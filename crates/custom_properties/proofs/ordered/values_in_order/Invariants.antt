@@ -1,5 +1,4 @@
 use Rattle.std.proofs.Common.{◌≡◌, ℕ, ◌<◌, length, get_or, slice_get, true, None, Some, ◌⊎◌}
-use Rattle.std.specs.FinMap as finmap
 use Rattle.custom_model.specs.Computed.{computed as computed_value}
 use Rattle.custom_properties.specs.declared.mark.Mark.{Mark}
 use Rattle.custom_properties.proofs.GraphLemmas.{name_at, all_of}

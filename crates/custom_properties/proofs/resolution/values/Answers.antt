@@ -1,4 +1,4 @@
-use Rattle.std.proofs.Common.{◌∙◌, sym, arith}
+use Rattle.std.proofs.Common.{arith}
 use Rattle.std.specs.FinMap as finmap
 use Rattle.custom_properties.proofs.EntryLemmas.{length_of_entries}
 use Rattle.custom_properties.proofs.resolution.values.Goals as goal

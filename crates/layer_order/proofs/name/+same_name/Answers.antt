@@ -12,14 +12,14 @@ pub LayerName::is-returns-in_default-2 : goal.LayerName::is-returns-in_default-2
 LayerName::is-returns-in_default-2 t c =
     longer_than_none _ _ _ _ (sym (ap parts c.in_default.is-0) ∙ c.self.view_is) (sym (ap parts c.in_default.is-1) ∙ c.other.view_is)
 
-pub Link::is-returns-then-is : goal.Link::is-returns-then-is
-Link::is-returns-then-is t c =
+pub NameLink::is-returns-then-is : goal.NameLink::is-returns-then-is
+NameLink::is-returns-then-is t c =
     let link = c.args.self.now in
     let other = c.args.other.now in
     by_outer link.outer other.outer (part_of link.part) (part_of other.part) _ _ c.is.ensures c.if-is.true c.is-then-is.ensures
 
-pub Link::is-returns-else-is : goal.Link::is-returns-else-is
-Link::is-returns-else-is t c =
+pub NameLink::is-returns-else-is : goal.NameLink::is-returns-else-is
+NameLink::is-returns-else-is t c =
     let link = c.args.self.now in
     let other = c.args.other.now in
     by_part link.outer other.outer (part_of link.part) (part_of other.part) _ c.is.ensures c.if-is.false

@@ -1,5 +1,5 @@
 use Rattle.std.proofs.Common.{ap, sym, ◌∙◌, arith}
-use Rattle.syntax_model.specs.Kinds.{is_white}
+use Rattle.syntax_model.specs.TokenKinds.{is_white}
 use Rattle.syntax_model.specs.Outside.{from_first}
 use Rattle.shorthands.proofs.BlockLemmas.{first_later}
 use Rattle.shorthands.proofs.word.from_white.Goals as goal

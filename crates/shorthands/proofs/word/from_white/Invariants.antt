@@ -1,5 +1,5 @@
 use Rattle.std.proofs.Common.{◌≡◌, ◌≤◌, length}
-use Rattle.syntax_model.specs.Kinds.{is_white}
+use Rattle.syntax_model.specs.TokenKinds.{is_white}
 use Rattle.syntax_model.specs.Outside.{from_first}
 use Rattle.shorthands.proofs.word.from_white.Given as goal
 

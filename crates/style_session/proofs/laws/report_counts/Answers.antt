@@ -1,5 +1,5 @@
 use Rattle.std.proofs.Common.{sym}
-use Rattle.session_model.proofs.RuleLemmas.{sound-reached, keeps-reached}
+use Rattle.session_model.proofs.InvariantLemmas.{sound-reached, keeps-reached}
 use Rattle.session_model.proofs.WalkLemmas.{length-results, matched-results}
 use Rattle.style_session.proofs.laws.report_counts.Goals as goal
 

@@ -1,6 +1,6 @@
 use Rattle.std.proofs.Common.{◌≡◌, ◌/◌, arith, rules, unsigned_abs}
 use Rattle.std.proofs.lemmas.Fmt.{length-decimal-le}
-use Rattle.stylo_base.proofs.NumberLemmas.{written-IsAscii}
+use Rattle.stylo_base.proofs.NumberLemmas.{printed_number-IsAscii}
 use Rattle.stylo_base.proofs.number_text.write_fixed.Goals as goal
 
 pub write_whole-start-requires : goal.write_whole-start-requires
@@ -14,9 +14,9 @@ write_byte-requires c =
 pub returns-then-thousandths-lt0-clause-ascii : goal.returns-then-thousandths-lt0-clause-ascii
 returns-then-thousandths-lt0-clause-ascii c =
     let is : c.unsigned_abs-size.result ≡ unsigned_abs c.args.number = search rules in
-    written-IsAscii c.args.number (omega arith)
+    printed_number-IsAscii c.args.number (omega arith)
 
 pub returns-clause-ascii : goal.returns-clause-ascii
 returns-clause-ascii c =
     let is : c.unsigned_abs-size.result ≡ unsigned_abs c.args.number = search rules in
-    written-IsAscii c.args.number (omega arith)
+    printed_number-IsAscii c.args.number (omega arith)

@@ -12,9 +12,9 @@ returns-in-Property c =
     ∙ ((λ i. cond (sym c.sets.ensures i) (entry_of (property_of c.in-Property.id) c.args.d.now ∷ []) [])
     ∙ ap (λ w. cond c.sets.result (entry_by w c.args.d.now ∷ []) []) (sym c.in-Property.is)))
 
-pub returns-in-Customs : goal.returns-in-Customs
-returns-in-Customs c =
-    ap (λ w. filter (wanted_by w) (matched_of c.args.d.now)) c.in-Customs.is
+pub returns-in-Custom : goal.returns-in-Custom
+returns-in-Custom c =
+    ap (λ w. filter (wanted_by w) (matched_of c.args.d.now)) c.in-Custom.is
     ∙ (of_customs c.args.d.now
     ∙ ((λ i. cond (sym c.is_custom.ensures i) (head_of c.args.d.now ∷ []) [])
-    ∙ ap (λ w. cond c.is_custom.result (entry_by w c.args.d.now ∷ []) []) (sym c.in-Customs.is)))
+    ∙ ap (λ w. cond c.is_custom.result (entry_by w c.args.d.now ∷ []) []) (sym c.in-Custom.is)))

@@ -2,7 +2,7 @@ use Rattle.std.proofs.Common.{refl, sym, ap, ◌∙◌, option_and_then}
 use Rattle.std.specs.Prelude.{codes}
 use Rattle.job_json.specs.Values.{whole, is_one, is_empty_list}
 use Rattle.job_json.specs.Within.{sheets_within}
-use Rattle.job_json.specs.Within.{nodes_in}
+use Rattle.job_json.specs.Within.{node_list_within}
 use Rattle.job_json.proofs.Puts.{here, there, beside}
 use Rattle.job_json.proofs.document.JobPartsKeepMembers.member.Goals as goal
 
@@ -15,7 +15,7 @@ returns-in_ok-whole-in-version-clause-ok c =
       λ ms kept. record {
         version = c.is_one-self.ensures ∙ ap is_one (sym done.2) ∙ ap (λ o. is_one (option_and_then whole o)) (here key done.0 ms (codes "version") c.in-version.is);
         batches = kept.batches ∙ ap is_empty_list (beside key done.0 ms (codes "version") (codes "batches") c.in-version.is refl);
-        nodes = kept.nodes ∙ ap (option_and_then nodes_in) (beside key done.0 ms (codes "version") (codes "nodes") c.in-version.is refl);
+        nodes = kept.nodes ∙ ap (option_and_then node_list_within) (beside key done.0 ms (codes "version") (codes "nodes") c.in-version.is refl);
         sheets = kept.sheets ∙ ap sheets_within (beside key done.0 ms (codes "version") (codes "sheets") c.in-version.is refl);
       },
     )
@@ -29,7 +29,7 @@ returns-in_ok-self-in-batches-clause-ok c =
       λ ms kept. record {
         version = kept.version ∙ ap (λ o. is_one (option_and_then whole o)) (beside key done.0 ms (codes "batches") (codes "version") c.in-batches.is refl);
         batches = sym done.2 ∙ ap is_empty_list (here key done.0 ms (codes "batches") c.in-batches.is);
-        nodes = kept.nodes ∙ ap (option_and_then nodes_in) (beside key done.0 ms (codes "batches") (codes "nodes") c.in-batches.is refl);
+        nodes = kept.nodes ∙ ap (option_and_then node_list_within) (beside key done.0 ms (codes "batches") (codes "nodes") c.in-batches.is refl);
         sheets = kept.sheets ∙ ap sheets_within (beside key done.0 ms (codes "batches") (codes "sheets") c.in-batches.is refl);
       },
     )
@@ -43,7 +43,7 @@ returns-in_ok-self-in-nodes-clause-ok c =
       λ ms kept. record {
         version = kept.version ∙ ap (λ o. is_one (option_and_then whole o)) (beside key done.0 ms (codes "nodes") (codes "version") c.in-nodes.is refl);
         batches = kept.batches ∙ ap is_empty_list (beside key done.0 ms (codes "nodes") (codes "batches") c.in-nodes.is refl);
-        nodes = sym done.2 ∙ ap (option_and_then nodes_in) (here key done.0 ms (codes "nodes") c.in-nodes.is);
+        nodes = sym done.2 ∙ ap (option_and_then node_list_within) (here key done.0 ms (codes "nodes") c.in-nodes.is);
         sheets = kept.sheets ∙ ap sheets_within (beside key done.0 ms (codes "nodes") (codes "sheets") c.in-nodes.is refl);
       },
     )
@@ -57,7 +57,7 @@ returns-in_ok-self-in-sheets-clause-ok c =
       λ ms kept. record {
         version = kept.version ∙ ap (λ o. is_one (option_and_then whole o)) (beside key done.0 ms (codes "sheets") (codes "version") c.in-sheets.is refl);
         batches = kept.batches ∙ ap is_empty_list (beside key done.0 ms (codes "sheets") (codes "batches") c.in-sheets.is refl);
-        nodes = kept.nodes ∙ ap (option_and_then nodes_in) (beside key done.0 ms (codes "sheets") (codes "nodes") c.in-sheets.is refl);
+        nodes = kept.nodes ∙ ap (option_and_then node_list_within) (beside key done.0 ms (codes "sheets") (codes "nodes") c.in-sheets.is refl);
         sheets = sym done.2 ∙ ap sheets_within (here key done.0 ms (codes "sheets") c.in-sheets.is);
       },
     )
@@ -71,7 +71,7 @@ returns-in_ok-pass-in_default-clause-ok c =
       λ ms kept. record {
         version = kept.version ∙ ap (λ o. is_one (option_and_then whole o)) (there key done.0 ms (codes "version") c.in_default.not-version);
         batches = kept.batches ∙ ap is_empty_list (there key done.0 ms (codes "batches") c.in_default.not-batches);
-        nodes = kept.nodes ∙ ap (option_and_then nodes_in) (there key done.0 ms (codes "nodes") c.in_default.not-nodes);
+        nodes = kept.nodes ∙ ap (option_and_then node_list_within) (there key done.0 ms (codes "nodes") c.in_default.not-nodes);
         sheets = kept.sheets ∙ ap sheets_within (there key done.0 ms (codes "sheets") c.in_default.not-sheets);
       },
     )

@@ -1,34 +1,63 @@
-use Rattle.std.proofs.Common.{◌≡◌, None, ap, ◌∙◌, rules}
-use Rattle.std.specs.Prelude.{codes}
+use Rattle.std.proofs.Common.{◌≡◌, false, None, Some, ap, sym, subst, ◌∙◌, rules, IfOk, slice_get}
+use Rattle.std.specs.Prelude.{List}
 use Rattle.base_model.proofs.Lists.{slice_get_some}
 use Rattle.scene_model.specs.Lookups.{attribute_of}
+use Rattle.cascade_model.specs.Cascade.{cascaded}
+use Rattle.cascade_model.specs.Key.{Matched}
 use Rattle.cascade_model.specs.Matching.{matching_rules}
 use Rattle.sheet_set.specs.View.{sources_seen}
-use Rattle.plain_style.specs.Hits.{declarations_of}
-use Rattle.plain_style.proofs.MemoLemmas.{all_right_before, no_attribute, on_ok_right, right_grown, right_here}
+use Rattle.plain_style.specs.MatchedRules.{declarations_of, declared_by}
+use Rattle.plain_style.proofs.CacheLemmas.{fits_more, on_ok_fits, right_grown, right_here}
+use Rattle.plain_style.proofs.Walk.{declared_all, no_text}
 use Rattle.plain_style.proofs.styler.Styler.child.Goals as goal
 
-pub returns-then-is_some-clause-memo : goal.returns-then-is_some-clause-memo
-returns-then-is_some-clause-memo c =
-    on_ok_right c.args.inputs.now.sheets.now c.args.size c.args.self.now.table c.compute.new.self.table c.args.self.now.memo c.compute.new.self.memo c.compute.result c.compute.ensures.kept c.compute.ensures.memo c.requires.memo
+pub matching_rules-requires-clause-filters : goal.matching_rules-requires-clause-filters
+matching_rules-requires-clause-filters c = c.deref.ensures.value ∙ c.requires.fits.prepared_is.filters
+
+pub returns-then-is_some-clause-style : goal.returns-then-is_some-clause-style
+returns-then-is_some-clause-style c over at =
+    let sources = sources_seen c.args.inputs.now.sheets.now in
+    let doc = c.args.inputs.now.doc.now.elements in
+    let x = c.args.number in
+    let text = c.attribute_atom-text.ensures ∙ ap (attribute_of doc x) c.requires.fits.prepared_is.name in
+    subst (λ (l : List Matched). IfOk c.compute.result (λ style. slice_get c.compute.new.self.table style ≡ Some (cascaded false over c.args.size l))) (declared_all doc sources x c.matching_rules.new.found.items _ c.in_ok-matching_rules.ensures text) (c.compute.ensures.style over at)
+
+pub returns-then-is_some-clause-fits : goal.returns-then-is_some-clause-fits
+returns-then-is_some-clause-fits c =
+    on_ok_fits (sources_seen c.args.inputs.now.sheets.now) c.args.size c.args.inputs.now.prepared.now c.args.self.now c.compute.new.self c.compute.result c.compute.ensures.kept c.compute.ensures.cache c.requires.fits
 
 pub returns-in-Some-clause-style : goal.returns-in-Some-clause-style
 returns-in-Some-clause-style c over at =
-    let sheets = c.args.inputs.now.sheets.now in
+    let sources = sources_seen c.args.inputs.now.sheets.now in
     let doc = c.args.inputs.now.doc.now.elements in
-    let none : attribute_of doc c.args.number (codes "style") ≡ None = no_attribute c.attribute_atom.result doc c.args.number c.args.inputs.now.style_name.now c.attribute_atom.ensures c.if-is_some.ensures c.requires.name in
-    let found : declarations_of sheets c.deref.result.now ≡ matching_rules doc (sources_seen sheets) c.args.number = ap (declarations_of sheets) c.deref.ensures.value ∙ c.in_ok-hits_into.ensures in
-    right_here sheets c.args.size c.args.self.now.table c.args.parent c.deref.result.now c.in-Some.style doc c.args.number over found none at (c.in-Some.ensures sheets c.args.size c.args.self.now.table c.requires.memo)
+    let x = c.args.number in
+    let none = no_text c.attribute_atom-text.result _ (c.attribute_atom-text.ensures ∙ ap (attribute_of doc x) c.requires.fits.prepared_is.name) c.if-is_some.ensures in
+    let found : declarations_of sources c.deref-2.result.now ≡ matching_rules doc sources x = ap (declarations_of sources) c.deref-2.ensures.value ∙ c.in_ok-matching_rules.ensures in
+    right_here sources c.args.size c.args.self.now.table c.args.parent c.deref-2.result.now c.in-Some.style over _ (declared_all doc sources x c.deref-2.result.now None found none) at (c.in-Some.ensures sources c.args.size c.args.self.now.table c.requires.fits.cache)
 
-pub returns-clause-memo : goal.returns-clause-memo
-returns-clause-memo c =
-    let sheets = c.args.inputs.now.sheets.now in
+pub returns-in-Some-clause-fits : goal.returns-in-Some-clause-fits
+returns-in-Some-clause-fits c =
+    record { prepared_is = c.requires.fits.prepared_is; cache = c.requires.fits.cache }
+
+pub returns-clause-style : goal.returns-clause-style
+returns-clause-style c over at =
+    let sources = sources_seen c.args.inputs.now.sheets.now in
     let doc = c.args.inputs.now.doc.now.elements in
+    let x = c.args.number in
+    let none = no_text c.attribute_atom-text.result _ (c.attribute_atom-text.ensures ∙ ap (attribute_of doc x) c.requires.fits.prepared_is.name) c.if-is_some.ensures in
+    c.in_ok-style.ensures.style over at ∙ ap (λ l. Some (cascaded false over c.args.size l)) (declared_all doc sources x c.matching_rules.new.found.items None c.in_ok-matching_rules.ensures none)
+
+pub returns-clause-fits : goal.returns-clause-fits
+returns-clause-fits c =
+    let sources = sources_seen c.args.inputs.now.sheets.now in
+    let size = c.args.size in
     let old = c.args.self.now.table in
     let new = c.compute-2.new.self.table in
-    let none : attribute_of doc c.args.number (codes "style") ≡ None = no_attribute c.attribute_atom.result doc c.args.number c.args.inputs.now.style_name.now c.attribute_atom.ensures c.if-is_some.ensures c.requires.name in
-    let hits : c.deref-2.result.now ≡ c.hits_into.new.hits.items = search rules in
-    let found : declarations_of sheets c.deref-2.result.now ≡ matching_rules doc (sources_seen sheets) c.args.number = ap (declarations_of sheets) hits ∙ c.in_ok-hits_into.ensures in
+    let same : c.deref-3.result.now ≡ c.matching_rules.new.found.items = search rules in
     let (over, at) = slice_get_some old c.args.parent c.requires.parent in
-    c.in_ok-keep.ensures sheets c.args.size new (all_right_before sheets c.args.size old new _ _ c.in_ok-style.ensures.kept c.compute-2.ensures.memo c.requires.memo)
-    (right_grown sheets c.args.size old new c.args.parent c.deref-2.result.now c.in_ok-style.style doc c.args.number over found none at c.in_ok-style.ensures.kept (c.in_ok-style.ensures.style over at))
+    let is = c.in_ok-style.ensures.style over at ∙ ap (λ l. Some (cascaded false over size (declared_by sources l None))) (sym same) in
+    let before = fits_more sources size c.args.inputs.now.prepared.now c.args.self.now c.compute-2.new.self c.in_ok-style.ensures.kept c.compute-2.ensures.cache c.requires.fits in
+    record {
+      prepared_is = c.requires.fits.prepared_is;
+      cache = c.in_ok-keep.ensures sources size new before.cache (right_grown sources size old new c.args.parent c.deref-3.result.now c.in_ok-style.style over at c.in_ok-style.ensures.kept is);
+    }

@@ -1,8 +1,0 @@
-use Rattle.std.proofs.Common.{◌≡◌, drop, map, option_map}
-use Rattle.property_table.specs.View.{property_of, value_of}
-use Rattle.cascade_core.specs.Tokens.{among}
-use Rattle.cascade_core.proofs.came.among.Given as goal
-
-abbrev pub invariant-loop-place : goal.invariant-loop-place
-invariant-loop-place l =
-    among (property_of l.id) (map property_of (drop l.place l.ids)) (map (option_map value_of) (drop l.place l.values)) ≡ among (property_of l.id) (map property_of l.ids) (map (option_map value_of) l.values)

@@ -1,0 +1,185 @@
+//! The style of an element over its parent's.
+
+ghost use Rattle.std.specs.Prelude.{◌≡◌, ◌++◌, IfOk, OnOk, length};
+ghost use Rattle.std.specs.FinMap as finmap;
+ghost use Rattle.std.specs.Option.{unwrap_or};
+ghost use Rattle.cascade_model.specs.Cascade.{sizes, value_at, values_over};
+ghost use Rattle.cascade_model.specs.Custom.{custom_values};
+ghost use Rattle.cascade_model.specs.Ending.{ending};
+ghost use Rattle.value_model.specs.Style.{font_size_of, font_weight_of, inherited_part, size_in};
+ghost use Rattle.value_model.specs.Table.{font_size_property, font_size_row, table};
+ghost use Rattle.value_model.specs.Value.{pixels};
+ghost use Rattle.cascade_core.specs.Declarations.{IsCascaded, in_order};
+
+use crate::computed::{ParentFont, ParentValues, Sizes, own_size, value_at};
+use crate::custom::changed_custom;
+use crate::longhands::Longhands;
+use crate::winners::Winners;
+use crate::{Declarations, Matched};
+use css_tokens::CustomMap;
+use property_table::{PropId, PropertyRow, Value};
+use std::alloc::Global;
+use style_value::{Custom, Style, StyleDraft};
+use stylo_base::{Fixed, NoMemory};
+
+/// The style of an element, from the declarations of the rules that match it, those of its `style`
+/// attribute, and the style of its parent (css-cascade-5, sections 6 and 7): the custom properties
+/// first, then the font size, then for each other property its cascaded value, with `var()`
+/// substituted, computed over the parent's value, and then the adjustments. At the root `parent` is
+/// the style of all initial values. `root_size` is the root's font size; at the root it is the
+/// initial one, and `rem` is the root's own font size in all properties but `font-size`.
+pub fn cascade(
+    alloc: Global,
+    matched: &[Matched<'_>],
+    attached: &[Matched<'_>],
+    parent: &Style,
+    root_size: Fixed,
+    is_root: bool,
+) -> Result<Style, NoMemory>
+    ensures { IfOk result (IsCascaded is_root parent.now root_size (matched.now ++ attached.now)) }
+{
+    let declarations = Declarations { matched, attached };
+    cascade_draft(alloc, declarations, parent, root_size, is_root)?.finish(alloc)
+}
+
+/// The same style before it is finished, for a caller that keeps equal styles once: the text of the
+/// style is not yet made.
+pub fn cascade_draft(
+    alloc: Global,
+    declarations: Declarations<'_>,
+    parent: &Style,
+    root_size: Fixed,
+    is_root: bool,
+) -> Result<StyleDraft, NoMemory>
+    ensures { IfOk result (IsCascaded is_root parent.now root_size (in_order declarations.entry)) }
+{
+    let winners = Winners::of(declarations)?;
+    let mut draft = StyleDraft::inheriting(alloc, parent)?;
+    fill(alloc, &mut draft, &winners, parent, root_size, is_root)?;
+    draft.adjust(is_root);
+    Ok(draft)
+}
+
+/// Turns what an element takes from its parent into its style before the adjustments.
+fn fill(
+    alloc: Global,
+    draft: &mut StyleDraft,
+    winners: &Winners<'_>,
+    parent: &Style,
+    root_size: Fixed,
+    is_root: bool,
+) -> Result<(), NoMemory>
+    requires { draft.old ≡ inherited_part parent.now }
+    ensures { let custom = custom_values parent.now.custom winners.now in
+        OnOk result (draft.new ≡ record {
+          values = values_over (finmap.get custom) is_root parent.now.values root_size winners.now;
+          custom = custom;
+        }) }
+{
+    let Some(custom) = custom_of(alloc, winners, parent)? else {
+        let inherited = parent.custom().map();
+        return set_values(alloc, draft, winners, parent, inherited, root_size, is_root);
+    };
+    set_values(
+        alloc,
+        draft,
+        winners,
+        parent,
+        custom.map(),
+        root_size,
+        is_root,
+    )?;
+    draft.set_custom(custom);
+    Ok(())
+}
+
+/// The custom properties. None: they are the parent's.
+fn custom_of(
+    alloc: Global,
+    winners: &Winners<'_>,
+    parent: &Style,
+) -> Result<Option<Custom>, NoMemory>
+    ensures { IfOk result (λ custom. unwrap_or custom parent.now.custom
+        ≡ custom_values parent.now.custom winners.now) }
+{
+    if winners.have_custom() {
+        changed_custom(alloc, winners.declarations(), parent.custom())
+    } else {
+        Ok(None)
+    }
+}
+
+/// Sets the values of the declared properties in what an element takes from its parent. `custom` are
+/// the element's own custom properties.
+fn set_values(
+    alloc: Global,
+    draft: &mut StyleDraft,
+    winners: &Winners<'_>,
+    parent: &Style,
+    custom: &CustomMap,
+    root_size: Fixed,
+    is_root: bool,
+) -> Result<(), NoMemory>
+    requires { draft.old ≡ inherited_part parent.now }
+    ensures { OnOk result (draft.new ≡ record {
+      values = values_over (finmap.get custom.now) is_root parent.now.values root_size winners.now;
+      custom = parent.now.custom;
+    }) }
+{
+    let font = font_of(parent);
+    let own = size_of(alloc, winners, custom, font, root_size)?;
+    let sizes = Sizes {
+        element: own,
+        root: if is_root { own } else { root_size },
+    };
+    draft.set(PropId::FontSize, Value::Pixels(own));
+    let mut longhands = Longhands::over(custom, PropId::FontSize);
+    let mut rest = winners.declared() & !(1 << PropId::FontSize.row());
+    while rest != 0 {
+        let row = &PropertyRow::all()[rest.trailing_zeros() as usize];
+        let id = row.id;
+        rest &= !(1 << id.row());
+        longhands.read_as(id);
+        let cascaded = winners.cascaded_value(alloc, &mut longhands)?;
+        let parents = ParentValues {
+            value: parent.value(id),
+            font,
+        };
+        draft.set(id, value_at(row, parents, &sizes, cascaded));
+    }
+    Ok(())
+}
+
+/// The font size, which is the parent's where none is declared.
+fn size_of(
+    alloc: Global,
+    winners: &Winners<'_>,
+    custom: &CustomMap,
+    font: ParentFont,
+    root_size: Fixed,
+) -> Result<Fixed, NoMemory>
+    ensures { let ends = ending (finmap.get custom.now) font_size_property winners.now in
+        let sizes = sizes font.size root_size in
+        IfOk result (λ size. size
+        ≡ size_in (value_at font_size_row (pixels font.size) font.size font.weight sizes ends)) }
+{
+    if (winners.declared() >> PropId::FontSize.row()) & 1 == 0 {
+        return Ok(font.size);
+    }
+    let mut longhands = Longhands::over(custom, PropId::FontSize);
+    let cascaded = winners.cascaded_value(alloc, &mut longhands)?;
+    Ok(own_size(font, root_size, cascaded))
+}
+
+/// The parent's font size and font weight.
+fn font_of(parent: &Style) -> ParentFont
+    ensures size { result.size ≡ font_size_of parent.now.values }
+    ensures weight { result.weight ≡ font_weight_of parent.now.values }
+    ensures all { length parent.now.values ≡ length table }
+{
+    let size = parent.value(PropId::FontSize).font_size();
+    ParentFont {
+        size,
+        weight: parent.font_weight(),
+    }
+}

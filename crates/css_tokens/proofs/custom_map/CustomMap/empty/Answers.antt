@@ -1,5 +1,0 @@
-use Rattle.css_tokens.proofs.MapLemmas.{of_none}
-use Rattle.css_tokens.proofs.custom_map.CustomMap.empty.Goals as goal
-
-pub returns : goal.returns
-returns c = of_none

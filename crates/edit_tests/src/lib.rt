@@ -1,0 +1,5 @@
+//! Tests of the public calls on edits.
+#![tactic(auto)]
+
+#[cfg(test)]
+mod dependencies;

@@ -1,7 +1,0 @@
-use Rattle.std.proofs.Common.{refl}
-use Rattle.value_model.specs.Table.{table}
-use Rattle.property_table.proofs.property.Row.inherited.Goals as goal
-
-pub returns : goal.returns
-unfolding table
-returns c = refl

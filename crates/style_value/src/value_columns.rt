@@ -1,0 +1,231 @@
+//! The values of a style in columns: a byte and a number for each property, without padding.
+
+ghost use Rattle.std.specs.Prelude.{◌≡◌, ◌<◌, ◌≤◌, ◌↔◌, Some, IsTrue, length, map, slice_get, slice_set, take};
+ghost use Rattle.value_model.specs.Table as model;
+ghost use Rattle.value_model.specs.Table.{table};
+ghost use Rattle.value_model.specs.Value as value_model;
+ghost use Rattle.value_model.specs.Value.{same_value};
+ghost use Rattle.value_model.specs.Style.{inherited_values, initial_style};
+ghost use Rattle.property_table.specs.ValueParts.{value_amount, value_word};
+ghost use Rattle.property_table.specs.View.{property_of, value_seen};
+ghost use Rattle.style_value.specs.ColumnView.{initial_values, with_value_in};
+ghost use Rattle.style_value.specs.StyleText.{printed_properties};
+
+use property_table::word::{COLOR, NUMBER, PIXELS};
+use property_table::{
+    COUNT, INITIAL_SIZE as SIZE, Keyword, PropId, PropertyRow, Value, initial_size,
+};
+use std::marker::Model;
+use stylo_base::Fixed;
+
+/// The word of the initial value of each property, which is that of its standing value too.
+const WORDS: [u8; COUNT] = [
+    // color, direction, display, position, float, clear, visibility
+    COLOR,
+    Keyword::Ltr as u8,
+    Keyword::Inline as u8,
+    Keyword::Static as u8,
+    Keyword::None as u8,
+    Keyword::None as u8,
+    Keyword::Visible as u8,
+    // overflow
+    Keyword::Visible as u8,
+    Keyword::Visible as u8,
+    // width, height, and the least and the most of them
+    Keyword::Auto as u8,
+    Keyword::Auto as u8,
+    Keyword::Auto as u8,
+    Keyword::Auto as u8,
+    Keyword::None as u8,
+    Keyword::None as u8,
+    // margin
+    PIXELS,
+    PIXELS,
+    PIXELS,
+    PIXELS,
+    // padding
+    PIXELS,
+    PIXELS,
+    PIXELS,
+    PIXELS,
+    // the border: its width, style and color
+    PIXELS,
+    PIXELS,
+    PIXELS,
+    PIXELS,
+    Keyword::None as u8,
+    Keyword::None as u8,
+    Keyword::None as u8,
+    Keyword::None as u8,
+    Keyword::CurrentColor as u8,
+    Keyword::CurrentColor as u8,
+    Keyword::CurrentColor as u8,
+    Keyword::CurrentColor as u8,
+    // background-color
+    COLOR,
+    // font-size, font-weight, font-style, line-height
+    PIXELS,
+    NUMBER,
+    Keyword::Normal as u8,
+    Keyword::Normal as u8,
+];
+
+/// The amount of the standing value of each property.
+const STANDING: [i64; COUNT] = [
+    255, 0, 0, 0, 0, 0, 0, 0, 0, 0, 0, 0, 0, 0, 0, 0, 0, 0, 0, 0, 0, 0, 0, 0, 0, 0, 0, 0, 0, 0, 0,
+    0, 0, 0, 0, 0, SIZE, 400_000, 0, 0,
+];
+
+/// A value for each property, in the order of the table, as its word and its amount. Contracts see
+/// the list of the values.
+#[derive(Debug, Drop)]
+pub(crate) struct ValueColumns {
+    words: [u8; COUNT],
+    amounts: [Fixed; COUNT],
+}
+
+impl Model for ValueColumns {
+    ghost use Rattle.std.specs.Prelude.{List};
+    ghost use Rattle.std.specs.Coded.{coded_list};
+    ghost use Rattle.value_model.specs.Value as model;
+    ghost use Rattle.property_table.specs.ValueParts.{values_of_words};
+    ghost use Rattle.style_value.specs.ColumnView.{AreColumns};
+
+    ghost Value = { List model.Value };
+
+    ghost coded = { coded_list model.value_code };
+
+    ghost view = { λ c. values_of_words c.words c.amounts };
+
+    ghost invariant = { λ c. AreColumns c.words c.amounts };
+}
+
+impl ValueColumns {
+    /// The initial value of each property.
+    #[inline]
+    pub fn initial() -> ValueColumns
+        ensures { result ≡ initial_style.values }
+    {
+        ValueColumns {
+            words: WORDS,
+            amounts: initial_amounts(),
+        }
+    }
+
+    /// The value in `parent` of each inherited property, and the initial one of each other.
+    #[inline]
+    pub fn inheriting(parent: &ValueColumns) -> ValueColumns
+        ensures { result ≡ inherited_values table parent.now }
+    {
+        // Without effect: it tells the proof that `parent` has a value for each property.
+        let _ = &parent.words;
+        let mut columns = ValueColumns::initial();
+        for id in PropertyRow::inherited() {
+            columns.inherit(parent, *id);
+        }
+        columns
+    }
+
+    /// Gives a property the value that it has in `parent`.
+    #[inline]
+    fn inherit(&mut self, parent: &ValueColumns, id: PropId)
+        ensures new { self.new ≡ with_value_in parent.now (property_of id) self.old }
+        ensures all { length parent.now ≡ length table }
+    {
+        let row = id.row();
+        self.words[row] = parent.words[row];
+        self.amounts[row] = parent.amounts[row];
+    }
+
+    /// The value of a property.
+    pub fn value(&self, id: PropId) -> Value
+        ensures value { slice_get self.now (property_of id) ≡ Some (value_seen result) }
+        ensures all { length self.now ≡ length table }
+    {
+        let row = id.row();
+        Value::of_word(self.words[row], self.amounts[row])
+    }
+
+    /// Gives a property a value.
+    pub fn set(&mut self, id: PropId, value: Value)
+        ensures { self.new ≡ slice_set self.old (property_of id) (value_seen value) }
+    {
+        let row = id.row();
+        self.words[row] = word(&value);
+        self.amounts[row] = value.amount();
+    }
+
+    /// Writes the properties whose value is not the standing one to the front of `list`, in the order
+    /// of the table, and says how many they are.
+    pub fn printed(&self, list: &mut [PropId; COUNT]) -> usize
+        ensures within { result ≤ COUNT }
+        ensures list { map property_of (take result list.new) ≡ printed_properties self.now }
+        ensures all { length self.now ≡ length table }
+    {
+        // Without effect: it tells the proof that there is a value for each property.
+        let _ = &self.words;
+        let rows = PropertyRow::all();
+        let mut count = 0;
+        for row in 0..COUNT {
+            if !self.is_standing(row) {
+                list[count] = rows[row].id;
+                count += 1;
+            }
+        }
+        count
+    }
+
+    /// Whether the value of the property of a row is the one that is not printed.
+    fn is_standing(&self, row: usize) -> bool
+        requires { row < COUNT }
+        ensures { (r : model.PropertyRow) (value : value_model.Value) → slice_get table row ≡ Some r
+            → slice_get self.now row ≡ Some value → result ≡ same_value value r.standing }
+    {
+        self.words[row] == WORDS[row] && self.amounts[row].thousandths() == STANDING[row]
+    }
+
+    /// A number that equal values share.
+    pub(crate) fn slot(&self) -> usize {
+        let mut sum = 0u64;
+        for row in 0..COUNT {
+            let amount = self.amounts[row].thousandths().cast_unsigned();
+            sum = sum
+                .wrapping_mul(31)
+                .wrapping_add(amount)
+                .wrapping_add((self.words[row] as u64) << 20);
+        }
+        (sum ^ (sum >> 24)) as usize
+    }
+
+    /// Whether both have the same values.
+    pub fn is_same(&self, other: &ValueColumns) -> bool
+        ensures { IsTrue result ↔ (self.now ≡ other.now) }
+    {
+        self.words == other.words && self.amounts == other.amounts
+    }
+}
+
+/// The word of a value.
+fn word(value: &Value) -> u8
+    ensures { result ≡ value_word value.now }
+{
+    value.word()
+}
+
+/// The amount of the initial value of each property: black, a border that is 3 pixels wide, a font
+/// size of 16 pixels and a font weight of 400, and 0 at the others.
+#[inline]
+fn initial_amounts() -> [Fixed; COUNT]
+    ensures { result ≡ map value_amount initial_values }
+{
+    let width = Fixed::clamp(3_000);
+    let mut amounts = [Fixed::zero(); COUNT];
+    amounts[PropId::Color.row()] = Fixed::clamp(255);
+    amounts[PropId::BorderTopWidth.row()] = width;
+    amounts[PropId::BorderRightWidth.row()] = width;
+    amounts[PropId::BorderBottomWidth.row()] = width;
+    amounts[PropId::BorderLeftWidth.row()] = width;
+    amounts[PropId::FontSize.row()] = initial_size();
+    amounts[PropId::FontWeight.row()] = Fixed::clamp(400_000);
+    amounts
+}

@@ -1,0 +1,5 @@
+//! Tests of which types may cross threads.
+#![tactic(auto)]
+
+#[cfg(test)]
+mod crossing_threads;
