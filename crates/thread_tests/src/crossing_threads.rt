@@ -1,10 +1,8 @@
 //! What may be handed to another thread, and what may be lent to several.
 
 use dom_tree::Doc;
-use layer_order::Layers;
 use plain_style::{Prepared, Styler};
-use selector_types::Selector;
-use sheet_set::{KeptSheet, SheetRule};
+use sheet_set::Sheets;
 use std::sync::Arc;
 use std::test::Fail;
 use style_value::{Style, StyleTable};
@@ -30,12 +28,8 @@ fn what_is_lent(_rt: HostRuntime) -> Result<(), Fail> {
     Ok(())
 }
 
-/// What `Sheets` is made of. (The whole of it is too large for one search of the prover.)
 #[test]
-fn what_sheets_hold(_rt: HostRuntime) -> Result<(), Fail> {
-    may_be_lent::<SheetRule>();
-    may_be_lent::<Selector>();
-    may_be_lent::<Layers>();
-    may_be_lent::<KeptSheet>();
+fn sheets_are_lent(_rt: HostRuntime) -> Result<(), Fail> {
+    may_be_lent::<Sheets>();
     Ok(())
 }
