@@ -1,5 +1,5 @@
 -- The rows of the attributes of a node: what one more makes of them, and of the map that they stand for.
-use Rattle.std.proofs.Common.{◌≡◌, ℕ, ◌+◌, ◌<◌, ◌≤◌, ◌==◌, ◌&&◌, Bool, true, false, cond, nat_lt, List, [], ◌∷◌, ◌++◌, map, length, find, drop, get_or, Option, Some, None, IfSome, option_map, is_some, ◌||◌, slice_get, sym, ap, ◌∙◌, subst, refl, arith}
+use Rattle.std.proofs.Common.{◌≡◌, ℕ, ◌+◌, ◌<◌, ◌≤◌, ◌==◌, ◌&&◌, Bool, true, false, cond, nat_lt, List, [], ◌∷◌, ◌++◌, map, length, find, drop, get_or, Option, Some, None, IfSome, option_map, is_some, ◌||◌, not, slice_get, sym, ap, ◌∙◌, subst, refl, arith}
 use Rattle.std.specs.Cmp.Lexicographic.{slice_cmp}
 use Rattle.std.specs.FinMap as finmap
 use Rattle.std.specs.Bool.{Decides}
@@ -12,9 +12,9 @@ use Rattle.stylo_base.specs.NameList.{StandOnce, is_among}
 use Rattle.stylo_base.proofs.NameLemmas.{is_among-Decides}
 use Rattle.scene_model.specs.Element.{Characters, Attributes}
 use Rattle.scene_model.proofs.Found.{found_any}
-use Rattle.scene_model.proofs.Lists.{each_weaker}
+use Rattle.scene_model.proofs.Lists.{each_weaker, each-filter}
 use Rattle.dom_tree.specs.declared.node_columns.AttrRow.{AttrRow}
-use Rattle.dom_tree.specs.Kept.{text_of, named_pair, named_attributes, name_text, put_row, AreAttrs, HaveNames, KeepsTexts}
+use Rattle.dom_tree.specs.Kept.{text_of, named_pair, named_attributes, name_text, put_row, without_row, AreAttrs, HaveNames, KeepsTexts}
 use Rattle.dom_tree.specs.ElementNames.{AreNamesOf}
 use Rattle.dom_tree.specs.declared.nodes.Attr.{Attr}
 use Rattle.dom_tree.specs.View.{pair_of, attributes_of}
@@ -87,6 +87,59 @@ AreAttrs-put names name value (row ∷ rows) l m are = by_order (AreAttrs-put na
     by_order later false false below same =
         let above : name < row.name = omega (arith, ltb-false row.name name below, eqb-false row.name name same) in
         ((l, m), (above, each_weaker (λ (other : AttrRow). row.name < other.name) (λ other. name < other.name) (λ other h. omega arith) rows are.1), are)
+
+-- a name that is left out
+
+-- a text finds nothing under it, and else what it found before
+out_found : (names : List Characters) (name : ℕ) (rows : List AttrRow) (q : Characters) → StandOnce names → name < length names → AreAttrs names rows → found q (map (named_pair names) (without_row name rows)) ≡ cond (ties q (text_of names name)) None (found q (map (named_pair names) rows))
+out_found names name [] q once l are = either (ties q (text_of names name)) None
+  where
+    either : (b : Bool) (o : Option Characters) → o ≡ cond b o o
+    either true o = refl
+    either false o = refl
+out_found names name (row ∷ rows) q once l are = by_name (out_found names name rows q once l are.2) (row.name == name) refl
+  where
+    rest : Option Characters
+    rest = found q (map (named_pair names) rows)
+
+    by_name : found q (map (named_pair names) (without_row name rows)) ≡ cond (ties q (text_of names name)) None rest → (b : Bool) → (row.name == name) ≡ b → found q (map (named_pair names) (cond (not b) (row ∷ without_row name rows) (without_row name rows))) ≡ cond (ties q (text_of names name)) None (found q (map (named_pair names) (row ∷ rows)))
+    by_name later true same =
+        later
+        ∙ (hidden (ties q (text_of names name)) None (Some (text_of names row.value)) rest
+        ∙ ap (λ n. cond (ties q (text_of names name)) None (cond (ties q (text_of names n)) (Some (text_of names row.value)) rest)) (sym (eqb-true row.name name same)))
+    by_name later false same =
+        ap (λ o. cond (ties q (text_of names row.name)) (Some (text_of names row.value)) o) later
+        ∙ swapped (ties q (text_of names row.name)) (ties q (text_of names name)) (Some (text_of names row.value)) None rest
+        (λ e f. eqb-false row.name name same (same_name names row.name name once are.0.0 l (sym ((tied-Decides q (text_of names row.name)).0 e) ∙ (tied-Decides q (text_of names name)).0 f)))
+
+pub named_out : (names : List Characters) (name : ℕ) (rows : List AttrRow) → StandOnce names → name < length names → AreAttrs names rows → named_attributes names (without_row name rows) ≡ finmap.remove (named_attributes names rows) (text_of names name)
+named_out names name rows once l are =
+    finmap.same_map nat_list_cmp_total (finmap.slice_cmp-IsAntisymmetric finmap.nat_cmp-IsAntisymmetric) _ _
+    (λ q. finmap.get-from_entries nat_list_cmp_total (map (named_pair names) (without_row name rows)) q
+    ∙ (out_found names name rows q once l are
+    ∙ sym (finmap.get-remove nat_list_cmp_total (named_attributes names rows) (text_of names name) q
+    ∙ ap (cond (ties q (text_of names name)) None) (finmap.get-from_entries nat_list_cmp_total (map (named_pair names) rows) q))))
+
+pub AreAttrs-out : (names : List Characters) (name : ℕ) (rows : List AttrRow) → AreAttrs names rows → AreAttrs names (without_row name rows)
+AreAttrs-out names name [] are = tt
+AreAttrs-out names name (row ∷ rows) are = by_name (AreAttrs-out names name rows are.2) (row.name == name)
+  where
+    above : AllByRecursion (λ other. row.name < other.name) (without_row name rows)
+    above = each-filter (λ (other : AttrRow). row.name < other.name) (λ other. row.name < other.name) (λ other. not (other.name == name)) (λ other _ h. h) rows are.1
+
+    by_name : AreAttrs names (without_row name rows) → (b : Bool) → AreAttrs names (cond (not b) (row ∷ without_row name rows) (without_row name rows))
+    by_name later true = later
+    by_name later false = (are.0, above, later)
+
+-- a name that a map does not have
+pub remove_absent : (attrs : Attributes) (name : Characters) → finmap.get attrs name ≡ None → finmap.remove attrs name ≡ attrs
+remove_absent attrs name absent =
+    finmap.same_map nat_list_cmp_total (finmap.slice_cmp-IsAntisymmetric finmap.nat_cmp-IsAntisymmetric) _ _
+    (λ q. finmap.get-remove nat_list_cmp_total attrs name q ∙ by_text q (ties q name) refl)
+  where
+    by_text : (q : Characters) (b : Bool) → ties q name ≡ b → cond b None (finmap.get attrs q) ≡ finmap.get attrs q
+    by_text q true e = sym (ap (finmap.get attrs) ((tied-Decides q name).0 e) ∙ absent)
+    by_text q false e = refl
 
 -- more names
 
@@ -322,3 +375,13 @@ row_names names rows once are = record {
   exact = λ q. found_there names q rows ∙ ap is_some (sym (finmap.get-from_entries nat_list_cmp_total (map (named_pair names) rows) q));
   once = distinct_rows names once rows are;
 }
+
+-- how many rows there are
+pub rows_counted : (names : List Characters) (rows : List AttrRow) → StandOnce names → AreAttrs names rows → length rows ≡ finmap.len (named_attributes names rows)
+rows_counted names [] once are = sym (finmap.len-empty (slice_cmp nat_cmp) Characters)
+rows_counted names (row ∷ rows) once are =
+    let new : finmap.get (named_attributes names rows) (text_of names row.name) ≡ None = keyed names rows row.name once are.0.0 are.2 ∙ ap (option_map (text_of names)) (before_all row.name rows are.1) in
+    let more : finmap.len (named_attributes names (row ∷ rows)) ≡ finmap.len (named_attributes names rows) + 1 =
+    finmap.len-insert nat_list_cmp_total (named_attributes names rows) (text_of names row.name) (text_of names row.value)
+    ∙ ap (λ o. cond (is_some o) (finmap.len (named_attributes names rows)) (finmap.len (named_attributes names rows) + 1)) new in
+    omega (arith, rows_counted names rows once are.2, more)

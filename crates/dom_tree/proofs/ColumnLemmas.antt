@@ -96,7 +96,7 @@ on_ok (Err e) P h = tt
 -- what the columns show of the node at an index
 
 module _ (names : List Characters) (attrs : List AttrRow) (rows : List NodeRow) (are : AreRows names attrs rows) (table : Table) (view : record { names = names; nodes = map (node_seen names attrs) rows } ≡ table) (i : ℕ) (row : NodeRow) (l : i < length table.nodes) (is : row ≡ get_or rows i row) where
-  here : slice_get rows i ≡ Some row
+  pub here : slice_get rows i ≡ Some row
   here = slice_get_read rows (length rows) i row refl (omega (arith, ap (λ (t : Table). length t.nodes) view, length-map rows (node_seen names attrs))) is
 
   pub row_is : IsRow names attrs row

@@ -1,5 +1,5 @@
 -- What was made of a list of nodes is whole, and is its document.
-use Rattle.std.proofs.Common.{◌≡◌, ℕ, ◌<◌, ◌≤◌, ◌&&◌, nat_lt, nat_le, false, true, List, length, Some, sym, ap, ◌∙◌, subst, arith, ltb-true, lt-ltb, le-leb, leb-true}
+use Rattle.std.proofs.Common.{◌≡◌, ℕ, ◌<◌, ◌≤◌, ◌&&◌, nat_lt, nat_le, false, true, List, length, Option, Some, sym, ap, ◌∙◌, subst, arith, ltb-true, lt-ltb, le-leb, leb-true}
 use Rattle.std.specs.Bool.{Decides}
 use Rattle.std.specs.List.{filter_map}
 use Rattle.std.proofs.lemmas.Bool.{and_from, and_parts}
@@ -16,7 +16,7 @@ use Rattle.scene_model.proofs.TreeOrder.{IsValid-scene_of, numbers-scene_of, len
 use Rattle.dom_tree.specs.declared.labels.Label.{Label}
 use Rattle.dom_tree.specs.declared.links.NodeLink.{NodeLink}
 use Rattle.dom_tree.specs.Kept.{Table}
-use Rattle.dom_tree.specs.Labels.{AreLabels}
+use Rattle.dom_tree.specs.Labels.{AreCuts, AreLabels}
 use Rattle.dom_tree.specs.Links.{AreLinks}
 use Rattle.dom_tree.specs.TypePlaces.{AreTypePlaces}
 use Rattle.dom_tree.specs.Whole.{in_order, document, IsWhole}
@@ -44,8 +44,8 @@ module _ (list : List Node) (v : IsNodeList list) where
         each = λ x l h. are.each x l (omega (arith, so_many)) ∙ (λ i. Some (record { children = sym (children-scene_of list v x) i; place = sym (place_of-scene_of list v x) i }));
       }
 
-  pub whole_of_list : (table : Table) (links : List NodeLink) (before after : List ℕ) (labels : List Label) (lists : List (List Characters)) (order : List ℕ) → table.nodes ≡ list → length list ≤ element_limit → AreLinks (listed list) links → AreTypePlaces (scene_of table.nodes) false before → AreTypePlaces (scene_of table.nodes) true after → StandOnce table.names → AreLabels table lists labels → order ≡ tree_order list → IsWhole table links before after labels lists order
-  whole_of_list table links before after labels lists order nodes few are types_before types_after once labelled f =
+  pub whole_of_list : (table : Table) (links : List NodeLink) (before after : List ℕ) (labels : List Label) (lists : List (List Characters)) (cuts : List (Option ℕ)) (order : List ℕ) → table.nodes ≡ list → length list ≤ element_limit → AreLinks (listed list) links → AreTypePlaces (scene_of table.nodes) false before → AreTypePlaces (scene_of table.nodes) true after → StandOnce table.names → AreLabels table lists labels → AreCuts table.names lists cuts → order ≡ tree_order list → IsWhole table links before after labels lists cuts order
+  whole_of_list table links before after labels lists cuts order nodes few are types_before types_after once labelled cut f =
       let same : in_order table.nodes order ≡ scene_of list = ap (λ l. in_order l order) nodes ∙ in_order_of_list list order f in
       let so_many : length list ≡ length table.nodes = ap length (sym nodes) in
       record {
@@ -60,4 +60,5 @@ module _ (list : List Node) (v : IsNodeList list) where
         count = ap length f ∙ (length-tree_order list v ∙ so_many);
         once = once;
         labels_of = labelled;
+        cuts_of = cut;
       }

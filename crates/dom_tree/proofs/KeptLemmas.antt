@@ -38,7 +38,7 @@ element_at-in_order nodes order x h =
     let some : is_some (cond (is_in x order) (element_at (listed nodes) x) None) ≡ true = ap is_some (sym at) ∙ (sym (is_element-at (in_order nodes order) x) ∙ h) in
     at ∙ kept_some (is_in x order) (element_at (listed nodes) x) some
 
-module _ (table : Table) (links : List NodeLink) (before after : List ℕ) (labels : List Label) (lists : List (List Characters)) (order : List ℕ) (now : Document) (x : ℕ) (whole : IsWhole table links before after labels lists order) (view : document table order ≡ now) (is : IsElement now.elements x) where
+module _ (table : Table) (links : List NodeLink) (before after : List ℕ) (labels : List Label) (lists : List (List Characters)) (cuts : List (Option ℕ)) (order : List ℕ) (now : Document) (x : ℕ) (whole : IsWhole table links before after labels lists cuts order) (view : document table order ≡ now) (is : IsElement now.elements x) where
   there : IsElement (in_order table.nodes order) x
   there = ap (λ (d : Document). is_element d.elements x) view ∙ is
 
@@ -83,6 +83,11 @@ module _ (table : Table) (links : List NodeLink) (before after : List ℕ) (labe
 
   pub attributes_at : (node : Node) → slice_get table.nodes (x - 1) ≡ Some node → node.attrs ≡ attributes_of now.elements x
   attributes_at node at = sym (ap (λ o. unwrap_or (option_map (λ (e : Element). e.attrs) o) finmap.empty) (found node at))
+
+  pub attribute_count_is : (n : ℕ) → IfSome (slice_get table.nodes (x - 1)) (λ node. n ≡ finmap.len node.attrs) → n ≡ finmap.len (attributes_of now.elements x)
+  attribute_count_is n h =
+      let (node, at, e) = item (λ node. n ≡ finmap.len node.attrs) h in
+      e ∙ ap finmap.len (attributes_at node at)
 
   pub attribute_is : (name : Characters) (value : Option Characters) → IfSome (slice_get table.nodes (x - 1)) (λ node. value ≡ finmap.get node.attrs name) → value ≡ attribute_of now.elements x name
   attribute_is name value h =
@@ -147,7 +152,7 @@ module _ (table : Table) (links : List NodeLink) (before after : List ℕ) (labe
     label_at : slice_get labels (x - 1) ≡ Some label
     label_at = slice_get_read labels (length labels) (x - 1) label refl (omega (arith, within.0, label_within)) read
 
-    labelled : (node : Node) × (slice_get table.nodes (x - 1) ≡ Some node) × IsLabel table.names lists node label
+    pub labelled : (node : Node) × (slice_get table.nodes (x - 1) ≡ Some node) × IsLabel table.names lists node label
     labelled =
         item (λ node. IsLabel table.names lists node label)
         (subst (λ o. IfSome o (λ label. IfSome (slice_get table.nodes (x - 1)) (λ node. IsLabel table.names lists node label))) label_at
@@ -172,12 +177,12 @@ module _ (table : Table) (links : List NodeLink) (before after : List ℕ) (labe
         ∙ ap (λ t. option_and_then id_text (attribute_of now.elements x t)) (chars-ascii (codes "id") refl))
 
 -- the attributes of two elements
-module _ (table : Table) (links : List NodeLink) (before after : List ℕ) (labels : List Label) (lists : List (List Characters)) (order : List ℕ) (now : Document) (x y : ℕ) (whole : IsWhole table links before after labels lists order) (view : document table order ≡ now) (is : IsElement now.elements x) (also : IsElement now.elements y) where
+module _ (table : Table) (links : List NodeLink) (before after : List ℕ) (labels : List Label) (lists : List (List Characters)) (cuts : List (Option ℕ)) (order : List ℕ) (now : Document) (x y : ℕ) (whole : IsWhole table links before after labels lists cuts order) (view : document table order ≡ now) (is : IsElement now.elements x) (also : IsElement now.elements y) where
   pub same_attributes_are : (b : Bool) → IfSome (slice_get table.nodes (x - 1)) (λ n. IfSome (slice_get table.nodes (y - 1)) (λ m. IsTrue b ↔ (n.attrs ≡ m.attrs))) → IsTrue b ↔ (attributes_of now.elements x ≡ attributes_of now.elements y)
   same_attributes_are b h =
-      let (n, at, rest) = item table links before after labels lists order now x whole view is (λ n. IfSome (slice_get table.nodes (y - 1)) (λ m. IsTrue b ↔ (n.attrs ≡ m.attrs))) h in
-      let (m, here, same) = item table links before after labels lists order now y whole view also (λ m. IsTrue b ↔ (n.attrs ≡ m.attrs)) rest in
-      subst₂ (λ p q. IsTrue b ↔ (p ≡ q)) (attributes_at table links before after labels lists order now x whole view is n at) (attributes_at table links before after labels lists order now y whole view also m here) same
+      let (n, at, rest) = item table links before after labels lists cuts order now x whole view is (λ n. IfSome (slice_get table.nodes (y - 1)) (λ m. IsTrue b ↔ (n.attrs ≡ m.attrs))) h in
+      let (m, here, same) = item table links before after labels lists cuts order now y whole view also (λ m. IsTrue b ↔ (n.attrs ≡ m.attrs)) rest in
+      subst₂ (λ p q. IsTrue b ↔ (p ≡ q)) (attributes_at table links before after labels lists cuts order now x whole view is n at) (attributes_at table links before after labels lists cuts order now y whole view also m here) same
 
 -- an id among the labels, and among the attributes
 

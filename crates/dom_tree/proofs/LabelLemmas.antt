@@ -45,7 +45,7 @@ index_kept old new (Some k) kept h =
     let (list, at) = slice_get_some old k h in
     slice_get_within new k list (kept k list at)
 
-label_kept : (names : List Characters) (old new : List (List Characters)) (node : Node) (label : Label) → KeepsLists old new → IsLabel names old node label → IsLabel names new node label
+pub label_kept : (names : List Characters) (old new : List (List Characters)) (node : Node) (label : Label) → KeepsLists old new → IsLabel names old node label → IsLabel names new node label
 label_kept names old new node label kept is = record {
   id = is.id;
   named = is.named;
@@ -58,7 +58,7 @@ abbrev pub AreSoFar : Table → List (List Characters) → List Label → Type 0
 AreSoFar table lists labels =
     (i : ℕ) → i < length labels → IfSome (slice_get labels i) (λ label. IfSome (slice_get table.nodes i) (λ node. IsLabel table.names lists node label))
 
-if_both : {X Y : Type 0} (P Q : X → Y → Type 0) (a : Option X) (b : Option Y) → ((x : X) (y : Y) → P x y → Q x y) → IfSome a (λ x. IfSome b (P x)) → IfSome a (λ x. IfSome b (Q x))
+pub if_both : {X Y : Type 0} (P Q : X → Y → Type 0) (a : Option X) (b : Option Y) → ((x : X) (y : Y) → P x y → Q x y) → IfSome a (λ x. IfSome b (P x)) → IfSome a (λ x. IfSome b (Q x))
 if_both P Q None b f h = tt
 if_both P Q (Some x) None f h = tt
 if_both P Q (Some x) (Some y) f h = f x y h

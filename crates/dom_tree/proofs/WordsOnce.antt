@@ -18,7 +18,7 @@ or_same : (a b c : Bool) → ((a || b) || c) ≡ (a || (b || c))
 or_same true b c = refl
 or_same false b c = refl
 
-any-last : (p : Characters → Bool) (xs : List Characters) (x : Characters) → list_any p (xs ++ x ∷ []) ≡ (list_any p xs || p x)
+pub any-last : (p : Characters → Bool) (xs : List Characters) (x : Characters) → list_any p (xs ++ x ∷ []) ≡ (list_any p xs || p x)
 any-last p [] x = or-false (p x)
 any-last p (y ∷ xs) x = ap (λ b. p y || b) (any-last p xs x) ∙ sym (or_same (p y) (list_any p xs) (p x))
 

@@ -1,11 +1,12 @@
 -- What the columns of a document stand for, and what holds of what is kept.
 use Rattle.std.specs.Prelude.{◌≡◌, ℕ, ◌+◌, ◌<◌, ◌≤◌, ◌==◌, nat_lt, if◌then◌else◌}
 use Rattle.std.specs.Prelude.{List, [], ◌∷◌, map, length, take, drop, refl}
-use Rattle.std.specs.Prelude.{Option, Some, None, unwrap_or, slice_get, false}
-use Rattle.std.specs.List.{AllByRecursion}
+use Rattle.std.specs.Prelude.{Option, Some, None, unwrap_or, slice_get, slice_set, false, not}
+use Rattle.std.specs.List.{AllByRecursion, filter}
+use Rattle.std.specs.Option.{option_map_or}
 use Rattle.std.specs.FinMap as finmap
 use Rattle.std.specs.Coded.{Coded, code_by, coded×, coded_ℕ, coded_list}
-use Rattle.scene_model.specs.Element.{Characters, Attributes}
+use Rattle.scene_model.specs.Element.{Characters, Attributes, States}
 use Rattle.scene_model.specs.Nodes.{Node, nodes_code}
 use Rattle.stylo_base.specs.NameList.{is_among}
 use Rattle.dom_tree.specs.declared.span.Span.{Span}
@@ -50,6 +51,10 @@ put_row name value (row ∷ rows) =
     else if row.name == name then record { name = name; value = value } ∷ rows
     else record { name = name; value = value } ∷ row ∷ rows
 
+-- the rows without that of a name
+abbrev pub without_row : ℕ → List AttrRow → List AttrRow
+without_row name rows = filter (λ row. not (row.name == name)) rows
+
 -- the rows of an element: each name and each value has a text, and no name is there twice
 abbrev pub AreAttrs : List Characters → List AttrRow → Type 0
 AreAttrs names [] = Unit {0}
@@ -91,3 +96,37 @@ AreRows names attrs rows = AllByRecursion (IsRow names attrs) rows
 -- names that were given keep their texts
 abbrev pub KeepsTexts : List Characters → List Characters → Type 0
 KeepsTexts old new = (name : ℕ) → name < length old → slice_get new name ≡ slice_get old name
+
+-- edits
+
+-- the nodes, where that at an index is changed
+abbrev pub put_node : ℕ → (Node → Node) → List Node → List Node
+put_node index f nodes = option_map_or (λ node. slice_set nodes index (f node)) (slice_get nodes index) nodes
+
+abbrev pub with_attr : Characters → Characters → Node → Node
+with_attr name value node = record node { attrs = finmap.insert node.attrs name value }
+
+abbrev pub without_attr : Characters → Node → Node
+without_attr name node = record node { attrs = finmap.remove node.attrs name }
+
+abbrev pub with_states : States → Node → Node
+with_states states node = record node { states = states }
+
+abbrev pub row_with_part : Span → NodeRow → NodeRow
+row_with_part part row = record row { attrs = part }
+
+-- the rows of nodes, where that at an index has another part of the flat list
+abbrev pub put_part : ℕ → Span → List NodeRow → List NodeRow
+put_part index part rows =
+    option_map_or (λ row. slice_set rows index (row_with_part part row)) (slice_get rows index) rows
+
+-- the attributes of each row are a part of the flat list
+abbrev pub HaveParts : List AttrRow → List NodeRow → Type 0
+HaveParts attrs rows = AllByRecursion (λ row. row.attrs.first + row.attrs.count ≤ length attrs) rows
+
+-- other rows over another flat list, of the same nodes
+pub record AreSameNodes (attrs : List AttrRow) (rows : List NodeRow) (packed : List AttrRow) (placed : List NodeRow)
+    : Type 0 where
+  pub each : (names : List Characters) → AreRows names attrs rows → AreRows names packed placed
+  pub nodes : (names : List Characters) → AreRows names attrs rows
+      → map (node_seen names packed) placed ≡ map (node_seen names attrs) rows

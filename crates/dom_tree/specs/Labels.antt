@@ -1,10 +1,10 @@
 -- The id and the class list of each element.
-use Rattle.std.specs.Prelude.{◌≡◌, ℕ, ◌<◌, if◌then◌else◌, List, [], length, codes}
+use Rattle.std.specs.Prelude.{◌≡◌, ℕ, ◌<◌, ◌≤◌, if◌then◌else◌, List, [], length, codes}
 use Rattle.std.specs.Prelude.{Option, Some, None, IfSome, option_map, option_and_then, slice_get}
 use Rattle.std.specs.FinMap as finmap
 use Rattle.std.specs.Option.{option_map_or}
 use Rattle.std.specs.Str.{chars}
-use Rattle.base_model.specs.Text.{is_empty_text}
+use Rattle.base_model.specs.Text.{is_empty_text, same_text}
 use Rattle.scene_model.specs.Element.{Characters}
 use Rattle.scene_model.specs.Nodes.{Node}
 use Rattle.dom_tree.specs.declared.labels.Label.{Label}
@@ -45,14 +45,19 @@ pub record AreLabels (table : Table) (lists : List (List Characters)) (labels : 
   pub each : (i : ℕ) → i < length labels → IfSome (slice_get labels i) (λ label.
       IfSome (slice_get table.nodes i) (IsLabelOf table.names lists label))
 
+-- the attributes of a node once one of them has this value, or once it has no such one
+pub record IsGiven (name : Characters) (value : Option Characters) (node after : Node) : Type 0 where
+  pub given : (other : Characters)
+      → finmap.get after.attrs other ≡ (if same_text name other then value else finmap.get node.attrs other)
+
 -- the list that was cut for a value, if it was
 abbrev pub IsCut : List (List Characters) → Characters → Option ℕ → Type 0
 IsCut lists value None = Unit {0}
 IsCut lists value (Some k) = slice_get lists k ≡ Some (distinct_words value)
 
--- the lists that were cut, by the names of values
+-- the lists that were cut, by the names of values; a new name may have none yet
 pub record AreCuts (names : List Characters) (lists : List (List Characters)) (cuts : List (Option ℕ)) : Type 0 where
-  pub count : length cuts ≡ length names
+  pub count : length cuts ≤ length names
   pub each : (v : ℕ) → v < length cuts → IfSome (slice_get cuts v) (IsCut lists (text_of names v))
 
 -- lists that were appended stay

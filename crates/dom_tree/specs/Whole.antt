@@ -1,5 +1,5 @@
 -- The document that is kept, and what holds of what is kept.
-use Rattle.std.specs.Prelude.{◌≡◌, ℕ, ◌≤◌, ◌&&◌, nat_lt, nat_le, false, true, List, length}
+use Rattle.std.specs.Prelude.{◌≡◌, ℕ, ◌≤◌, ◌&&◌, nat_lt, nat_le, false, true, List, length, Option}
 use Rattle.std.specs.List.{filter_map}
 use Rattle.stylo_base.specs.NameList.{StandOnce}
 use Rattle.base_model.specs.Limits.{element_limit}
@@ -11,7 +11,7 @@ use Rattle.scene_model.specs.Valid.{IsValid}
 use Rattle.dom_tree.specs.declared.labels.Label.{Label}
 use Rattle.dom_tree.specs.declared.links.NodeLink.{NodeLink}
 use Rattle.dom_tree.specs.Kept.{Table}
-use Rattle.dom_tree.specs.Labels.{AreLabels}
+use Rattle.dom_tree.specs.Labels.{AreCuts, AreLabels}
 use Rattle.dom_tree.specs.Links.{AreLinks}
 use Rattle.dom_tree.specs.TypePlaces.{AreTypePlaces}
 
@@ -24,9 +24,10 @@ abbrev pub document : Table → List ℕ → Document
 document table order = record { elements = in_order table.nodes order; last = length table.nodes }
 
 -- what holds of what is kept: each node is an element and found at its number, and the links, the places among the
--- siblings of its type, from the first and from the last, and the labels are its own
+-- siblings of its type, from the first and from the last, and the labels are its own; the class lists are those that
+-- were cut for values of `class`
 pub record IsWhole (table : Table) (links : List NodeLink) (before after : List ℕ) (labels : List Label)
-    (lists : List (List Characters)) (order : List ℕ) : Type 0 where
+    (lists : List (List Characters)) (cuts : List (Option ℕ)) (order : List ℕ) : Type 0 where
   pub few : length table.nodes ≤ element_limit
   pub shape : IsNodeList table.nodes
   pub valid : IsValid (in_order table.nodes order)
@@ -38,3 +39,4 @@ pub record IsWhole (table : Table) (links : List NodeLink) (before after : List 
   pub count : length order ≡ length table.nodes
   pub once : StandOnce table.names
   pub labels_of : AreLabels table lists labels
+  pub cuts_of : AreCuts table.names lists cuts

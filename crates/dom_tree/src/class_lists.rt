@@ -1,6 +1,6 @@
 //! The class lists of a document: the distinct words of each value of `class`.
 
-ghost use Rattle.std.specs.Prelude.{◌≡◌, ◌<◌, ◌++◌, ◌∷◌, [], IfSome, OnErr, OnOk, length, map};
+ghost use Rattle.std.specs.Prelude.{◌≡◌, ◌<◌, ◌++◌, ◌∷◌, [], IfOk, IfSome, OnErr, OnOk, length, map};
 ghost use Rattle.std.specs.Str.{chars};
 ghost use Rattle.dom_tree.specs.Classes.{AreNames, distinct_words, list_of};
 ghost use Rattle.dom_tree.specs.Kept.{KeepsTexts, text_of};
@@ -46,6 +46,18 @@ impl ClassLists {
             spans: Vec::new(alloc),
             words: IndexSet::new(alloc),
         }
+    }
+
+    /// The same lists again.
+    pub fn copy(&self, alloc: Global) -> Result<ClassLists, NoMemory>
+        ensures { IfOk result (λ lists. lists ≡ self.now) }
+    {
+        Ok(ClassLists {
+            names: self.names.copy(alloc)?,
+            list: Vec::from_slice(alloc, &self.list)?,
+            spans: Vec::from_slice(alloc, &self.spans)?,
+            words: IndexSet::new(alloc),
+        })
     }
 
     /// How many lists there are.

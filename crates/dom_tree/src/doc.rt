@@ -3,15 +3,17 @@
 ghost use Rattle.std.specs.Prelude.{◌≡◌, ◌↔◌, ◌<◌, ◌≤◌, ℕ, IfOk, IsTrue, codes, false, true, length, not, ◌&&◌, option_map};
 ghost use Rattle.std.specs.Option.{option_map_or};
 ghost use Rattle.std.specs.Str.{chars};
-ghost use Rattle.base_model.specs.Limits.{element_limit};
+ghost use Rattle.base_model.specs.Limits.{element_limit, number_limit};
 ghost use Rattle.base_model.specs.Text.{is_empty_text, same_text};
-ghost use Rattle.scene_model.specs.Lookups.{IsElement, attribute_of, attributes_of, children, has_class, is_element, numbers, parent_of, place_of, place_of_type, state_of, tag_of};
+ghost use Rattle.scene_model.specs.Lookups.{IsElement, attribute_of, attributes_of, children, has_class, is_element, numbers, parent_of, place_of, place_of_type, right_of, siblings, state_of, tag_of};
 ghost use Rattle.scene_model.specs.Document.{document_of};
 ghost use Rattle.scene_model.specs.Valid.{IsValid};
 ghost use Rattle.stylo_base.specs.StateView.{state_seen};
 ghost use Rattle.dom_tree.specs.ElementNames.{AreNamesOf, names_of};
 ghost use Rattle.dom_tree.specs.Labels.{class_words};
 ghost use Rattle.dom_tree.specs.NameBits.{HasNameBits};
+
+mod edits;
 
 use crate::attribute_names::AttributeNames;
 use crate::class_lists::ClassLists;
@@ -41,6 +43,8 @@ pub struct Doc {
     labels: Vec<Label>,
     /// The class lists that the labels name.
     lists: ClassLists,
+    /// The class list of each value, by its name, if one was cut for it.
+    cuts: Vec<Option<u32>>,
     /// The numbers in tree order.
     order: Vec<u32>,
 }
@@ -57,7 +61,7 @@ impl Model for Doc {
     ghost view = { λ d. document d.columns d.order.items };
 
     ghost invariant = { λ d. IsWhole d.columns d.links d.types.before.items d.types.after.items
-        d.labels.items d.lists d.order.items };
+        d.labels.items d.lists d.cuts.items d.order.items };
 }
 
 impl Doc {
@@ -80,13 +84,15 @@ impl Doc {
         let columns = list.into_columns();
         let types = place_types(alloc, &columns, &links)?;
         let mut lists = ClassLists::new(alloc);
-        let labels = label_nodes(alloc, &columns, &mut lists)?;
+        let mut cuts = Vec::new(alloc);
+        let labels = label_nodes(alloc, &columns, &mut lists, &mut cuts)?;
         Ok(Doc {
             columns,
             links,
             types,
             labels,
             lists,
+            cuts,
             order,
         })
     }
@@ -101,6 +107,7 @@ impl Doc {
     /// The last number that was given to an element: each element's number is from 1 to it.
     pub fn last(&self) -> usize
         ensures last { result ≡ self.now.last }
+        ensures few { result ≤ number_limit }
         ensures numbered { (x : ℕ) → IsElement self.now.elements x → (0 < x) × (x ≤ result) }
     {
         self.columns.len()
@@ -157,6 +164,18 @@ impl Doc {
         ensures valid { IsValid self.now.elements }
     {
         self.links.place(x)
+    }
+
+    /// The siblings after `x`, in tree order.
+    pub fn right_siblings(&self, x: u32) -> &[u32]
+        requires { IsElement self.now.elements x }
+        ensures siblings { result.now ≡ right_of x (siblings self.now.elements x) }
+        ensures valid { IsValid self.now.elements }
+    {
+        match self.parent(x) {
+            None => &[],
+            Some(parent) => self.children(parent).split_at(self.place(x) as usize + 1).1,
+        }
     }
 
     /// How many siblings of its type are before `x`.

@@ -1,11 +1,13 @@
 //! The id and the class list of each element.
 
-ghost use Rattle.std.specs.Prelude.{◌≡◌, ◌<◌, IfOk, IfSome, OnOk, Some, codes, length, option_and_then, option_map, slice_get};
+ghost use Rattle.std.specs.Prelude.{◌≡◌, ◌<◌, ◌≤◌, IfOk, IfSome, List, OnOk, Some, codes, length, option_and_then, option_map, slice_get};
 ghost use Rattle.std.specs.Str.{chars};
+ghost use Rattle.scene_model.specs.Element.{Characters};
+ghost use Rattle.scene_model.specs.Nodes.{Node};
 ghost use Rattle.stylo_base.specs.NameList.{StandOnce};
 ghost use Rattle.dom_tree.specs.Classes.{distinct_words, list_of};
 ghost use Rattle.dom_tree.specs.Kept.{IsNameOf, text_of};
-ghost use Rattle.dom_tree.specs.Labels.{AreCuts, AreLabels, KeepsLists, class_words, id_text};
+ghost use Rattle.dom_tree.specs.Labels.{AreCuts, AreLabels, IsGiven, IsLabel, KeepsLists, class_words, id_text};
 
 use crate::class_lists::ClassLists;
 use crate::node_columns::NodeColumns;
@@ -29,22 +31,24 @@ struct Asked {
 }
 
 /// The labels of all nodes, in their order. Their class lists go to `lists`, one for each distinct
-/// value of `class`.
+/// value of `class`, and `cuts` says which one, by the name of the value.
 pub(crate) fn label_nodes(
     alloc: Global,
     columns: &NodeColumns,
     lists: &mut ClassLists,
+    cuts: &mut Vec<Option<u32>>,
 ) -> Result<Vec<Label>, NoMemory>
+    requires cuts { AreCuts columns.now.names lists.old cuts.old.items }
     ensures labels { IfOk result (λ labels. AreLabels columns.now lists.new labels.items) }
     ensures once { OnOk result (StandOnce columns.now.names) }
+    ensures cuts { AreCuts columns.now.names lists.new cuts.new.items }
 {
     let names = columns.names();
-    let mut cuts = vec![in alloc; None; names.len()]?;
     let asked = Asked {
         id: names.find("id"),
         class: names.find("class"),
     };
-    label_rows(alloc, columns, &asked, lists, &mut cuts)
+    label_rows(alloc, columns, &asked, lists, cuts)
 }
 
 /// The labels of all nodes, where the attributes that are asked for have these names.
@@ -59,7 +63,8 @@ fn label_rows(
     requires id { IsNameOf columns.now.names (chars (codes "id")) asked.now.id }
     requires class { IsNameOf columns.now.names (chars (codes "class")) asked.now.class }
     requires cuts { AreCuts columns.now.names lists.old cuts.old.items }
-    ensures { IfOk result (λ labels. AreLabels columns.now lists.new labels.items) }
+    ensures labels { IfOk result (λ labels. AreLabels columns.now lists.new labels.items) }
+    ensures cuts { AreCuts columns.now.names lists.new cuts.new.items }
 {
     let names = columns.names();
     let mut labels = Vec::with_capacity(alloc, columns.len())?;
@@ -70,6 +75,39 @@ fn label_rows(
         labels.push(Label { id, classes })?;
     }
     Ok(labels)
+}
+
+/// What becomes of the label of a node once its attribute `name` has this value, or, with none, once it
+/// has no such attribute. Class lists that were cut stay, whatever comes of the edit.
+pub(crate) fn label_with(
+    names: &Names,
+    label: Label,
+    name: &str,
+    value: Option<Name>,
+    lists: &mut ClassLists,
+    cuts: &mut Vec<Option<u32>>,
+) -> Result<Label, NoMemory>
+    requires within { IfSome value (λ name. name < length names.now) }
+    requires cuts { AreCuts names.now lists.old cuts.old.items }
+    ensures label { IfOk result (λ made. (node after : Node) → IsLabel names.now lists.old node label
+        → IsGiven (chars name.now) (option_map (text_of names.now) value) node after
+        → IsLabel names.now lists.new after made) }
+    ensures cuts { AreCuts names.now lists.new cuts.new.items }
+    ensures kept { KeepsLists lists.old lists.new }
+{
+    if name == "id" {
+        return Ok(Label {
+            id: id_among(names, value),
+            classes: label.classes,
+        });
+    }
+    if name == "class" {
+        return Ok(Label {
+            id: label.id,
+            classes: classes_for(names, value, lists, cuts)?,
+        });
+    }
+    Ok(label)
 }
 
 /// The name of a value of `id` that is not empty.
@@ -98,8 +136,8 @@ fn classes_for(
     requires cuts { AreCuts names.now lists.old cuts.old.items }
     ensures list { IfOk result (λ k. list_of lists.new k ≡ class_words (option_map (text_of names.now) value)) }
     ensures listed { IfOk result (λ k. IfSome k (λ n. n < length lists.new)) }
-    ensures cuts { IfOk result (λ _. AreCuts names.now lists.new cuts.new.items) }
-    ensures kept { IfOk result (λ _. KeepsLists lists.old lists.new) }
+    ensures cuts { AreCuts names.now lists.new cuts.new.items }
+    ensures kept { KeepsLists lists.old lists.new }
 {
     match value {
         Some(value) => Ok(Some(list_for(names, value, lists, cuts)?)),
@@ -117,9 +155,10 @@ fn list_for(
     requires within { value < length names.now }
     requires cuts { AreCuts names.now lists.old cuts.old.items }
     ensures list { IfOk result (λ k. slice_get lists.new k ≡ Some (distinct_words (text_of names.now value))) }
-    ensures cuts { IfOk result (λ _. AreCuts names.now lists.new cuts.new.items) }
-    ensures kept { IfOk result (λ _. KeepsLists lists.old lists.new) }
+    ensures cuts { AreCuts names.now lists.new cuts.new.items }
+    ensures kept { KeepsLists lists.old lists.new }
 {
+    grow_cuts(names, cuts)?;
     if let Some(index) = cuts[value.index()] {
         return Ok(index);
     }
@@ -129,4 +168,16 @@ fn list_for(
     lists.push(names.text(value))?;
     cuts[value.index()] = Some(index);
     Ok(index)
+}
+
+/// Makes room for the cut of each value that has a name.
+fn grow_cuts(names: &Names, cuts: &mut Vec<Option<u32>>) -> Result<(), NoMemory>
+    ensures room { OnOk result (length names.now ≤ length cuts.new.items) }
+    ensures cuts { (lists : List (List Characters)) → AreCuts names.now lists cuts.old.items
+        → AreCuts names.now lists cuts.new.items }
+{
+    if cuts.len() < names.len() {
+        cuts.resize(names.len(), None)?;
+    }
+    Ok(())
 }

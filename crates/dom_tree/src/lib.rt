@@ -14,6 +14,7 @@ mod naming;
 mod node_columns;
 mod nodes;
 mod numbers;
+mod runs;
 mod span;
 mod start;
 mod type_places;

@@ -74,6 +74,16 @@ impl Links {
         Ok(Links { rows, children })
     }
 
+    /// Other links of the same elements.
+    pub fn copy(&self, alloc: Global) -> Result<Links, NoMemory>
+        ensures { IfOk result (λ links. links ≡ self.now) }
+    {
+        Ok(Links {
+            rows: Vec::from_slice(alloc, &self.rows)?,
+            children: Vec::from_slice(alloc, &self.children)?,
+        })
+    }
+
     /// How many elements there are.
     pub fn len(&self) -> usize
         ensures { result ≡ length self.now }

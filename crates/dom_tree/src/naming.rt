@@ -3,7 +3,7 @@
 ghost use Rattle.std.specs.Prelude.{◌≡◌, ◌<◌, ◌≤◌, IfOk, OnErr, OnOk, length, nat_lt};
 ghost use Rattle.std.specs.List.{AllByRecursion, prefix_len};
 ghost use Rattle.dom_tree.specs.View.{attributes_of};
-ghost use Rattle.dom_tree.specs.Kept.{AreAttrs, KeepsTexts, named_attributes, put_row};
+ghost use Rattle.dom_tree.specs.Kept.{AreAttrs, KeepsTexts, named_attributes, put_row, without_row};
 
 use crate::node_columns::AttrRow;
 use crate::nodes::Attr;
@@ -29,8 +29,15 @@ pub(crate) fn name_attrs(
     Ok(())
 }
 
+/// Leaves out the row of a name, if there is one.
+pub(crate) fn take_out(rows: &mut Vec<AttrRow>, name: Name)
+    ensures { rows.new.items ≡ without_row name rows.old.items }
+{
+    rows.retain(|row| row.name != name);
+}
+
 /// Gives a name a value among rows that are sorted by name.
-fn put(rows: &mut Vec<AttrRow>, name: Name, value: Name) -> Result<(), NoMemory>
+pub(crate) fn put(rows: &mut Vec<AttrRow>, name: Name, value: Name) -> Result<(), NoMemory>
     ensures ok { OnOk result (rows.new.items ≡ put_row name value rows.old.items) }
 {
     let place = place_of(rows, name);

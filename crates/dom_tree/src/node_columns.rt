@@ -1,6 +1,6 @@
 //! What is kept of nodes, in columns: each text once, as a name.
 
-ghost use Rattle.std.specs.Prelude.{◌≡◌, ◌↔◌, ◌<◌, ◌==◌, ◌++◌, ◌∷◌, [], IfSome, IfOk, IsTrue, OnErr, OnOk, find, length, map, option_map, slice_get};
+ghost use Rattle.std.specs.Prelude.{◌≡◌, ◌↔◌, ◌<◌, ◌==◌, ◌++◌, ◌∷◌, [], IfSome, IfOk, IsTrue, OnErr, OnOk, Some, find, length, map, option_map, slice_get};
 ghost use Rattle.std.specs.Cmp.Lexicographic.{slice_cmp};
 ghost use Rattle.std.specs.Ordering.{nat_cmp};
 ghost use Rattle.std.specs.FinMap as finmap;
@@ -9,15 +9,19 @@ ghost use Rattle.scene_model.specs.Element.{Characters};
 ghost use Rattle.stylo_base.specs.NameList.{StandOnce};
 ghost use Rattle.dom_tree.specs.ElementNames.{AreNamesOf};
 ghost use Rattle.dom_tree.specs.View.{node_of, states_of};
-ghost use Rattle.dom_tree.specs.Kept.{AreAttrs, IsNameOf, named_pair, text_of};
+ghost use Rattle.dom_tree.specs.Kept.{AreAttrs, IsNameOf, KeepsTexts, named_pair, put_node, text_of, with_attr, with_states, without_attr};
 
 use crate::attribute_names::AttributeNames;
-use crate::naming::name_attrs;
+use crate::naming::{name_attrs, put, take_out};
 use crate::nodes::{NodeInput, States};
+use crate::runs::{give_run, packed, read_run};
 use crate::span::Span;
 use std::alloc::Global;
 use std::marker::Model;
 use stylo_base::{Atom, Name, Names, NoMemory};
+
+/// Where fewer attributes are abandoned, they stay in the flat list.
+const FEW_ABANDONED: usize = 1000;
 
 /// An attribute of an element.
 #[derive(Clone, Copy, Debug, PartialEq, Eq)]
@@ -46,6 +50,8 @@ pub(crate) struct NodeColumns {
     attrs: Vec<AttrRow>,
     /// The attributes of the node that is pushed; used again for each one.
     run: Vec<AttrRow>,
+    /// How many of `attrs` were a node's before an edit, and are no node's now.
+    abandoned: usize,
 }
 
 impl Model for NodeColumns {
@@ -74,6 +80,7 @@ impl NodeColumns {
             rows: Vec::new(alloc),
             attrs: Vec::new(alloc),
             run: Vec::new(alloc),
+            abandoned: 0,
         }
     }
 
@@ -94,6 +101,124 @@ impl NodeColumns {
         Ok(())
     }
 
+    /// The name of a text, which gets one where it has none. The nodes stay.
+    pub fn intern(&mut self, text: &str) -> Result<Name, NoMemory>
+        ensures name { IfOk result (λ n. slice_get self.new.names n ≡ Some (chars text.now)) }
+        ensures nodes { self.new.nodes ≡ self.old.nodes }
+        ensures kept { KeepsTexts self.old.names self.new.names }
+        ensures once { StandOnce self.new.names }
+    {
+        self.names.intern(text)
+    }
+
+    /// Gives an attribute of a node a value.
+    pub fn set_attribute(
+        &mut self,
+        alloc: Global,
+        index: usize,
+        name: Name,
+        value: Name,
+    ) -> Result<(), NoMemory>
+        requires index { index < length self.old.nodes }
+        requires name { name < length self.old.names }
+        requires value { value < length self.old.names }
+        requires once { StandOnce self.old.names }
+        ensures names { self.new.names ≡ self.old.names }
+        ensures ok { OnOk result (self.new.nodes
+            ≡ put_node index (with_attr (text_of self.old.names name) (text_of self.old.names value)) self.old.nodes) }
+        ensures err { OnErr result (self.new.nodes ≡ self.old.nodes) }
+    {
+        self.compact(alloc)?;
+        self.put_attribute(index, name, value)
+    }
+
+    /// Takes an attribute of a node away, if it has it.
+    pub fn remove_attribute(
+        &mut self,
+        alloc: Global,
+        index: usize,
+        name: Name,
+    ) -> Result<(), NoMemory>
+        requires index { index < length self.old.nodes }
+        requires name { name < length self.old.names }
+        requires once { StandOnce self.old.names }
+        ensures names { self.new.names ≡ self.old.names }
+        ensures ok { OnOk result (self.new.nodes
+            ≡ put_node index (without_attr (text_of self.old.names name)) self.old.nodes) }
+        ensures err { OnErr result (self.new.nodes ≡ self.old.nodes) }
+    {
+        if self.value(index, Some(name)).is_none() {
+            return Ok(());
+        }
+        self.compact(alloc)?;
+        self.leave_out(index, name)
+    }
+
+    /// Makes the flat list of attributes anew, where more of it is abandoned than used. It takes the time
+    /// of all rows, so it waits until as many are abandoned as there are nodes.
+    fn compact(&mut self, alloc: Global) -> Result<(), NoMemory>
+        ensures { self.new ≡ self.old }
+    {
+        let used = self.attrs.len().saturating_sub(self.abandoned);
+        if self.abandoned <= FEW_ABANDONED
+            || self.abandoned <= used
+            || self.abandoned <= self.rows.len()
+        {
+            return Ok(());
+        }
+        let (rows, attrs) = packed(alloc, &self.rows, &self.attrs, used)?;
+        self.rows = rows;
+        self.attrs = attrs;
+        self.abandoned = 0;
+        Ok(())
+    }
+
+    /// Gives an attribute of a node a value: all its attributes get another part of the flat list.
+    fn put_attribute(&mut self, index: usize, name: Name, value: Name) -> Result<(), NoMemory>
+        requires index { index < length self.old.nodes }
+        requires name { name < length self.old.names }
+        requires value { value < length self.old.names }
+        requires once { StandOnce self.old.names }
+        ensures names { self.new.names ≡ self.old.names }
+        ensures ok { OnOk result (self.new.nodes
+            ≡ put_node index (with_attr (text_of self.old.names name) (text_of self.old.names value)) self.old.nodes) }
+        ensures err { OnErr result (self.new.nodes ≡ self.old.nodes) }
+    {
+        let part = self.rows[index].attrs;
+        read_run(&mut self.run, part.of(&self.attrs))?;
+        put(&mut self.run, name, value)?;
+        give_run(&mut self.rows, &mut self.attrs, &self.run, index)?;
+        self.abandoned = self.abandoned.saturating_add(part.count as usize);
+        Ok(())
+    }
+
+    /// Leaves out an attribute of a node: the others get another part of the flat list.
+    fn leave_out(&mut self, index: usize, name: Name) -> Result<(), NoMemory>
+        requires index { index < length self.old.nodes }
+        requires name { name < length self.old.names }
+        requires once { StandOnce self.old.names }
+        ensures names { self.new.names ≡ self.old.names }
+        ensures ok { OnOk result (self.new.nodes
+            ≡ put_node index (without_attr (text_of self.old.names name)) self.old.nodes) }
+        ensures err { OnErr result (self.new.nodes ≡ self.old.nodes) }
+    {
+        let part = self.rows[index].attrs;
+        read_run(&mut self.run, part.of(&self.attrs))?;
+        take_out(&mut self.run, name);
+        give_run(&mut self.rows, &mut self.attrs, &self.run, index)?;
+        self.abandoned = self.abandoned.saturating_add(part.count as usize);
+        Ok(())
+    }
+
+    /// Gives a node other states.
+    pub fn set_states(&mut self, index: usize, states: States)
+        requires index { index < length self.old.nodes }
+        ensures names { self.new.names ≡ self.old.names }
+        ensures nodes { self.new.nodes ≡ put_node index (with_states (states_of states)) self.old.nodes }
+    {
+        self.rows[index].states = states;
+    }
+
     /// How many nodes there are.
     pub fn len(&self) -> usize
         ensures { result ≡ length self.now.nodes }
@@ -107,6 +232,15 @@ impl NodeColumns {
         ensures { IfSome (slice_get self.now.nodes index) (λ node. result ≡ node.parent) }
     {
         self.rows[index].parent
+    }
+
+    /// How many attributes a node has.
+    pub fn attribute_count(&self, index: usize) -> usize
+        requires index { index < length self.now.nodes }
+        requires once { StandOnce self.now.names }
+        ensures { IfSome (slice_get self.now.nodes index) (λ node. result ≡ finmap.len node.attrs) }
+    {
+        self.rows[index].attrs.count as usize
     }
 
     /// The states of a node.
@@ -190,6 +324,7 @@ impl NodeColumns {
             rows: Vec::from_slice(alloc, &self.rows)?,
             attrs: Vec::from_slice(alloc, &self.attrs)?,
             run: Vec::new(alloc),
+            abandoned: self.abandoned,
         })
     }
 }

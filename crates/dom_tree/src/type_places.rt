@@ -20,6 +20,19 @@ pub(crate) struct TypePlaces {
     pub after: Vec<u32>,
 }
 
+impl TypePlaces {
+    /// The same places again.
+    pub fn copy(&self, alloc: Global) -> Result<TypePlaces, NoMemory>
+        ensures before { IfOk result (λ places. places.before.items ≡ self.now.before.items) }
+        ensures after { IfOk result (λ places. places.after.items ≡ self.now.after.items) }
+    {
+        Ok(TypePlaces {
+            before: Vec::from_slice(alloc, &self.before)?,
+            after: Vec::from_slice(alloc, &self.after)?,
+        })
+    }
+}
+
 /// Counts the siblings of each node by type. Each list of siblings is gone through twice: upwards each element finds
 /// those of its type that are before it, and then, as they are counted down again, those after it.
 pub(crate) fn place_types(

@@ -406,6 +406,29 @@ module _ {d : Document} {n o p : ℕ} (can : CanMove d n o p) (index : ℕ) (fit
           touched-lists d.elements turned (filter (λ z. not (z == p)) (o ∷ []) ++ p ∷ []) (λ z i. all_same z) (once_lists e) touch y
           ∙ ap (λ a. by_lists (filter (λ z. not (z == p)) (option_to_list a) ++ p ∷ []) turned touch y) (sym can.parent)
 
+-- the pairs of each edit of one element
+
+pub touched-set : (d : Document) (x : ℕ) (name text : Characters) → IsElement d.elements x → (touch : Touch) (y : ℕ) → is_touched d.elements (after d (set x name text)).elements touch y ≡ is_touched_by d (set x name text) touch y
+touched-set d x name text there =
+    let f : Element → Element = λ e. record e { attrs = finmap.insert e.attrs name text } in
+    let k : IsInPlace f = IsInPlace-attribute name text in
+    let is_there = sym (is_element-at d.elements x) ∙ there in
+    touched-attribute d.elements x f k there name (Some text) (λ n. ap (option_and_then (λ e. finmap.get e.attrs n)) (found d.elements x f k) ∙ given_put name text n (element_at d.elements x) is_there) (λ t. states_kept f (λ e. refl) t (element_at d.elements x) ∙ ap (λ o. option_map_or (λ e. has_state e.states t) o false) (sym (found d.elements x f k)))
+
+pub touched-unset : (d : Document) (x : ℕ) (name : Characters) → IsElement d.elements x → (touch : Touch) (y : ℕ) → is_touched d.elements (after d (unset x name)).elements touch y ≡ is_touched_by d (unset x name) touch y
+touched-unset d x name there =
+    let f : Element → Element = λ e. record e { attrs = finmap.remove e.attrs name } in
+    let k : IsInPlace f = IsInPlace-no_attribute name in
+    let is_there = sym (is_element-at d.elements x) ∙ there in
+    touched-attribute d.elements x f k there name None (λ n. ap (option_and_then (λ e. finmap.get e.attrs n)) (found d.elements x f k) ∙ given_none name n (element_at d.elements x) is_there) (λ t. states_kept f (λ e. refl) t (element_at d.elements x) ∙ ap (λ o. option_map_or (λ e. has_state e.states t) o false) (sym (found d.elements x f k)))
+
+pub touched-set_state : (d : Document) (x : ℕ) (t : State) (on : Bool) → IsElement d.elements x → (touch : Touch) (y : ℕ) → is_touched d.elements (after d (set_state x t on)).elements touch y ≡ is_touched_by d (set_state x t on) touch y
+touched-set_state d x t on there =
+    let f : Element → Element = λ e. record e { states = put_state t on e.states } in
+    let k : IsInPlace f = IsInPlace-state t on in
+    let is_there = sym (is_element-at d.elements x) ∙ there in
+    touched-state d.elements x f k there t on (λ n. values_kept f (λ e. refl) n (element_at d.elements x) ∙ ap (option_and_then (λ e. finmap.get e.attrs n)) (sym (found d.elements x f k))) (λ u. ap (λ o. option_map_or (λ e. has_state e.states u) o false) (found d.elements x f k) ∙ state_read t u on (element_at d.elements x) is_there)
+
 -- the pairs of each accepted edit
 pub touched-edit : (d : Document) → IsSound d → (edit : DocEdit) → IsShaped edit → refusal d edit ≡ None → (touch : Touch) (y : ℕ) → is_touched d.elements (after d edit).elements touch y ≡ is_touched_by d edit touch y
 touched-edit d s (insert p index nodes) w h = touched-insert (of_insert d s p index nodes w h) index
@@ -415,24 +438,9 @@ touched-edit d s (remove n) w h =
     ∙ ap (λ a. by_lists (option_to_list a) (removed d n).elements touch y) (sym can.parent)
 touched-edit d s (move n p index) w h =
     touched-move (of_move d s n p index h).1 index (index_of_move d n p index h)
-touched-edit d s (set x name text) w h =
-    let there : IsElement d.elements x = passes_from _ _ (none_parts _ _ h).0 in
-    let f : Element → Element = λ e. record e { attrs = finmap.insert e.attrs name text } in
-    let k : IsInPlace f = IsInPlace-attribute name text in
-    let is_there = sym (is_element-at d.elements x) ∙ there in
-    touched-attribute d.elements x f k there name (Some text) (λ n. ap (option_and_then (λ e. finmap.get e.attrs n)) (found d.elements x f k) ∙ given_put name text n (element_at d.elements x) is_there) (λ t. states_kept f (λ e. refl) t (element_at d.elements x) ∙ ap (λ o. option_map_or (λ e. has_state e.states t) o false) (sym (found d.elements x f k)))
-touched-edit d s (unset x name) w h =
-    let there : IsElement d.elements x = passes_from _ _ (none_parts _ _ h).0 in
-    let f : Element → Element = λ e. record e { attrs = finmap.remove e.attrs name } in
-    let k : IsInPlace f = IsInPlace-no_attribute name in
-    let is_there = sym (is_element-at d.elements x) ∙ there in
-    touched-attribute d.elements x f k there name None (λ n. ap (option_and_then (λ e. finmap.get e.attrs n)) (found d.elements x f k) ∙ given_none name n (element_at d.elements x) is_there) (λ t. states_kept f (λ e. refl) t (element_at d.elements x) ∙ ap (λ o. option_map_or (λ e. has_state e.states t) o false) (sym (found d.elements x f k)))
-touched-edit d s (set_state x t on) w h =
-    let there : IsElement d.elements x = passes_from _ _ (none_parts _ _ h).0 in
-    let f : Element → Element = λ e. record e { states = put_state t on e.states } in
-    let k : IsInPlace f = IsInPlace-state t on in
-    let is_there = sym (is_element-at d.elements x) ∙ there in
-    touched-state d.elements x f k there t on (λ n. values_kept f (λ e. refl) n (element_at d.elements x) ∙ ap (option_and_then (λ e. finmap.get e.attrs n)) (sym (found d.elements x f k))) (λ u. ap (λ o. option_map_or (λ e. has_state e.states u) o false) (found d.elements x f k) ∙ state_read t u on (element_at d.elements x) is_there)
+touched-edit d s (set x name text) w h = touched-set d x name text (passes_from _ _ (none_parts _ _ h).0)
+touched-edit d s (unset x name) w h = touched-unset d x name (passes_from _ _ (none_parts _ _ h).0)
+touched-edit d s (set_state x t on) w h = touched-set_state d x t on (passes_from _ _ (none_parts _ _ h).0)
 
 -- so whom an edit marks is told from what it touches and the document after it
 pub marked-edit : (d : Document) → IsSound d → (edit : DocEdit) → IsShaped edit → refusal d edit ≡ None → (selectors : List Selector) (x : ℕ) → is_marked d.elements (after d edit).elements selectors x ≡ is_marked_after (is_touched_by d edit) (after d edit).elements selectors x

@@ -13,7 +13,7 @@ use Rattle.std.proofs.Math.Bool.{or-false, and-true}
 use Rattle.base_model.specs.Text.{Characters, same_text, is_empty_text}
 use Rattle.base_model.proofs.Lists.{each_any, each_weaker, each-map}
 use Rattle.scene_model.specs.Element.{Element, State, hover_state, active_state, focus_state}
-use Rattle.scene_model.specs.Lookups.{parent_of, children, attribute_of, state_of}
+use Rattle.scene_model.specs.Lookups.{IsElement, parent_of, children, attribute_of, state_of}
 use Rattle.scene_model.specs.Document.{Document}
 use Rattle.scene_model.specs.Valid.{IsValid}
 use Rattle.scene_model.proofs.Found.{any-map, each_child-parent}
@@ -37,11 +37,11 @@ use Rattle.edit_model.proofs.Accepted.{sound-after}
 use Rattle.edit_model.proofs.AfterLemmas.{never, never_by, is_marked_by}
 use Rattle.edit_model.proofs.Facts.{both_options}
 use Rattle.edit_model.proofs.Lists.{equal_turned, any-filter_both, each_apart, distinct-append, distinct-map}
-use Rattle.edit_model.proofs.TouchedLemmas.{touched-edit}
+use Rattle.edit_model.proofs.TouchedLemmas.{touched-edit, touched-set, touched-unset, touched-set_state}
 
 -- texts
 
-text_turned : (a b : Characters) → same_text a b ≡ same_text b a
+pub text_turned : (a b : Characters) → same_text a b ≡ same_text b a
 text_turned a b = by (same_text a b) refl
   where
     by : (c : Bool) → same_text a b ≡ c → c ≡ same_text b a
@@ -74,7 +74,7 @@ any_of_one f n (text ∷ rest) =
 
 -- each once
 
-any-once : (n : Characters) (texts : List Characters) → list_any (same_text n) (each_once texts) ≡ list_any (same_text n) texts
+pub any-once : (n : Characters) (texts : List Characters) → list_any (same_text n) (each_once texts) ≡ list_any (same_text n) texts
 any-once n [] = refl
 any-once n (text ∷ rest) = by (same_text n text) refl (any-once n rest)
   where
@@ -501,6 +501,26 @@ distinct-touched_pairs d (unset x name) v =
     distinct-at_element x (value_touches name (attribute_of d.elements x name) None) (distinct-value name (attribute_of d.elements x name) None)
 distinct-touched_pairs d (set_state x s on) v =
     distinct-at_element x (state_touches s (state_of d.elements x s) on) (distinct-state s (state_of d.elements x s) on)
+
+-- the list of an edit of one element
+
+pub pairs-set : (d : Document) (x : ℕ) (name text : Characters) → IsElement d.elements x → AreTouched d.elements (after d (set x name text)).elements (touched_pairs d (set x name text))
+pairs-set d x name text there = record {
+  exact = λ touch y. any-attribute d.elements x name (Some text) touch y ∙ sym (touched-set d x name text there touch y);
+  once = distinct-at_element x (value_touches name (attribute_of d.elements x name) (Some text)) (distinct-value name (attribute_of d.elements x name) (Some text));
+}
+
+pub pairs-unset : (d : Document) (x : ℕ) (name : Characters) → IsElement d.elements x → AreTouched d.elements (after d (unset x name)).elements (touched_pairs d (unset x name))
+pairs-unset d x name there = record {
+  exact = λ touch y. any-attribute d.elements x name None touch y ∙ sym (touched-unset d x name there touch y);
+  once = distinct-at_element x (value_touches name (attribute_of d.elements x name) None) (distinct-value name (attribute_of d.elements x name) None);
+}
+
+pub pairs-set_state : (d : Document) (x : ℕ) (s : State) (on : Bool) → IsElement d.elements x → AreTouched d.elements (after d (set_state x s on)).elements (touched_pairs d (set_state x s on))
+pairs-set_state d x s on there = record {
+  exact = λ touch y. any-at_element x touch y (state_touches s (state_of d.elements x s) on) ∙ (ap (λ c. (y == x) && c) (any-state d.elements x s on touch) ∙ sym (touched-set_state d x s on there touch y));
+  once = distinct-at_element x (state_touches s (state_of d.elements x s) on) (distinct-state s (state_of d.elements x s) on);
+}
 
 pub touched-pairs : (d : Document) → IsSound d → (edit : DocEdit) → IsShaped edit → refusal d edit ≡ None → AreTouched d.elements (after d edit).elements (touched_pairs d edit)
 touched-pairs d s edit w h =

@@ -1,7 +1,7 @@
 //! Indexes among siblings (selectors-4, section 13).
 
 ghost use Rattle.std.specs.Prelude.{◌≡◌, ◌+◌, ◌==◌, ◌&&◌, ◌<◌, ◌^◌, ◌↔◌, ◌*ℤ◌, ℕ, pos, IsTrue, false, true};
-ghost use Rattle.scene_model.specs.Lookups.{IsElement, left_of, place_by as model_place_by, right_of, siblings};
+ghost use Rattle.scene_model.specs.Lookups.{IsElement, left_of, place_by as model_place_by, siblings};
 ghost use Rattle.scene_model.specs.Valid.{IsValid};
 ghost use Rattle.selector_model.specs.Comparisons.{is_nth as model_is_nth};
 ghost use Rattle.selector_model.specs.Holds.{counts, index_by as model_index_by};
@@ -22,18 +22,6 @@ pub(crate) fn left_siblings(doc: &Doc, x: u32) -> &[u32]
     }
 }
 
-/// The siblings after `x`, in tree order.
-fn right_siblings(doc: &Doc, x: u32) -> &[u32]
-    requires { IsElement doc.now.elements x }
-    ensures siblings { result.now ≡ right_of x (siblings doc.now.elements x) }
-    ensures valid { IsValid doc.now.elements }
-{
-    match doc.parent(x) {
-        None => &[],
-        Some(parent) => doc.children(parent).split_at(doc.place(x) as usize + 1).1,
-    }
-}
-
 /// The place of `x` among its siblings, or among those of its type: how many of them are before it, or after it.
 fn place_by(doc: &Doc, from_last: bool, of_type: bool, x: u32) -> usize
     requires { IsElement doc.now.elements x }
@@ -43,7 +31,7 @@ fn place_by(doc: &Doc, from_last: bool, of_type: bool, x: u32) -> usize
     match (from_last, of_type) {
         (false, false) => left_siblings(doc, x).len(),
         (false, true) => doc.place_of_type(x) as usize,
-        (true, false) => right_siblings(doc, x).len(),
+        (true, false) => doc.right_siblings(x).len(),
         (true, true) => doc.place_of_type_from_last(x) as usize,
     }
 }

@@ -13,7 +13,7 @@ pub returns : goal.returns
 returns c =
     let id = c.index.result.now.id in
     all_bits c.args.self.now.elements c.args.x c.self.inside.columns.names id c.class_names.result c.bit_of-tag.result c.bit_if_some-id.result c.bits.result
-    (c.bit_of-tag.ensures ∙ ap (λ t. 2 ^ name_bit t) (ap (λ n. text_of n c.tag.result) c.names-names.ensures ∙ tag_is _ _ _ _ _ _ _ _ _ c.self.invariant c.self.view_is c.requires _ c.tag.ensures.text))
-    (id_is _ _ _ _ _ _ _ _ _ c.self.invariant c.self.view_is c.requires c.index.result.now c.index.ensures)
+    (c.bit_of-tag.ensures ∙ ap (λ t. 2 ^ name_bit t) (ap (λ n. text_of n c.tag.result) c.names-names.ensures ∙ tag_is _ _ _ _ _ _ _ _ _ _ c.self.invariant c.self.view_is c.requires _ c.tag.ensures.text))
+    (id_is _ _ _ _ _ _ _ _ _ _ c.self.invariant c.self.view_is c.requires c.index.result.now c.index.ensures)
     (c.bit_if_some-id.ensures ∙ ap (λ names. option_map_or (λ n. 2 ^ name_bit (text_of names n)) id 0) c.names-names.ensures) c.class_names.ensures c.bits.ensures
     (λ class. ap (list_any (same_text class)) c.class_names.ensures ∙ class_asked c.args.self.now c.args.x class)

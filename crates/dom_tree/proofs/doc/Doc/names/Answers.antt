@@ -7,5 +7,5 @@ use Rattle.dom_tree.proofs.doc.Doc.names.Goals as goal
 pub returns : goal.returns
 returns c =
     c.new.ensures ∙ same_names_with _ _ _ _ _ _
-    (ap (λ n. text_of n c.tag.result) c.names.ensures ∙ tag_is _ _ _ _ _ _ _ _ _ c.self.invariant c.self.view_is c.requires _ c.tag.ensures.text)
-    (ap (λ n. option_map (text_of n) c.index.result.now.id) c.names.ensures ∙ id_is _ _ _ _ _ _ _ _ _ c.self.invariant c.self.view_is c.requires c.index.result.now c.index.ensures) c.class_names.ensures
+    (ap (λ n. text_of n c.tag.result) c.names.ensures ∙ tag_is _ _ _ _ _ _ _ _ _ _ c.self.invariant c.self.view_is c.requires _ c.tag.ensures.text)
+    (ap (λ n. option_map (text_of n) c.index.result.now.id) c.names.ensures ∙ id_is _ _ _ _ _ _ _ _ _ _ c.self.invariant c.self.view_is c.requires c.index.result.now c.index.ensures) c.class_names.ensures

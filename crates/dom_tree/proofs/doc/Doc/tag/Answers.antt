@@ -6,4 +6,4 @@ use Rattle.dom_tree.proofs.doc.Doc.tag.Goals as goal
 
 pub returns : goal.returns
 returns c =
-    sym (text_is c.names.result.now c.tag.result _ c.text.ensures) ∙ (ap (λ n. text_of n c.tag.result) c.names.ensures ∙ tag_is _ _ _ _ _ _ _ _ _ c.self.invariant c.self.view_is c.requires _ c.tag.ensures.text)
+    sym (text_is c.names.result.now c.tag.result _ c.text.ensures) ∙ (ap (λ n. text_of n c.tag.result) c.names.ensures ∙ tag_is _ _ _ _ _ _ _ _ _ _ c.self.invariant c.self.view_is c.requires _ c.tag.ensures.text)

@@ -1,0 +1,6 @@
+mod TouchLemmas
+mod ClassLemmas
+mod WordLemmas
+mod LimitLemmas
+mod NameLemmas
+mod ApplyLemmas

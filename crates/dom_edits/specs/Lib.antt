@@ -1,0 +1,4 @@
+pub mod TouchView
+pub mod EditView
+pub mod WordSets
+pub mod NameTouches

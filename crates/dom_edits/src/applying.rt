@@ -1,0 +1,100 @@
+//! What an edit of a document does.
+
+ghost use Rattle.std.specs.Prelude.{◌≡◌, IfErr, IfOk, OnErr, OnOk, option_map, unwrap_or};
+ghost use Rattle.std.specs.List.{AllByRecursion};
+ghost use Rattle.std.specs.List.Sorted.{IsPermutation};
+ghost use Rattle.std.specs.Str.{chars};
+ghost use Rattle.scene_model.specs.Lookups.{IsElement};
+ghost use Rattle.stylo_base.specs.StateView.{state_seen};
+ghost use Rattle.stylo_base.specs.declared.refusal.EditRefused.TheVariants.{NoMemory as out_of_memory};
+ghost use Rattle.edit_model.specs.Apply.{after, applied, refusal as model_refusal};
+ghost use Rattle.edit_model.specs.Edit.{set, set_state as model_set_state, unset};
+ghost use Rattle.edit_model.specs.Refusal.{accepted};
+ghost use Rattle.edit_model.specs.TouchedBy.{AreTouched};
+ghost use Rattle.edit_model.specs.TouchedPairs.{touched_pairs};
+ghost use Rattle.dom_edits.specs.EditView.{doc_edit_seen, refusal_answered};
+
+use crate::edits::DocEdit;
+use crate::refusals::accepted_at;
+use crate::touched::Touched;
+use crate::value_touches::{state_touches, value_touches};
+use dom_tree::Doc;
+use std::alloc::Global;
+use stylo_base::{EditRefused, NoMemory, State};
+
+/// Edits a document. The answer is what the edit touches: each pair of what is touched and an element of
+/// the document once. An error is the first refusal in the order of unknown elements, places and limits,
+/// and where there is none, that memory ran out; after it the document is as it was.
+pub fn apply(alloc: Global, doc: &mut Doc, edit: &DocEdit) -> Result<Touched, EditRefused>
+    ensures ok { OnOk result (applied doc.old (doc_edit_seen edit.now) ≡ accepted doc.new) }
+    ensures touched { IfOk result (λ touched. AreTouched doc.old.elements doc.new.elements touched) }
+    ensures elements { IfOk result (λ touched.
+        AllByRecursion (λ pair. IsElement doc.new.elements pair.1) touched) }
+    ensures refused { IfErr result (λ why. why
+        ≡ unwrap_or (option_map refusal_answered (model_refusal doc.old (doc_edit_seen edit.now))) out_of_memory) }
+    ensures kept { OnErr result (doc.new ≡ doc.old) }
+{
+    let x = accepted_at(doc, edit)?;
+    let touched = match edit {
+        DocEdit::Set { name, value, .. } => {
+            set_attribute(alloc, doc, x, name.as_str(), value.as_str())?
+        }
+        DocEdit::Unset { name, .. } => remove_attribute(alloc, doc, x, name.as_str())?,
+        DocEdit::State { state, on, .. } => set_state(alloc, doc, x, *state, *on)?,
+    };
+    Ok(touched)
+}
+
+/// Gives an attribute of an element a value.
+fn set_attribute(
+    alloc: Global,
+    doc: &mut Doc,
+    x: u32,
+    name: &str,
+    value: &str,
+) -> Result<Touched, NoMemory>
+    requires { IsElement doc.old.elements x }
+    ensures ok { OnOk result (doc.new ≡ after doc.old (set x (chars name.now) (chars value.now))) }
+    ensures touched { IfOk result (λ touched.
+        IsPermutation (touched_pairs doc.old (set x (chars name.now) (chars value.now))) touched) }
+    ensures kept { OnErr result (doc.new ≡ doc.old) }
+{
+    let touches = value_touches(alloc, name, doc.attribute(x, name), Some(value))?;
+    let touched = Touched::at_one(alloc, x, touches)?;
+    doc.set_attribute(alloc, x, name, value)?;
+    Ok(touched)
+}
+
+/// Takes an attribute of an element away.
+fn remove_attribute(alloc: Global, doc: &mut Doc, x: u32, name: &str) -> Result<Touched, NoMemory>
+    requires { IsElement doc.old.elements x }
+    ensures ok { OnOk result (doc.new ≡ after doc.old (unset x (chars name.now))) }
+    ensures touched { IfOk result (λ touched.
+        IsPermutation (touched_pairs doc.old (unset x (chars name.now))) touched) }
+    ensures kept { OnErr result (doc.new ≡ doc.old) }
+{
+    let touches = value_touches(alloc, name, doc.attribute(x, name), None)?;
+    let touched = Touched::at_one(alloc, x, touches)?;
+    doc.remove_attribute(alloc, x, name)?;
+    Ok(touched)
+}
+
+/// Puts an element into a state, or takes it out of it.
+fn set_state(
+    alloc: Global,
+    doc: &mut Doc,
+    x: u32,
+    state: State,
+    on: bool,
+) -> Result<Touched, NoMemory>
+    requires { IsElement doc.old.elements x }
+    ensures ok { OnOk result (doc.new ≡ after doc.old (model_set_state x (state_seen state) on)) }
+    ensures touched { IfOk result (λ touched.
+        IsPermutation (touched_pairs doc.old (model_set_state x (state_seen state) on)) touched) }
+    ensures kept { OnErr result (doc.new ≡ doc.old) }
+{
+    let touches = state_touches(alloc, state, doc.state(x, state), on)?;
+    let touched = Touched::at_one(alloc, x, touches)?;
+    doc.set_state(x, state, on);
+    Ok(touched)
+}

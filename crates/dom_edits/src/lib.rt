@@ -1,0 +1,16 @@
+//! Edits of a document: what refuses one, what it does, and what it touches.
+#![tactic(auto)]
+
+mod applying;
+mod edits;
+mod refusals;
+mod touch;
+mod touched;
+mod value_touches;
+mod word_set;
+
+pub use applying::apply;
+pub use edits::{DocEdit, Edit};
+pub use refusals::refusal;
+pub use touch::Touch;
+pub use touched::Touched;

@@ -1,0 +1,161 @@
+//! What is touched where a value changes.
+
+ghost use Rattle.std.specs.Prelude.{◌≡◌, ◌++◌, ◌∷◌, [], IfOk, OnOk, filter, map, not, option_map};
+ghost use Rattle.std.specs.Str.{chars};
+ghost use Rattle.base_model.specs.Text.{is_empty_text};
+ghost use Rattle.stylo_base.specs.NameList.{is_among};
+ghost use Rattle.stylo_base.specs.StateView.{state_seen};
+ghost use Rattle.edit_model.specs.Touched.{class, id, same_optional};
+ghost use Rattle.edit_model.specs.TouchedPairs.{classes_between, ids_among, state_touches as model_state_touches, value_touches as model_value_touches};
+ghost use Rattle.dom_edits.specs.TouchView.{touch_seen};
+ghost use Rattle.dom_edits.specs.NameTouches.{name_touches};
+ghost use Rattle.dom_edits.specs.WordSets.{IsWordSet, texts_of};
+
+use crate::touch::Touch;
+use crate::word_set::{WordSet, is_same_text};
+use std::alloc::Global;
+use stylo_base::{Atom, NoMemory, State, Text};
+
+/// What is touched where an attribute of this name, which had the value `before`, has the value `now`.
+/// None: it is not there.
+pub(crate) fn value_touches(
+    alloc: Global,
+    name: &str,
+    before: Option<&str>,
+    now: Option<&str>,
+) -> Result<Vec<Touch>, NoMemory>
+    ensures { IfOk result (λ touches. map touch_seen touches.items ≡ model_value_touches (chars name.now)
+        (option_map (λ text. chars text.now) before.entry) (option_map (λ text. chars text.now) now.entry)) }
+{
+    let mut touches = Vec::new(alloc);
+    if is_same_value(before, now) {
+        return Ok(touches);
+    }
+    touches.push(Touch::Attribute(atom_of(alloc, name)?))?;
+    push_names(alloc, name, before, now, &mut touches)?;
+    Ok(touches)
+}
+
+/// Appends the ids or the classes that a change of the attribute of this name touches.
+fn push_names(
+    alloc: Global,
+    name: &str,
+    before: Option<&str>,
+    now: Option<&str>,
+    touches: &mut Vec<Touch>,
+) -> Result<(), NoMemory>
+    ensures { OnOk result (map touch_seen touches.new.items ≡ map touch_seen touches.old.items
+        ++ name_touches (chars name.now) (option_map (λ text. chars text.now) before.entry)
+        (option_map (λ text. chars text.now) now.entry)) }
+{
+    if name == "id" {
+        push_ids(alloc, before, now, touches)?;
+    } else if name == "class" {
+        push_classes(alloc, before, now, touches)?;
+    }
+    Ok(())
+}
+
+/// What is touched where a state that was `before` is `now`.
+pub(crate) fn state_touches(
+    alloc: Global,
+    state: State,
+    before: bool,
+    now: bool,
+) -> Result<Vec<Touch>, NoMemory>
+    ensures { IfOk result (λ touches.
+        map touch_seen touches.items ≡ model_state_touches (state_seen state) before now) }
+{
+    let mut touches = Vec::new(alloc);
+    if before != now {
+        touches.push(Touch::State(state))?;
+    }
+    Ok(touches)
+}
+
+/// Whether two values are the same.
+fn is_same_value(one: Option<&str>, other: Option<&str>) -> bool
+    ensures { result ≡ same_optional (option_map (λ text. chars text.now) one.entry)
+        (option_map (λ text. chars text.now) other.entry) }
+{
+    match (one, other) {
+        (None, None) => true,
+        (Some(one), Some(other)) => is_same_text(one, other),
+        _ => false,
+    }
+}
+
+/// The atom of a text.
+fn atom_of(alloc: Global, text: &str) -> Result<Atom, NoMemory>
+    ensures { IfOk result (λ atom. atom ≡ chars text.now) }
+{
+    Ok(Atom::of_text(Text::of_str(alloc, text)?))
+}
+
+/// Appends the ids that two values are.
+fn push_ids(
+    alloc: Global,
+    before: Option<&str>,
+    now: Option<&str>,
+    touches: &mut Vec<Touch>,
+) -> Result<(), NoMemory>
+    ensures { OnOk result (map touch_seen touches.new.items ≡ map touch_seen touches.old.items
+        ++ map id (ids_among (option_map (λ text. chars text.now) before.entry)
+        (option_map (λ text. chars text.now) now.entry))) }
+{
+    if let Some(value) = before {
+        push_id(alloc, value, touches)?;
+    }
+    if let Some(value) = now {
+        push_id(alloc, value, touches)?;
+    }
+    Ok(())
+}
+
+/// Appends the id that a value is. An empty one is none.
+fn push_id(alloc: Global, value: &str, touches: &mut Vec<Touch>) -> Result<(), NoMemory>
+    ensures { OnOk result (map touch_seen touches.new.items ≡ map touch_seen touches.old.items
+        ++ map id (filter (λ text. not (is_empty_text text)) (chars value.now ∷ []))) }
+{
+    if !value.is_empty() {
+        touches.push(Touch::Id(atom_of(alloc, value)?))?;
+    }
+    Ok(())
+}
+
+/// Appends the classes that are in just one of two values.
+fn push_classes(
+    alloc: Global,
+    before: Option<&str>,
+    now: Option<&str>,
+    touches: &mut Vec<Touch>,
+) -> Result<(), NoMemory>
+    ensures { OnOk result (map touch_seen touches.new.items ≡ map touch_seen touches.old.items
+        ++ map class (classes_between (option_map (λ text. chars text.now) before.entry)
+        (option_map (λ text. chars text.now) now.entry))) }
+{
+    let before = WordSet::of(alloc, before)?;
+    let now = WordSet::of(alloc, now)?;
+    push_missing(alloc, &before, &now, touches)?;
+    push_missing(alloc, &now, &before, touches)?;
+    Ok(())
+}
+
+/// Appends the classes of one set that another has not.
+fn push_missing(
+    alloc: Global,
+    from: &WordSet,
+    other: &WordSet,
+    touches: &mut Vec<Touch>,
+) -> Result<(), NoMemory>
+    requires { IsWordSet other.now }
+    ensures { OnOk result (map touch_seen touches.new.items ≡ map touch_seen touches.old.items
+        ++ map class (filter (λ word. not (is_among word (texts_of other.now))) (texts_of from.now))) }
+{
+    for word in &from.words {
+        if !other.has(word) {
+            touches.push(Touch::Class(atom_of(alloc, word)?))?;
+        }
+    }
+    Ok(())
+}

@@ -1,0 +1,31 @@
+use Rattle.std.proofs.Common.{arith, refl, ◌∙◌}
+use Rattle.dom_tree.proofs.CutLemmas.{KeepsLists-push, KeepsLists-same, cut_read, cuts_more, cuts_set, list_pushed}
+use Rattle.dom_tree.proofs.labels.list_for.Goals as goal
+
+pub returns-in_err-grow_cuts-clause-cuts : goal.returns-in_err-grow_cuts-clause-cuts
+returns-in_err-grow_cuts-clause-cuts c = c.grow_cuts.ensures.cuts c.args.lists.now c.requires.cuts
+
+pub returns-in-Some-clause-list : goal.returns-in-Some-clause-list
+returns-in-Some-clause-list c =
+    cut_read _ _ c.grow_cuts.new.cuts.items c.args.value _ _ _ (c.grow_cuts.ensures.cuts c.args.lists.now c.requires.cuts) (omega (arith, c.in_ok-grow_cuts.ensures.room, c.requires.within)) c.index.ensures c.index-2.ensures c.in-Some.is
+
+pub returns-in-Some-clause-cuts : goal.returns-in-Some-clause-cuts
+returns-in-Some-clause-cuts c = c.grow_cuts.ensures.cuts c.args.lists.now c.requires.cuts
+
+pub returns-in_default-try_from-clause-cuts : goal.returns-in_default-try_from-clause-cuts
+returns-in_default-try_from-clause-cuts c = c.grow_cuts.ensures.cuts c.args.lists.now c.requires.cuts
+
+pub returns-in_err-push-clause-cuts : goal.returns-in_err-push-clause-cuts
+returns-in_err-push-clause-cuts c =
+    cuts_more _ _ _ _ _ (λ n l. refl) (KeepsLists-same _ _ c.in_err-push.ensures.err) (c.grow_cuts.ensures.cuts c.args.lists.now c.requires.cuts)
+
+pub returns-clause-list : goal.returns-clause-list
+returns-clause-list c = list_pushed c.args.names.now _ _ c.args.value _ _ c.text.ensures c.in_ok-push.ensures.ok (c.in-Ok.ensures.1 ∙ c.len.ensures)
+
+pub returns-clause-cuts : goal.returns-clause-cuts
+returns-clause-cuts c =
+    cuts_set _ _ _ c.args.value _ _ c.index-3.ensures (list_pushed c.args.names.now _ _ c.args.value _ _ c.text.ensures c.in_ok-push.ensures.ok (c.in-Ok.ensures.1 ∙ c.len.ensures))
+    (cuts_more _ _ _ _ _ (λ n l. refl) (KeepsLists-push _ _ _ c.in_ok-push.ensures.ok) (c.grow_cuts.ensures.cuts c.args.lists.now c.requires.cuts))
+
+pub returns-clause-kept : goal.returns-clause-kept
+returns-clause-kept c = KeepsLists-push _ _ _ c.in_ok-push.ensures.ok

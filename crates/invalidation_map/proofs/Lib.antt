@@ -1,0 +1,13 @@
+pub mod SetLemmas
+pub mod OnwardLemmas
+pub mod LeadLemmas
+pub mod StepLemmas
+pub mod DescentLemmas
+pub mod PathLemmas
+pub mod GrowthLemmas
+pub mod MarkLemmas
+pub mod KeyLemmas
+pub mod RowLemmas
+pub mod SharedLemmas
+pub mod StepEqLemmas
+pub mod EditLemmas

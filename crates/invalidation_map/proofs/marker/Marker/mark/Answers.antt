@@ -1,0 +1,42 @@
+use Rattle.std.proofs.Common.{◌||◌, ◌∙◌, ap, false, refl}
+use Rattle.edit_model.specs.TouchedBy.{is_listed}
+use Rattle.dom_edits.specs.declared.touch.Touch.{Touch}
+use Rattle.dom_edits.specs.TouchView.{touch_key, touch_seen}
+use Rattle.invalidation_map.specs.Rows.{marks_by_key}
+use Rattle.invalidation_map.specs.RowView.{rows_in}
+use Rattle.invalidation_map.proofs.SetLemmas.{or_no}
+use Rattle.invalidation_map.proofs.StepLemmas.{below_all}
+use Rattle.invalidation_map.proofs.GrowthLemmas.{grown_added, grown_same, listed_elements}
+use Rattle.invalidation_map.proofs.KeyLemmas.{by_all_touches, grown_next}
+use Rattle.invalidation_map.proofs.MarkLemmas.{marked}
+use Rattle.invalidation_map.proofs.marker.Marker.mark.Goals as goal
+
+pub add_all-requires : goal.add_all-requires
+add_all-requires c =
+    below_all _ _ _ c.requires.marks (listed_elements c.args.doc.now.elements c.args.touched.now _ _ c.at.ensures.elements c.requires.touched)
+
+pub loop-touch-init : goal.loop-touch-init
+loop-touch-init c =
+    let style = is_listed c.args.touched.now (touch_seen c.args.dependencies.now.style) in
+    record {
+      grown = grown_same style (λ x. style x || false) _ _ (λ x. or_no (style x)) (grown_added style _ _ _ c.add_all.ensures c.at.ensures.elements);
+      from = refl;
+      next = c.self.invariant;
+    }
+
+pub loop-touch-preserved : goal.loop-touch-preserved
+loop-touch-preserved c =
+    let style = is_listed c.args.touched.now (touch_seen c.args.dependencies.now.style) in
+    let by = λ (touch : Touch). marks_by_key c.args.doc.now.elements c.args.touched.now (rows_in c.args.dependencies.now) (touch_key (touch_seen touch)) in
+    record {
+      grown =
+          grown_next style by c.touches-touch-items.result.now c.loop-touch.touch-index c.touch-item.result (marks_by_key c.args.doc.now.elements c.args.touched.now (rows_in c.args.dependencies.now) c.key-key.result) c.args.marks.now c.loop-touch.marks c.mark_by_key.new.marks c.loop-touch-test.true c.touch-item.is (λ x. ap (λ key. marks_by_key c.args.doc.now.elements c.args.touched.now (rows_in c.args.dependencies.now) key x) c.key-key.ensures) c.loop-touch.invariant.grown c.mark_by_key.ensures.grown;
+      from = c.mark_by_key.ensures.room ∙ c.loop-touch.invariant.from;
+      next = c.mark_by_key.ensures.next ∙ c.loop-touch.invariant.from;
+    }
+
+pub returns-clause-marked : goal.returns-clause-marked
+returns-clause-marked c = λ before selectors tags listed are.
+    let style = is_listed c.args.touched.now (touch_seen c.args.dependencies.now.style) in
+    marked c.args.doc.now.elements c.args.touched.now c.requires.touched before tags listed selectors (rows_in c.args.dependencies.now) (touch_seen c.args.dependencies.now.style) c.args.marks.now c.loop-touch.marks c.args.dependencies.now.styled are
+    (by_all_touches c.args.doc.now.elements c.args.touched.now style c.touches-touch-items.result.now c.loop-touch.touch-index (rows_in c.args.dependencies.now) c.args.marks.now c.loop-touch.marks c.touches-touch-items.ensures c.loop-touch-test.false c.loop-touch.invariant.grown)

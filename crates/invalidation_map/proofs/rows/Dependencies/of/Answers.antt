@@ -1,0 +1,23 @@
+use Rattle.std.proofs.Common.{List, ap, flat_map, rules, subst, ◌∙◌}
+use Rattle.std.specs.List.Sorted.{IsPermutation}
+use Rattle.std.proofs.lemmas.List.{take_all}
+use Rattle.std.proofs.lemmas.List.Sorted.{All-permutation, IsNonDecreasingBy-from_sort_by_key, IsPermutation-map}
+use Rattle.selector_types.specs.View.{selectors_of}
+use Rattle.invalidation_map.specs.Rows.{Row, rows_of}
+use Rattle.invalidation_map.specs.SharedRows.{IsWithin, row_seen, rows_seen}
+use Rattle.invalidation_map.proofs.KeyLemmas.{key_at}
+use Rattle.invalidation_map.proofs.rows.Dependencies.of.Goals as goal
+
+pub invariant_of-result-clause-sorted : goal.invariant_of-result-clause-sorted
+invariant_of-result-clause-sorted c =
+    IsNonDecreasingBy-from_sort_by_key key_at _ c.in_ok-sort_by_key.ensures.sorted (λ a r q k. search rules)
+
+pub invariant_of-result-clause-within : goal.invariant_of-result-clause-within
+invariant_of-result-clause-within c =
+    All-permutation (IsWithin c.loop-selectors.shared) _ _ c.in_ok-sort_by_key.ensures.permutation c.loop-selectors.invariant.within
+
+pub returns : goal.returns
+returns c =
+    subst (λ (l : List Row). IsPermutation l (rows_seen c.loop-selectors.shared c.sort_by_key.new.self.items))
+    (c.loop-selectors.invariant.rows ∙ ap (λ l. rows_of (flat_map (λ list. selectors_of list.items) l)) (take_all c.loop-selectors.selectors-index c.args.rules.now c.loop-selectors-test.false))
+    (IsPermutation-map (row_seen c.loop-selectors.shared) _ _ c.in_ok-sort_by_key.ensures.permutation)

@@ -1,0 +1,37 @@
+-- What marking adds to a set.
+use Rattle.std.specs.Prelude.{◌≡◌, ℕ, ◌||◌, Bool, List}
+use Rattle.std.specs.List.{AllByRecursion}
+use Rattle.std.specs.List.Sorted.{IsPermutation}
+use Rattle.scene_model.specs.Element.{Element}
+use Rattle.scene_model.specs.Lookups.{IsElement}
+use Rattle.scene_model.specs.Numbers.{is_in}
+use Rattle.selector_model.specs.Selector.{Selector}
+use Rattle.edit_model.specs.Touched.{Touch, is_touched}
+use Rattle.edit_model.specs.TouchedBy.{is_listed}
+use Rattle.edit_model.specs.Marked.{is_marked}
+use Rattle.edit_model.specs.Steady.{SameTags}
+use Rattle.invalidation_map.specs.Members.{Members}
+use Rattle.invalidation_map.specs.Rows.{Row, rows_of}
+
+-- the list has exactly what is touched between two documents
+abbrev pub AreListed : List Element → List Element → List (Touch × ℕ) → Type 0
+AreListed before doc pairs = (touch : Touch) (y : ℕ) → is_listed pairs touch y ≡ is_touched before doc touch y
+
+-- it names elements alone
+abbrev pub AreAtElements : List Element → List (Touch × ℕ) → Type 0
+AreAtElements doc pairs = AllByRecursion (λ pair. IsElement doc pair.1) pairs
+
+-- a set with those added that pass a test
+pub record IsGrown (test : ℕ → Bool) (old new : Members) : Type 0 where
+  pub room : new.room ≡ old.room
+  pub each : (x : ℕ) → is_in x new.items ≡ (is_in x old.items || test x)
+
+-- For every document before, with the same tags and from which exactly the listed pairs are touched, and for every list
+-- of selectors with these rows, in whatever order: what was in the set, and the marked elements.
+abbrev pub AreMarked : List Element → List (Touch × ℕ) → List Row → Members → Members → Type 0
+AreMarked doc pairs rows old new =
+    (before : List Element) (selectors : List Selector)
+    → SameTags before doc
+    → AreListed before doc pairs
+    → IsPermutation (rows_of selectors) rows
+    → IsGrown (is_marked before doc selectors) old new

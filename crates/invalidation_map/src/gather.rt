@@ -1,0 +1,124 @@
+//! The rows of selectors.
+
+ghost use Rattle.std.specs.Prelude.{◌≡◌, ◌++◌, IfOk, OnOk, option_map, option_to_list};
+ghost use Rattle.std.specs.List.{flat_map};
+ghost use Rattle.std.specs.List.Sorted.{IsPermutation};
+ghost use Rattle.edit_model.specs.Dependencies.{touch_of as model_touch_of};
+ghost use Rattle.selector_types.specs.SimpleView.{key_seen};
+ghost use Rattle.selector_types.specs.View.{selector_of, selectors_of};
+ghost use Rattle.dependency_map.specs.DepView.{dep_of, part_of};
+ghost use Rattle.dom_edits.specs.TouchView.{touch_seen};
+ghost use Rattle.invalidation_map.specs.Rows.{row_of, rows_of, rows_of_selector};
+ghost use Rattle.invalidation_map.specs.SharedRows.{AreWithin, rows_seen};
+ghost use Rattle.invalidation_map.specs.RowView.{rows_in};
+
+use crate::rows::Dependencies;
+use crate::shared::{DependencyRow, Shared, place_of_key, place_of_path};
+use dependency_map::{Dep, Part, deps};
+use dom_edits::Touch;
+use selector_types::{Key, Selector, Simple, key_of};
+use std::alloc::Global;
+use stylo_base::{Atom, NoMemory, Text};
+
+impl Dependencies {
+    /// Those of the selectors of rules: of each rule a list.
+    pub fn of(alloc: Global, rules: &[Vec<Selector>]) -> Result<Dependencies, NoMemory>
+        ensures { IfOk result (λ d. IsPermutation
+            (rows_of (flat_map (λ list. selectors_of list.items) rules.now)) (rows_in d)) }
+    {
+        let mut rows = Vec::new(alloc);
+        let mut shared = Shared {
+            paths: Vec::new(alloc),
+            keys: Vec::new(alloc),
+        };
+        for selectors in rules {
+            push_all(alloc, selectors, &mut rows, &mut shared)?;
+        }
+        rows.sort_by_key(|row| row.touch.key())?;
+        let style = Touch::Attribute(Atom::of_text(Text::of_str(alloc, "style")?));
+        Ok(Dependencies {
+            rows,
+            shared,
+            style,
+        })
+    }
+}
+
+/// Appends the rows of selectors.
+fn push_all(
+    alloc: Global,
+    selectors: &[Selector],
+    rows: &mut Vec<DependencyRow>,
+    shared: &mut Shared,
+) -> Result<(), NoMemory>
+    requires within { AreWithin shared.old rows.old.items }
+    ensures within { OnOk result (AreWithin shared.new rows.new.items) }
+    ensures rows { OnOk result (rows_seen shared.new rows.new.items
+        ≡ rows_seen shared.old rows.old.items ++ rows_of (selectors_of selectors.now)) }
+{
+    for selector in selectors {
+        push_rows(alloc, selector, rows, shared)?;
+    }
+    Ok(())
+}
+
+/// Appends the rows of a selector.
+fn push_rows(
+    alloc: Global,
+    selector: &Selector,
+    rows: &mut Vec<DependencyRow>,
+    shared: &mut Shared,
+) -> Result<(), NoMemory>
+    requires within { AreWithin shared.old rows.old.items }
+    ensures within { OnOk result (AreWithin shared.new rows.new.items) }
+    ensures rows { OnOk result (rows_seen shared.new rows.new.items
+        ≡ rows_seen shared.old rows.old.items ++ rows_of_selector (selector_of selector.now)) }
+{
+    let found = deps(alloc, selector)?;
+    for dep in &found {
+        push_row(alloc, dep, key_of(selector), rows, shared)?;
+    }
+    Ok(())
+}
+
+/// Appends the row of a dependency of a selector with this key, if anything can touch it.
+fn push_row(
+    alloc: Global,
+    dep: &Dep,
+    key: &Key,
+    rows: &mut Vec<DependencyRow>,
+    shared: &mut Shared,
+) -> Result<(), NoMemory>
+    requires within { AreWithin shared.old rows.old.items }
+    ensures within { OnOk result (AreWithin shared.new rows.new.items) }
+    ensures rows { OnOk result (rows_seen shared.new rows.new.items
+        ≡ rows_seen shared.old rows.old.items ++ option_to_list (row_of (key_seen key.now) (dep_of dep.now))) }
+{
+    let Some(touch) = touch_of(alloc, &dep.part)? else {
+        return Ok(());
+    };
+    let path = place_of_path(alloc, &dep.path, &mut shared.paths)?;
+    let key = place_of_key(alloc, key, &mut shared.keys)?;
+    rows.push(DependencyRow { touch, path, key })?;
+    Ok(())
+}
+
+/// What has to be touched for a part of a selector to change. None: nothing can change it.
+fn touch_of(alloc: Global, part: &Part) -> Result<Option<Touch>, NoMemory>
+    ensures { IfOk result (λ touch. option_map touch_seen touch ≡ model_touch_of (part_of part.now)) }
+{
+    let test = match part {
+        Part::Tested(test) => test,
+        Part::Beside => return Ok(Some(Touch::Sibling)),
+    };
+    Ok(match test {
+        Simple::Type(_) | Simple::Root => None,
+        Simple::Id(name) => Some(Touch::Id(name.copy(alloc)?)),
+        Simple::Class(name) => Some(Touch::Class(name.copy(alloc)?)),
+        Simple::Attribute(name) => Some(Touch::Attribute(name.copy(alloc)?)),
+        Simple::AttributeCompares { name, .. } => Some(Touch::Attribute(name.copy(alloc)?)),
+        Simple::Empty => Some(Touch::Empty),
+        Simple::Nth(_) | Simple::Only { .. } => Some(Touch::Positional),
+        Simple::State(state) => Some(Touch::State(*state)),
+    })
+}

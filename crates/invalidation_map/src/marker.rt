@@ -1,0 +1,200 @@
+//! Marks: the elements whose matching an edit may have changed.
+
+ghost use Rattle.std.specs.Prelude.{◌≡◌, ◌+◌, ◌&&◌, ◌||◌, ℕ, IfOk, false};
+ghost use Rattle.std.specs.Option.{option_map_or};
+ghost use Rattle.scene_model.specs.Lookups.{IsElement};
+ghost use Rattle.scene_model.specs.Numbers.{is_in};
+ghost use Rattle.scene_model.specs.Valid.{IsValid};
+ghost use Rattle.selector_model.specs.Bears.{bears as model_bears};
+ghost use Rattle.selector_types.specs.SimpleView.{key_seen};
+ghost use Rattle.edit_model.specs.TouchedBy.{is_listed};
+ghost use Rattle.edit_model.specs.MarkedAfter.{touch_of_key};
+ghost use Rattle.invalidation_map.specs.Steps.{AreElements, HasRoom};
+ghost use Rattle.invalidation_map.specs.Rows.{marks_by_key, marks_by_row};
+ghost use Rattle.invalidation_map.specs.SharedRows.{IsWithin, row_seen};
+ghost use Rattle.invalidation_map.specs.RowView.{rows_in};
+ghost use Rattle.invalidation_map.specs.Marks.{AreAtElements, AreMarked, IsGrown};
+
+use crate::ElementSet;
+use crate::paths::walk;
+use crate::rows::Dependencies;
+use crate::selector_key::SelectorKey;
+use crate::shared::{DependencyRow, Shared};
+use dom_edits::Touched;
+use dom_tree::Doc;
+use selector_types::Key;
+use std::alloc::Global;
+use std::marker::Model;
+use stylo_base::NoMemory;
+
+/// The sets that marking needs. Contracts see their room.
+#[derive(Drop)]
+pub struct Marker {
+    /// The elements from which the next step of a path leads.
+    from: ElementSet,
+    /// Those to which it leads.
+    next: ElementSet,
+}
+
+impl Model for Marker {
+    ghost use Rattle.std.specs.Prelude.{◌≡◌, ℕ};
+
+    ghost Value = { ℕ };
+
+    ghost view = { λ m. m.from.room };
+
+    ghost invariant = { λ m. m.next.room ≡ m.from.room };
+}
+
+impl Marker {
+    /// Sets with room for the numbers up to `last`.
+    pub fn new(alloc: Global, last: u32) -> Result<Marker, NoMemory>
+        ensures { IfOk result (λ marker. marker ≡ last + 1) }
+    {
+        Ok(Marker {
+            from: ElementSet::new(alloc, last)?,
+            next: ElementSet::new(alloc, last)?,
+        })
+    }
+
+    /// Adds the elements that an edit marked. It takes no memory, and looks at no document before the edit.
+    pub fn mark(
+        &mut self,
+        doc: &Doc,
+        touched: &Touched,
+        dependencies: &Dependencies,
+        marks: &mut ElementSet,
+    )
+        requires room { HasRoom doc.now.elements self.old }
+        requires marks { HasRoom doc.now.elements marks.old.room }
+        requires touched { AreAtElements doc.now.elements touched.now }
+        ensures marked { AreMarked doc.now.elements touched.now (rows_in dependencies.now) marks.old marks.new }
+        ensures room { self.new ≡ self.old }
+        ensures kept { marks.new.room ≡ marks.old.room }
+    {
+        // The order is not asked: the call tells that the document is valid.
+        let _order = doc.in_tree_order();
+        marks.add_all(touched.at(&dependencies.style));
+        for touch in touched.touches() {
+            let key = touch.key();
+            mark_by_key(
+                doc,
+                touched,
+                dependencies,
+                key,
+                &mut self.from,
+                &mut self.next,
+                marks,
+            );
+        }
+    }
+}
+
+/// Adds what the rows mark whose touches have this key. It looks at these alone.
+fn mark_by_key(
+    doc: &Doc,
+    touched: &Touched,
+    dependencies: &Dependencies,
+    key: u64,
+    from: &mut ElementSet,
+    next: &mut ElementSet,
+    marks: &mut ElementSet,
+)
+    requires valid { IsValid doc.now.elements }
+    requires room { HasRoom doc.now.elements from.old.room }
+    requires next { next.old.room ≡ from.old.room }
+    requires marks { HasRoom doc.now.elements marks.old.room }
+    requires touched { AreAtElements doc.now.elements touched.now }
+    ensures grown { IsGrown (marks_by_key doc.now.elements touched.now (rows_in dependencies.now) key)
+        marks.old marks.new }
+    ensures room { from.new.room ≡ from.old.room }
+    ensures next { next.new.room ≡ from.old.room }
+{
+    let near = dependencies.from_key(key);
+    for row in near {
+        if key < row.touch.key() {
+            return;
+        }
+        mark_row(doc, touched, &dependencies.shared, row, from, next, marks);
+    }
+}
+
+/// Adds what one row marks. Where nothing that it depends on is touched, it costs one look-up.
+fn mark_row(
+    doc: &Doc,
+    touched: &Touched,
+    shared: &Shared,
+    row: &DependencyRow,
+    from: &mut ElementSet,
+    next: &mut ElementSet,
+    marks: &mut ElementSet,
+)
+    requires valid { IsValid doc.now.elements }
+    requires room { HasRoom doc.now.elements from.old.room }
+    requires next { next.old.room ≡ from.old.room }
+    requires marks { HasRoom doc.now.elements marks.old.room }
+    requires touched { AreAtElements doc.now.elements touched.now }
+    requires within { IsWithin shared.now row.now }
+    ensures grown { IsGrown (marks_by_row doc.now.elements touched.now
+        (row_seen shared.now row.now)) marks.old marks.new }
+    ensures room { from.new.room ≡ from.old.room }
+    ensures next { next.new.room ≡ from.old.room }
+{
+    let elements = touched.at(&row.touch);
+    if elements.is_empty() {
+        return;
+    }
+    from.clear();
+    from.add_all(elements);
+    walk(doc, &shared.paths[row.path as usize], from, next);
+    let key = &shared.keys[row.key as usize];
+    let bearing = touched_in_key(touched, key);
+    add_bearing(doc, &key.key, from.as_slice(), bearing, marks);
+}
+
+/// The elements of which an edit may have changed whether they bear a key.
+fn touched_in_key<'a>(touched: &'a Touched, key: &SelectorKey) -> &'a [u32]
+    ensures elements { (x : ℕ) → is_in x result.now
+        ≡ option_map_or (λ touch. is_listed touched.now touch x) (touch_of_key (key_seen key.now.key)) false }
+{
+    match &key.bearing {
+        Some(touch) => touched.at(touch),
+        None => &[],
+    }
+}
+
+/// Adds those of `from` that bear the key, or are among those that bore it.
+fn add_bearing(doc: &Doc, key: &Key, from: &[u32], bearing: &[u32], marks: &mut ElementSet)
+    requires elements { AreElements doc.now.elements from.now }
+    requires room { HasRoom doc.now.elements marks.old.room }
+    ensures { IsGrown (λ x. (model_bears doc.now.elements (key_seen key.now) x || is_in x bearing.now)
+        && is_in x from.now) marks.old marks.new }
+{
+    for x in from {
+        if bears_around(doc, key, bearing, *x) {
+            marks.add(*x);
+        }
+    }
+}
+
+/// Whether `x` bears the key, or is among those of which an edit changed that. An edit touches the id or
+/// the classes of one element at most, so these are few.
+fn bears_around(doc: &Doc, key: &Key, bearing: &[u32], x: u32) -> bool
+    requires { IsElement doc.now.elements x }
+    ensures { result ≡ (model_bears doc.now.elements (key_seen key.now) x || is_in x bearing.now) }
+{
+    bears(doc, key, x) || bearing.contains(&x)
+}
+
+/// Whether `x` bears the key.
+fn bears(doc: &Doc, key: &Key, x: u32) -> bool
+    requires { IsElement doc.now.elements x }
+    ensures { result ≡ model_bears doc.now.elements (key_seen key.now) x }
+{
+    match key {
+        Key::Id(id) => doc.has_id_atom(x, id),
+        Key::Class(class) => doc.has_class_atom(x, class),
+        Key::Type(tag) => doc.has_tag_atom(x, tag),
+        Key::Any => true,
+    }
+}
