@@ -1,4 +1,4 @@
-mod TouchLemmas
+pub mod TouchLemmas
 mod ClassLemmas
 mod WordLemmas
 mod LimitLemmas

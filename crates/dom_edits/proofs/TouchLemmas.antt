@@ -16,7 +16,7 @@ use Rattle.edit_model.specs.TouchedPairs.{at_element}
 use Rattle.dom_edits.specs.declared.touch.Touch.{Touch}
 use Rattle.dom_edits.specs.TouchView.{AreAllTouches, AreSorted, touch_key, touch_seen, touch_told, told_code, pairs_at}
 
-same_sound : (k l : model.Touch) → same_touch k l ≡ true → k ≡ l
+pub same_sound : (k l : model.Touch) → same_touch k l ≡ true → k ≡ l
 same_sound k l h =
     let parts = and_parts ((touch_code k).0 == (touch_code l).0) (same_text (touch_code k).1 (touch_code l).1) h in
     sym (told_code k)
@@ -24,7 +24,7 @@ same_sound k l h =
     ∙ (ap (λ t. touch_told (touch_code l).0 t) ((bytes_eq-Decides (touch_code k).1 (touch_code l).1).0 parts.1) ∙ told_code l))
 
 -- touches of two keys are two
-keys_differ : (k l : model.Touch) → touch_key k ≢ touch_key l → same_touch k l ≡ false
+pub keys_differ : (k l : model.Touch) → touch_key k ≢ touch_key l → same_touch k l ≡ false
 keys_differ k l other = false_from_ne_true (same_touch k l) (λ t. other (ap touch_key (same_sound k l t)))
 
 -- whether a touch is among some

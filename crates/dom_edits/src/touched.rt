@@ -43,7 +43,7 @@ impl Touched {
         ensures { IfOk result (λ t. IsPermutation (at_element x (map touch_seen touches.items)) t) }
     {
         let mut touches = touches;
-        touches.sort_by_key(|touch| touch.key())?;
+        touches.sort_unstable_by_key(|touch| touch.key());
         let mut elements = Vec::with_capacity(alloc, 1)?;
         elements.push(x)?;
         Ok(Touched { touches, elements })

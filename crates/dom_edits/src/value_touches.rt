@@ -16,6 +16,9 @@ use crate::word_set::{WordSet, is_same_text};
 use std::alloc::Global;
 use stylo_base::{Atom, NoMemory, State, Text};
 
+/// So many touches there is room for at once: the attribute, and a few classes before and after.
+const ROOM: usize = 8;
+
 /// What is touched where an attribute of this name, which had the value `before`, has the value `now`.
 /// None: it is not there.
 pub(crate) fn value_touches(
@@ -27,10 +30,10 @@ pub(crate) fn value_touches(
     ensures { IfOk result (λ touches. map touch_seen touches.items ≡ model_value_touches (chars name.now)
         (option_map (λ text. chars text.now) before.entry) (option_map (λ text. chars text.now) now.entry)) }
 {
-    let mut touches = Vec::new(alloc);
     if is_same_value(before, now) {
-        return Ok(touches);
+        return Ok(Vec::new(alloc));
     }
+    let mut touches = Vec::with_capacity(alloc, ROOM)?;
     touches.push(Touch::Attribute(atom_of(alloc, name)?))?;
     push_names(alloc, name, before, now, &mut touches)?;
     Ok(touches)

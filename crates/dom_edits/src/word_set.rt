@@ -16,6 +16,9 @@ use stylo_base::{Names, NoMemory};
 /// So many words are looked through one by one. More have an index.
 const FEW: usize = 16;
 
+/// So many words there is room for at once.
+const ROOM: usize = 4;
+
 /// Words, each once, in the order of their first use.
 #[derive(Drop)]
 pub(crate) struct WordSet<'a> {
@@ -32,7 +35,7 @@ impl<'a> WordSet<'a> {
         ensures set { IfOk result (λ set. IsWordSet set) }
     {
         let mut set = WordSet {
-            words: Vec::new(alloc),
+            words: Vec::with_capacity(alloc, ROOM)?,
             index: Names::new(alloc),
         };
         if let Some(value) = value {

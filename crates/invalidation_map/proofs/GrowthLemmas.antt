@@ -3,7 +3,7 @@ use Rattle.std.proofs.Common.{◌≡◌, ℕ, ◌+◌, ◌<◌, ◌==◌, ◌||�
 use Rattle.std.specs.Cmp.{both_ways}
 use Rattle.std.specs.List.{list_any}
 use Rattle.std.specs.Option.{option_map_or}
-use Rattle.std.proofs.lemmas.Bool.{and_left, and_right, and_parts, and_from, eqb-true, or_cases, false≢true}
+use Rattle.std.proofs.lemmas.Bool.{and_parts, and_from, eqb-true, or_cases, false≢true}
 use Rattle.std.proofs.lemmas.List.{take_more}
 use Rattle.std.proofs.lemmas.List.Folds.{list_any-append}
 use Rattle.scene_model.specs.Element.{Element}
@@ -19,7 +19,6 @@ use Rattle.edit_model.specs.Touched.{Touch}
 use Rattle.edit_model.specs.TouchedBy.{is_listed, same_pair, same_touch}
 use Rattle.edit_model.specs.MarkedAfter.{bears_around, touch_of_key}
 use Rattle.edit_model.specs.Dependencies.{Step, reaches}
-use Rattle.edit_model.proofs.AfterLemmas.{never_by}
 use Rattle.invalidation_map.specs.Members.{Members, AreAdded, added}
 use Rattle.invalidation_map.specs.Steps.{AreElements}
 use Rattle.invalidation_map.specs.Paths.{AreReached}
@@ -30,6 +29,10 @@ use Rattle.invalidation_map.proofs.SetLemmas.{one_added, or_no}
 -- another test with the same answers
 pub grown_same : (f g : ℕ → Bool) (m n : Members) → ((x : ℕ) → f x ≡ g x) → IsGrown f m n → IsGrown g m n
 grown_same f g m n same grown = record { room = grown.room; each = λ x. grown.each x ∙ ap (λ b. is_in x m.items || b) (same x) }
+
+-- by nothing
+pub grown_itself : (m : Members) → IsGrown (λ x. false) m m
+grown_itself m = record { room = refl; each = λ x. or_no (is_in x m.items) }
 
 -- by those of a list
 pub grown_added : (test : ℕ → Bool) (xs : List ℕ) (m n : Members) → AreAdded xs m n → ((x : ℕ) → is_in x xs ≡ test x) → IsGrown test m n
@@ -128,15 +131,6 @@ added_elements doc pairs touch xs listed are cleared first none more =
 -- by a row
 
 module _ (doc : List Element) (pairs : List (Touch × ℕ)) (row : Row) (elements : List ℕ) (listed : (y : ℕ) → is_in y elements ≡ is_listed pairs row.touch y) where
-  -- where nothing is touched, nothing is marked
-  pub none_marked : elements ≡ [] → (marks : Members) → IsGrown (marks_by_row doc pairs row) marks marks
-  none_marked none marks = record {
-    room = refl;
-    each = λ x.
-        or_no (is_in x marks.items)
-        ∙ ap (λ b. is_in x marks.items || b) (sym (and_right (bears_around (is_listed pairs) doc row.key x) (is_led_to doc pairs row.touch row.path x) (never_by (λ y. is_listed pairs row.touch y && reaches doc row.path y x) (λ y. and_left (is_listed pairs row.touch y) (reaches doc row.path y x) (sym (listed y) ∙ ap (is_in y) none)) (numbers doc))));
-  }
-
   pub marked_by_row : (cleared first : Members) (reached shown bearing : List ℕ) (path : List Step) (key : Key) (marks new : Members) → AreAtElements doc pairs → cleared.items ≡ [] → AreAdded elements cleared first → path ≡ row.path → AreReached doc path first.items reached → shown ≡ reached → key ≡ row.key → ((x : ℕ) → is_in x bearing ≡ option_map_or (λ touch. is_listed pairs touch x) (touch_of_key key) false) → IsGrown (λ x. (bears doc key x || is_in x bearing) && is_in x shown) marks new → IsGrown (marks_by_row doc pairs row) marks new
   marked_by_row cleared first reached shown bearing path key marks new are none more way to same alike borne grown =
       grown_same (λ x. (bears doc key x || is_in x bearing) && is_in x shown) (marks_by_row doc pairs row) marks new (λ x.

@@ -3,11 +3,9 @@ use Rattle.std.proofs.Common.{◌≡◌, ℕ, zero, suc, ◌+◌, ◌<◌, ◌�
 use Rattle.std.specs.List.{list_any}
 use Rattle.std.specs.List.Sorted.{IsNonDecreasingBy, IsPartitionedBy}
 use Rattle.std.proofs.Math.Bool.{or_assoc}
-use Rattle.std.proofs.lemmas.Bool.{and_from, and_parts, and_right, eq-eqb, eqb-true, lt-ltb, ltb-true, or_cases, or_left, or_right}
+use Rattle.std.proofs.lemmas.Bool.{and_from, and_parts, and_right, eq-eqb, false≢true, lt-ltb, ltb-true, or_cases, or_left, or_right}
 use Rattle.std.proofs.lemmas.List.{get_or-drop, get_or-take, length-take, take-append-drop, take_all, take_more}
 use Rattle.std.proofs.lemmas.List.Folds.{list_any-append}
-use Rattle.std.proofs.lemmas.Slice.Eq.{bytes_eq-Decides}
-use Rattle.base_model.specs.Text.{same_text}
 use Rattle.scene_model.specs.Element.{Element}
 use Rattle.scene_model.specs.Lookups.{numbers}
 use Rattle.scene_model.specs.Numbers.{is_in}
@@ -15,16 +13,17 @@ use Rattle.scene_model.proofs.Any.{any_in}
 use Rattle.scene_model.proofs.Found.{any-map}
 use Rattle.scene_model.proofs.Numbers.{differs}
 use Rattle.edit_model.specs.Touched as model
-use Rattle.edit_model.specs.TouchedBy.{is_listed, same_touch, touch_code}
+use Rattle.edit_model.specs.TouchedBy.{is_listed, same_touch}
 use Rattle.edit_model.specs.Dependencies.{reaches}
 use Rattle.edit_model.specs.MarkedAfter.{bears_around}
 use Rattle.edit_model.proofs.AfterLemmas.{never, never_by}
 use Rattle.dom_edits.specs.declared.touch.Touch.{Touch}
-use Rattle.dom_edits.specs.TouchView.{AreAllTouches, told_code, touch_key, touch_seen, touch_told}
+use Rattle.dom_edits.proofs.TouchLemmas.{keys_differ}
+use Rattle.dom_edits.specs.TouchView.{AreAllTouches, touch_key, touch_seen}
 use Rattle.invalidation_map.specs.declared.shared.DependencyRow.{DependencyRow}
 use Rattle.invalidation_map.specs.declared.shared.Shared.{Shared}
 use Rattle.invalidation_map.specs.Members.{Members}
-use Rattle.invalidation_map.specs.Rows.{Row, is_led_to, marks_by_key, marks_by_row}
+use Rattle.invalidation_map.specs.Rows.{Row, is_led_to, marks_by_row, marks_by_touch}
 use Rattle.invalidation_map.specs.SharedRows.{AreFrom, row_seen, rows_seen}
 use Rattle.invalidation_map.specs.Marks.{IsGrown}
 use Rattle.invalidation_map.proofs.SetLemmas.{or_no}
@@ -106,14 +105,6 @@ module _ {X : Type 0} (key : X → ℕ) (h : ℕ) (list : List X) (sorted : IsNo
         subst (λ y. (key y == h) ≡ false) (sym far)
         (differs (key (get_or list (first + (i + j)) d)) h (λ same. omega (arith, same, rises, here, larger)))
 
-    -- one that is met has the key
-    met_key : i < length near → key x ≤ h → ((j : ℕ) (d : X) → first ≤ j → j < length list → h ≤ key (get_or list j d)) → (key x == h) ≡ true
-    met_key l most least =
-        let there : first + i < length list = omega (arith, ap length e, length-drop first list, l) in
-        let same : key x ≡ key (get_or list (first + i) x) = ap {B = ℕ} key place in
-        let low : h ≤ key (get_or list (first + i) x) = least (first + i) x (omega arith) there in
-        eq-eqb (key x) h (omega (arith, most, low, same))
-
 -- a set that grows by something, and then by each of a list
 pub grown_next : {X : Type 0} (base : ℕ → Bool) (f : X → ℕ → Bool) (near : List X) (i : ℕ) (x : X) (g : ℕ → Bool) (m n o : Members) → i < length near → x ≡ get_or near i x → ((y : ℕ) → g y ≡ f x y) → IsGrown (λ y. base y || list_any (λ x. f x y) (take i near)) m n → IsGrown g n o → IsGrown (λ y. base y || list_any (λ x. f x y) (take (i + 1) near)) m o
 grown_next base f near i x g m n o l is same grown more = record {
@@ -133,69 +124,65 @@ grown_next base f near i x g m n o l is same grown more = record {
 abbrev pub key_at : DependencyRow → ℕ
 key_at row = touch_key (touch_seen row.touch)
 
+-- touches
+
+-- one with another key is another
+other_key : (k l : model.Touch) (h : ℕ) → h ≡ touch_key l → (touch_key k == h) ≡ false → same_touch k l ≡ false
+other_key k l h is differ = keys_differ k l (λ e. false≢true (sym differ ∙ eq-eqb (touch_key k) h (e ∙ sym is)))
+
 module _ (doc : List Element) (pairs : List (model.Touch × ℕ)) where
-  -- what a row marks, if its touch has the key
-  abbrev pub hits : Shared → ℕ → DependencyRow → ℕ → Bool
-  hits shared h row x = (key_at row == h) && marks_by_row doc pairs (row_seen shared row) x
+  -- what a row marks, if it is one of the touch
+  abbrev pub hits : Shared → model.Touch → DependencyRow → ℕ → Bool
+  hits shared k row x = same_touch (touch_seen row.touch) k && marks_by_row doc pairs (row_seen shared row) x
 
-  pub hit_same : (shared : Shared) (h : ℕ) (row : DependencyRow) → (key_at row == h) ≡ true → (x : ℕ) → marks_by_row doc pairs (row_seen shared row) x ≡ hits shared h row x
-  hit_same shared h row e x = ap (λ b. b && marks_by_row doc pairs (row_seen shared row) x) (sym e)
+  pub hit_same : (shared : Shared) (k : model.Touch) (row : DependencyRow) → same_touch (touch_seen row.touch) k ≡ true → (x : ℕ) → marks_by_row doc pairs (row_seen shared row) x ≡ hits shared k row x
+  hit_same shared k row e x = ap (λ b. b && marks_by_row doc pairs (row_seen shared row) x) (sym e)
 
-  module _ (shared : Shared) (h : ℕ) (list near : List DependencyRow) (sorted : IsNonDecreasingBy key_at list) (from : AreFrom h list near) (i : ℕ) where
-    -- one that is met has the key
-    pub met : (row : DependencyRow) → row ≡ get_or near i row → i < length near → key_at row ≤ h → (key_at row == h) ≡ true
-    met row is l most = met_key key_at h list sorted near from.first i from.rest row is l most from.parted.1
+  pub hit_none : (shared : Shared) (k : model.Touch) (row : DependencyRow) → same_touch (touch_seen row.touch) k ≡ false → (x : ℕ) → false ≡ hits shared k row x
+  hit_none shared k row e x = ap (λ b. b && marks_by_row doc pairs (row_seen shared row) x) (sym e)
 
-    module _ (m n : Members) (grown : IsGrown (λ x. list_any (λ row. hits shared h row x) (take i near)) m n) where
-      by_all : ((j : ℕ) (d : DependencyRow) → j < length (drop i near) → (key_at (get_or (drop i near) j d) == h) ≡ false) → IsGrown (marks_by_key doc pairs (rows_seen shared list) h) m n
-      by_all behind = record {
-        room = grown.room;
-        each = λ x.
-            grown.each x
-            ∙ ap (λ b. is_in x m.items || b)
-            (near_any (λ row. hits shared h row x) list near from.first i from.rest (λ j d l. missed x (get_or (take from.first list) j d) (before key_at h list sorted from.first (λ k c b. from.parted.0 k c (omega arith) b) j d l)) (λ j d l. missed x (get_or (drop i near) j d) (behind j d l))
-            ∙ sym (any-map (λ (row : Row). (touch_key row.touch == h) && marks_by_row doc pairs row x) (row_seen shared) list));
-      }
-        where
-          missed : (x : ℕ) (row : DependencyRow) → (key_at row == h) ≡ false → hits shared h row x ≡ false
-          missed x row f = ap (λ b. b && marks_by_row doc pairs (row_seen shared row) x) f
+  module _ (shared : Shared) (k : model.Touch) (h : ℕ) (is_key : h ≡ touch_key k) (list near : List DependencyRow) (sorted : IsNonDecreasingBy key_at list) (from : AreFrom h list near) (i : ℕ) (m n : Members) (grown : IsGrown (λ x. list_any (λ row. hits shared k row x) (take i near)) m n) where
+    by_all : ((j : ℕ) (d : DependencyRow) → j < length (drop i near) → (key_at (get_or (drop i near) j d) == h) ≡ false) → IsGrown (marks_by_touch doc pairs (rows_seen shared list) k) m n
+    by_all behind = record {
+      room = grown.room;
+      each = λ x.
+          grown.each x
+          ∙ ap (λ b. is_in x m.items || b)
+          (near_any (λ row. hits shared k row x) list near from.first i from.rest (λ j d l. missed x (get_or (take from.first list) j d) (before key_at h list sorted from.first (λ q c b. from.parted.0 q c (omega arith) b) j d l)) (λ j d l. missed x (get_or (drop i near) j d) (behind j d l))
+          ∙ sym (any-map (λ (row : Row). same_touch row.touch k && marks_by_row doc pairs row x) (row_seen shared) list));
+    }
+      where
+        missed : (x : ℕ) (row : DependencyRow) → (key_at row == h) ≡ false → hits shared k row x ≡ false
+        missed x row f = sym (hit_none shared k row (other_key (touch_seen row.touch) k h is_key f) x)
 
-      -- where one has a larger key
-      pub by_key_until : (row : DependencyRow) → row ≡ get_or near i row → h < key_at row → IsGrown (marks_by_key doc pairs (rows_seen shared list) h) m n
-      by_key_until row is larger = by_all (after key_at h list sorted near from.first i from.rest row is larger)
+    -- where one has a larger key
+    pub by_touch_until : (row : DependencyRow) → row ≡ get_or near i row → h < key_at row → IsGrown (marks_by_touch doc pairs (rows_seen shared list) k) m n
+    by_touch_until row is larger = by_all (after key_at h list sorted near from.first i from.rest row is larger)
 
-      -- where none is left
-      pub by_key_all : length near ≤ i → IsGrown (marks_by_key doc pairs (rows_seen shared list) h) m n
-      by_key_all none = by_all (λ j d l. absurd (omega (arith, length-drop i near, l, none)))
+    -- where none is left
+    pub by_touch_all : length near ≤ i → IsGrown (marks_by_touch doc pairs (rows_seen shared list) k) m n
+    by_touch_all none = by_all (λ j d l. absurd (omega (arith, length-drop i near, l, none)))
 
-  -- by the keys of what is touched
-
-  same_keys : (k l : model.Touch) → same_touch k l ≡ true → (touch_key k == touch_key l) ≡ true
-  same_keys k l h =
-      let parts = and_parts ((touch_code k).0 == (touch_code l).0) (same_text (touch_code k).1 (touch_code l).1) h in
-      eq-eqb (touch_key k) (touch_key l)
-      (ap touch_key (sym (told_code k)
-      ∙ (ap (λ n. touch_told n (touch_code k).1) (eqb-true (touch_code k).0 (touch_code l).0 parts.0)
-      ∙ (ap (λ t. touch_told (touch_code l).0 t) ((bytes_eq-Decides (touch_code k).1 (touch_code l).1).0 parts.1) ∙ told_code l))))
+  -- by all that is touched
 
   module _ (touches : List Touch) (all : AreAllTouches (map touch_seen touches) pairs) (x : ℕ) where
-    row_found : (row : Row) (m : Bool) → marks_by_row doc pairs row x ≡ m → list_any (λ (touch : Touch). (touch_key row.touch == touch_key (touch_seen touch)) && m) touches ≡ m
+    row_found : (row : Row) (m : Bool) → marks_by_row doc pairs row x ≡ m → list_any (λ (touch : Touch). same_touch row.touch (touch_seen touch) && m) touches ≡ m
     row_found row false h =
-        never_by (λ (touch : Touch). (touch_key row.touch == touch_key (touch_seen touch)) && false) (λ touch. and_right (touch_key row.touch == touch_key (touch_seen touch)) false refl) touches
+        never_by (λ (touch : Touch). same_touch row.touch (touch_seen touch) && false) (λ touch. and_right (same_touch row.touch (touch_seen touch)) false refl) touches
     row_found row true h =
         let led = (and_parts (bears_around (is_listed pairs) doc row.key x) (is_led_to doc pairs row.touch row.path x) h).1 in
         let (y, (i, t)) = any_in (λ y. is_listed pairs row.touch y && reaches doc row.path y x) (numbers doc) led in
         let here = (and_parts (is_listed pairs row.touch y) (reaches doc row.path y x) t).0 in
-        any_weaker (λ (touch : Touch). same_touch row.touch (touch_seen touch)) (λ (touch : Touch). (touch_key row.touch == touch_key (touch_seen touch)) && true) (λ touch s. and_from (touch_key row.touch == touch_key (touch_seen touch)) true (same_keys row.touch (touch_seen touch) s) refl) touches
+        any_weaker (λ (touch : Touch). same_touch row.touch (touch_seen touch)) (λ (touch : Touch). same_touch row.touch (touch_seen touch) && true) (λ touch s. and_from (same_touch row.touch (touch_seen touch)) true s refl) touches
         (sym (any-map (same_touch row.touch) touch_seen touches) ∙ all row.touch y here)
 
     -- no other row marks anything
-    pub by_touches : (rows : List Row) → list_any (λ (touch : Touch). marks_by_key doc pairs rows (touch_key (touch_seen touch)) x) touches ≡ list_any (λ row. marks_by_row doc pairs row x) rows
+    pub by_touches : (rows : List Row) → list_any (λ (touch : Touch). marks_by_touch doc pairs rows (touch_seen touch) x) touches ≡ list_any (λ row. marks_by_row doc pairs row x) rows
     by_touches rows =
-        exchange (λ (touch : Touch) (row : Row). (touch_key row.touch == touch_key (touch_seen touch)) && marks_by_row doc pairs row x) touches rows
-        ∙ any_alike (λ (row : Row). list_any (λ (touch : Touch). (touch_key row.touch == touch_key (touch_seen touch)) && marks_by_row doc pairs row x) touches) (λ row. marks_by_row doc pairs row x) rows (λ row. row_found row (marks_by_row doc pairs row x) refl)
+        exchange (λ (touch : Touch) (row : Row). same_touch row.touch (touch_seen touch) && marks_by_row doc pairs row x) touches rows
+        ∙ any_alike (λ (row : Row). list_any (λ (touch : Touch). same_touch row.touch (touch_seen touch) && marks_by_row doc pairs row x) touches) (λ row. marks_by_row doc pairs row x) rows (λ row. row_found row (marks_by_row doc pairs row x) refl)
 
-  pub by_all_touches : (style : ℕ → Bool) (touches : List Touch) (i : ℕ) (rows : List Row) (m n : Members) → AreAllTouches (map touch_seen touches) pairs → length touches ≤ i → IsGrown (λ x. style x || list_any (λ touch. marks_by_key doc pairs rows (touch_key (touch_seen touch)) x) (take i touches)) m n → IsGrown (λ x. style x || list_any (λ row. marks_by_row doc pairs row x) rows) m n
+  pub by_all_touches : (style : ℕ → Bool) (touches : List Touch) (i : ℕ) (rows : List Row) (m n : Members) → AreAllTouches (map touch_seen touches) pairs → length touches ≤ i → IsGrown (λ x. style x || list_any (λ touch. marks_by_touch doc pairs rows (touch_seen touch) x) (take i touches)) m n → IsGrown (λ x. style x || list_any (λ row. marks_by_row doc pairs row x) rows) m n
   by_all_touches style touches i rows m n all l grown =
-      grown_same (λ x. style x || list_any (λ (touch : Touch). marks_by_key doc pairs rows (touch_key (touch_seen touch)) x) (take i touches)) (λ x. style x || list_any (λ row. marks_by_row doc pairs row x) rows) m n
-      (λ x. ap (λ b. style x || b) (ap (list_any (λ (touch : Touch). marks_by_key doc pairs rows (touch_key (touch_seen touch)) x)) (take_all i touches l) ∙ by_touches touches all x rows)) grown
+      grown_same (λ x. style x || list_any (λ (touch : Touch). marks_by_touch doc pairs rows (touch_seen touch) x) (take i touches)) (λ x. style x || list_any (λ row. marks_by_row doc pairs row x) rows) m n
+      (λ x. ap (λ b. style x || b) (ap (list_any (λ (touch : Touch). marks_by_touch doc pairs rows (touch_seen touch) x)) (take_all i touches l) ∙ by_touches touches all x rows)) grown

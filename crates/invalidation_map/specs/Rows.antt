@@ -1,15 +1,15 @@
 -- The rows by which what is touched marks.
-use Rattle.std.specs.Prelude.{◌==◌, ℕ, ◌&&◌, Bool, List, Option, option_map, codes}
+use Rattle.std.specs.Prelude.{◌≡◌, ℕ, ◌&&◌, Bool, List, Option, option_map, codes}
 use Rattle.std.specs.List.{filter_map, flat_map, list_any}
 use Rattle.scene_model.specs.Element.{Element}
 use Rattle.scene_model.specs.Lookups.{numbers}
+use Rattle.scene_model.specs.Numbers.{is_in}
 use Rattle.selector_model.specs.Selector.{Selector}
 use Rattle.selector_model.specs.Key.{Key, key_of}
 use Rattle.edit_model.specs.Touched.{Touch, attribute}
-use Rattle.edit_model.specs.TouchedBy.{is_listed}
+use Rattle.edit_model.specs.TouchedBy.{is_listed, same_touch}
 use Rattle.edit_model.specs.Dependencies.{Step, Dependency, dependencies, reaches, touch_of}
 use Rattle.edit_model.specs.MarkedAfter.{bears_around}
-use Rattle.dom_edits.specs.TouchView.{touch_key}
 
 -- that of an element's own `style`
 abbrev pub style_touch : Touch
@@ -38,7 +38,11 @@ is_led_to doc pairs touch path x = list_any (λ y. is_listed pairs touch y && re
 abbrev pub marks_by_row : List Element → List (Touch × ℕ) → Row → ℕ → Bool
 marks_by_row doc pairs row x = bears_around (is_listed pairs) doc row.key x && is_led_to doc pairs row.touch row.path x
 
--- what the rows mark whose touches have this key
-abbrev pub marks_by_key : List Element → List (Touch × ℕ) → List Row → ℕ → ℕ → Bool
-marks_by_key doc pairs rows key x =
-    list_any (λ row. (touch_key row.touch == key) && marks_by_row doc pairs row x) rows
+-- these are the elements that are touched so
+abbrev pub AreTouchedIn : List (Touch × ℕ) → Touch → List ℕ → Type 0
+AreTouchedIn pairs touch elements = (y : ℕ) → is_in y elements ≡ is_listed pairs touch y
+
+-- what the rows of a touch mark
+abbrev pub marks_by_touch : List Element → List (Touch × ℕ) → List Row → Touch → ℕ → Bool
+marks_by_touch doc pairs rows touch x =
+    list_any (λ row. same_touch row.touch touch && marks_by_row doc pairs row x) rows

@@ -9,8 +9,9 @@ ghost use Rattle.selector_model.specs.Bears.{bears as model_bears};
 ghost use Rattle.selector_types.specs.SimpleView.{key_seen};
 ghost use Rattle.edit_model.specs.TouchedBy.{is_listed};
 ghost use Rattle.edit_model.specs.MarkedAfter.{touch_of_key};
+ghost use Rattle.dom_edits.specs.TouchView.{touch_seen};
 ghost use Rattle.invalidation_map.specs.Steps.{AreElements, HasRoom};
-ghost use Rattle.invalidation_map.specs.Rows.{marks_by_key, marks_by_row};
+ghost use Rattle.invalidation_map.specs.Rows.{AreTouchedIn, marks_by_row, marks_by_touch};
 ghost use Rattle.invalidation_map.specs.SharedRows.{IsWithin, row_seen};
 ghost use Rattle.invalidation_map.specs.RowView.{rows_in};
 ghost use Rattle.invalidation_map.specs.Marks.{AreAtElements, AreMarked, IsGrown};
@@ -20,7 +21,7 @@ use crate::paths::walk;
 use crate::rows::Dependencies;
 use crate::selector_key::SelectorKey;
 use crate::shared::{DependencyRow, Shared};
-use dom_edits::Touched;
+use dom_edits::{Touch, Touched};
 use dom_tree::Doc;
 use selector_types::Key;
 use std::alloc::Global;
@@ -76,12 +77,11 @@ impl Marker {
         let _order = doc.in_tree_order();
         marks.add_all(touched.at(&dependencies.style));
         for touch in touched.touches() {
-            let key = touch.key();
-            mark_by_key(
+            mark_by_touch(
                 doc,
                 touched,
                 dependencies,
-                key,
+                touch,
                 &mut self.from,
                 &mut self.next,
                 marks,
@@ -90,12 +90,12 @@ impl Marker {
     }
 }
 
-/// Adds what the rows mark whose touches have this key. It looks at these alone.
-fn mark_by_key(
+/// Adds what the rows of a touch mark. It looks at those alone whose touches have the same key.
+fn mark_by_touch(
     doc: &Doc,
     touched: &Touched,
     dependencies: &Dependencies,
-    key: u64,
+    touch: &Touch,
     from: &mut ElementSet,
     next: &mut ElementSet,
     marks: &mut ElementSet,
@@ -105,24 +105,38 @@ fn mark_by_key(
     requires next { next.old.room ≡ from.old.room }
     requires marks { HasRoom doc.now.elements marks.old.room }
     requires touched { AreAtElements doc.now.elements touched.now }
-    ensures grown { IsGrown (marks_by_key doc.now.elements touched.now (rows_in dependencies.now) key)
+    ensures grown { IsGrown
+        (marks_by_touch doc.now.elements touched.now (rows_in dependencies.now) (touch_seen touch.now))
         marks.old marks.new }
     ensures room { from.new.room ≡ from.old.room }
     ensures next { next.new.room ≡ from.old.room }
 {
-    let near = dependencies.from_key(key);
-    for row in near {
+    let key = touch.key();
+    for row in dependencies.from_key(key) {
         if key < row.touch.key() {
             return;
         }
-        mark_row(doc, touched, &dependencies.shared, row, from, next, marks);
+        if !row.touch.is(touch) {
+            continue;
+        }
+        mark_row(
+            doc,
+            touched,
+            touched.at(touch),
+            &dependencies.shared,
+            row,
+            from,
+            next,
+            marks,
+        );
     }
 }
 
-/// Adds what one row marks. Where nothing that it depends on is touched, it costs one look-up.
+/// Adds what one row marks, at whose touch these elements are touched.
 fn mark_row(
     doc: &Doc,
     touched: &Touched,
+    elements: &[u32],
     shared: &Shared,
     row: &DependencyRow,
     from: &mut ElementSet,
@@ -134,16 +148,13 @@ fn mark_row(
     requires next { next.old.room ≡ from.old.room }
     requires marks { HasRoom doc.now.elements marks.old.room }
     requires touched { AreAtElements doc.now.elements touched.now }
+    requires elements { AreTouchedIn touched.now (touch_seen row.now.touch) elements.now }
     requires within { IsWithin shared.now row.now }
     ensures grown { IsGrown (marks_by_row doc.now.elements touched.now
         (row_seen shared.now row.now)) marks.old marks.new }
     ensures room { from.new.room ≡ from.old.room }
     ensures next { next.new.room ≡ from.old.room }
 {
-    let elements = touched.at(&row.touch);
-    if elements.is_empty() {
-        return;
-    }
     from.clear();
     from.add_all(elements);
     walk(doc, &shared.paths[row.path as usize], from, next);

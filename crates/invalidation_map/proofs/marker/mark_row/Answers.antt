@@ -1,6 +1,4 @@
-use Rattle.std.proofs.Common.{[], Vec, ap, length, sym, subst, ◌∙◌}
-use Rattle.std.proofs.lemmas.Bool.{eqb-true}
-use Rattle.std.proofs.lemmas.List.{nil_from_length}
+use Rattle.std.proofs.Common.{[], Vec, ap, sym, subst, ◌∙◌}
 use Rattle.std.specs.declared.alloc.Global.{Global}
 use Rattle.selector_model.specs.Key.{any_key}
 use Rattle.selector_types.specs.SimpleView.{key_seen}
@@ -11,25 +9,20 @@ use Rattle.invalidation_map.specs.Members.{Members, AreBelow}
 use Rattle.invalidation_map.specs.SharedRows.{row_seen}
 use Rattle.invalidation_map.proofs.SharedLemmas.{seen_at}
 use Rattle.invalidation_map.proofs.StepLemmas.{below_all}
-use Rattle.invalidation_map.proofs.GrowthLemmas.{added_elements, listed_elements, marked_by_row, none_marked}
+use Rattle.invalidation_map.proofs.GrowthLemmas.{added_elements, listed_elements, marked_by_row}
 use Rattle.invalidation_map.proofs.marker.mark_row.Goals as goal
-
-pub returns-then-is_empty-clause-grown : goal.returns-then-is_empty-clause-grown
-returns-then-is_empty-clause-grown c =
-    none_marked c.args.doc.now.elements c.args.touched.now (row_seen c.args.shared.now c.args.row.now) _ c.at-elements.ensures.elements
-    (nil_from_length _ (eqb-true (length c.at-elements.result.now) 0 (sym c.is_empty.ensures ∙ c.if-is_empty.true))) _
 
 pub add_all-requires : goal.add_all-requires
 add_all-requires c =
-    subst (λ (m : Members). AreBelow m.room c.at-elements.result.now) (sym c.clear.ensures)
-    (below_all _ _ _ c.requires.room (listed_elements c.args.doc.now.elements c.args.touched.now _ _ c.at-elements.ensures.elements c.requires.touched))
+    subst (λ (m : Members). AreBelow m.room c.args.elements.now) (sym c.clear.ensures)
+    (below_all _ _ _ c.requires.room (listed_elements c.args.doc.now.elements c.args.touched.now _ _ c.requires.elements c.requires.touched))
 
 pub walk-requires-clause-elements : goal.walk-requires-clause-elements
 walk-requires-clause-elements c =
-    added_elements c.args.doc.now.elements c.args.touched.now _ _ c.at-elements.ensures.elements c.requires.touched _ _ (ap (λ (m : Members). m.items) c.clear.ensures) c.add_all.ensures
+    added_elements c.args.doc.now.elements c.args.touched.now _ _ c.requires.elements c.requires.touched _ _ (ap (λ (m : Members). m.items) c.clear.ensures) c.add_all.ensures
 
 pub returns-clause-grown : goal.returns-clause-grown
 returns-clause-grown c =
     let path = seen_at (λ (path : Vec PathStep Global). path_of path.items) c.args.shared.now.paths.items c.args.row.now.path c.index.result.now [] c.requires.within.path c.index.ensures in
     let key = seen_at (λ (key : SelectorKey). key_seen key.key) c.args.shared.now.keys.items c.args.row.now.key c.index-key.result.now any_key c.requires.within.key c.index-key.ensures in
-    marked_by_row c.args.doc.now.elements c.args.touched.now (row_seen c.args.shared.now c.args.row.now) c.at-elements.result.now c.at-elements.ensures.elements c.clear.new.self c.add_all.new.self c.walk.new.from.items c.as_slice.result.now c.touched_in_key-bearing.result.now (path_of c.deref.result.now) (key_seen c.index-key.result.now.key) c.args.marks.now c.add_bearing.new.marks c.requires.touched (ap (λ (m : Members). m.items) c.clear.ensures) c.add_all.ensures (ap path_of c.deref.ensures.value ∙ path) c.walk.ensures.reached c.as_slice.ensures.items key c.touched_in_key-bearing.ensures.elements c.add_bearing.ensures
+    marked_by_row c.args.doc.now.elements c.args.touched.now (row_seen c.args.shared.now c.args.row.now) c.args.elements.now c.requires.elements c.clear.new.self c.add_all.new.self c.walk.new.from.items c.as_slice.result.now c.touched_in_key-bearing.result.now (path_of c.deref.result.now) (key_seen c.index-key.result.now.key) c.args.marks.now c.add_bearing.new.marks c.requires.touched (ap (λ (m : Members). m.items) c.clear.ensures) c.add_all.ensures (ap path_of c.deref.ensures.value ∙ path) c.walk.ensures.reached c.as_slice.ensures.items key c.touched_in_key-bearing.ensures.elements c.add_bearing.ensures

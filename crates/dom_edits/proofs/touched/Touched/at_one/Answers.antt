@@ -6,7 +6,7 @@ use Rattle.dom_edits.proofs.TouchLemmas.{one_sorted}
 use Rattle.dom_edits.proofs.touched.Touched.at_one.Goals as goal
 
 pub invariant_of-result : goal.invariant_of-result
-invariant_of-result c = IsNonDecreasingBy-from_sort_by_key (λ (touch : Touch). touch_key (touch_seen touch)) _ c.in_ok-sort_by_key.ensures.sorted (λ a r q k. search rules)
+invariant_of-result c = IsNonDecreasingBy-from_sort_by_key (λ (touch : Touch). touch_key (touch_seen touch)) _ c.sort_unstable_by_key.ensures.sorted (λ a r q k. search rules)
 
 pub returns : goal.returns
-returns c = one_sorted c.args.touches.items _ c.args.x _ (search rules) c.in_ok-sort_by_key.ensures.permutation
+returns c = one_sorted c.args.touches.items _ c.args.x _ (search rules) c.sort_unstable_by_key.ensures.permutation

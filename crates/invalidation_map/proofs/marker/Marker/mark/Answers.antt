@@ -1,8 +1,8 @@
-use Rattle.std.proofs.Common.{◌||◌, ◌∙◌, ap, false, refl}
+use Rattle.std.proofs.Common.{◌||◌, ◌∙◌, false, refl}
 use Rattle.edit_model.specs.TouchedBy.{is_listed}
 use Rattle.dom_edits.specs.declared.touch.Touch.{Touch}
-use Rattle.dom_edits.specs.TouchView.{touch_key, touch_seen}
-use Rattle.invalidation_map.specs.Rows.{marks_by_key}
+use Rattle.dom_edits.specs.TouchView.{touch_seen}
+use Rattle.invalidation_map.specs.Rows.{marks_by_touch}
 use Rattle.invalidation_map.specs.RowView.{rows_in}
 use Rattle.invalidation_map.proofs.SetLemmas.{or_no}
 use Rattle.invalidation_map.proofs.StepLemmas.{below_all}
@@ -27,12 +27,12 @@ loop-touch-init c =
 pub loop-touch-preserved : goal.loop-touch-preserved
 loop-touch-preserved c =
     let style = is_listed c.args.touched.now (touch_seen c.args.dependencies.now.style) in
-    let by = λ (touch : Touch). marks_by_key c.args.doc.now.elements c.args.touched.now (rows_in c.args.dependencies.now) (touch_key (touch_seen touch)) in
+    let by = λ (touch : Touch). marks_by_touch c.args.doc.now.elements c.args.touched.now (rows_in c.args.dependencies.now) (touch_seen touch) in
     record {
       grown =
-          grown_next style by c.touches-touch-items.result.now c.loop-touch.touch-index c.touch-item.result (marks_by_key c.args.doc.now.elements c.args.touched.now (rows_in c.args.dependencies.now) c.key-key.result) c.args.marks.now c.loop-touch.marks c.mark_by_key.new.marks c.loop-touch-test.true c.touch-item.is (λ x. ap (λ key. marks_by_key c.args.doc.now.elements c.args.touched.now (rows_in c.args.dependencies.now) key x) c.key-key.ensures) c.loop-touch.invariant.grown c.mark_by_key.ensures.grown;
-      from = c.mark_by_key.ensures.room ∙ c.loop-touch.invariant.from;
-      next = c.mark_by_key.ensures.next ∙ c.loop-touch.invariant.from;
+          grown_next style by c.touches-touch-items.result.now c.loop-touch.touch-index c.touch-item.result (marks_by_touch c.args.doc.now.elements c.args.touched.now (rows_in c.args.dependencies.now) (touch_seen c.touch-item.result)) c.args.marks.now c.loop-touch.marks c.mark_by_touch.new.marks c.loop-touch-test.true c.touch-item.is (λ x. refl) c.loop-touch.invariant.grown c.mark_by_touch.ensures.grown;
+      from = c.mark_by_touch.ensures.room ∙ c.loop-touch.invariant.from;
+      next = c.mark_by_touch.ensures.next ∙ c.loop-touch.invariant.from;
     }
 
 pub returns-clause-marked : goal.returns-clause-marked

@@ -1,12 +1,13 @@
 use Rattle.std.proofs.Common.{◌≡◌, take}
 use Rattle.std.specs.List.{list_any}
+use Rattle.dom_edits.specs.TouchView.{touch_seen}
 use Rattle.invalidation_map.specs.Marks.{IsGrown}
 use Rattle.invalidation_map.proofs.KeyLemmas.{hits}
-use Rattle.invalidation_map.proofs.marker.mark_by_key.Given as goal
+use Rattle.invalidation_map.proofs.marker.mark_by_touch.Given as goal
 
 abbrev pub invariant-loop-row : goal.invariant-loop-row
 invariant-loop-row l = record {
-  grown : IsGrown (λ x. list_any (λ row. hits l.doc.elements l.touched l.dependencies.shared l.key row x) (take l.row-index l.near)) l.initial.marks l.marks;
+  grown : IsGrown (λ x. list_any (λ row. hits l.doc.elements l.touched l.dependencies.shared (touch_seen l.touch) row x) (take l.row-index l.row-items)) l.initial.marks l.marks;
   from : l.from.room ≡ l.initial.from.room;
   next : l.next.room ≡ l.initial.from.room;
 }
