@@ -2,6 +2,7 @@
 
 use property_table::{Keyword, PropId, Value};
 use std::alloc::Global;
+use std::sync::Arc;
 use std::test::Fail;
 use style_value::{Style, StyleDraft, StyleTable};
 use stylo_base::NoMemory;
@@ -36,7 +37,7 @@ fn displayed(alloc: Global, display: Keyword) -> Result<StyleDraft, NoMemory> {
 
 /// The numbers of a style, of another one, and of the first again.
 fn numbers(alloc: Global) -> Result<(usize, usize, usize), NoMemory> {
-    let mut table = StyleTable::start(alloc)?;
+    let mut table = StyleTable::start(alloc, 64)?;
     Ok((
         table.add(alloc, displayed(alloc, Keyword::Block)?)?,
         table.add(alloc, displayed(alloc, Keyword::None)?)?,
@@ -48,5 +49,46 @@ fn numbers(alloc: Global) -> Result<(usize, usize, usize), NoMemory> {
 fn equal_styles_have_one_number(rt: HostRuntime) -> Result<(), Fail> {
     let numbers = numbers(rt.alloc())?;
     assert_eq!(rt; numbers, (0, 1, 0));
+    Ok(())
+}
+
+/// The numbers that a table with another style gives a style that is kept elsewhere, the same once more,
+/// and its values.
+fn adopted(alloc: Global) -> Result<(usize, usize, usize), NoMemory> {
+    let style = Arc::new(alloc, displayed(alloc, Keyword::Block)?.finish(alloc)?)?;
+    let mut table = StyleTable::start(alloc, 64)?;
+    table.add(alloc, displayed(alloc, Keyword::None)?)?;
+    Ok((
+        table.adopt(&style)?,
+        table.adopt(&style)?,
+        table.add(alloc, displayed(alloc, Keyword::Block)?)?,
+    ))
+}
+
+#[test]
+fn a_style_is_adopted_once(rt: HostRuntime) -> Result<(), Fail> {
+    let numbers = adopted(rt.alloc())?;
+    assert_eq!(rt; numbers, (1, 1, 1));
+    Ok(())
+}
+
+/// How many styles a table has, and how many once it is cleared, and the number of one that is added then.
+fn cleared(alloc: Global) -> Result<(usize, usize, usize), NoMemory> {
+    let mut table = StyleTable::start(alloc, 64)?;
+    table.add(alloc, displayed(alloc, Keyword::Block)?)?;
+    let filled = table.len();
+    table.clear();
+    let empty = table.len();
+    Ok((
+        filled,
+        empty,
+        table.add(alloc, displayed(alloc, Keyword::Block)?)?,
+    ))
+}
+
+#[test]
+fn a_table_is_cleared(rt: HostRuntime) -> Result<(), Fail> {
+    let numbers = cleared(rt.alloc())?;
+    assert_eq!(rt; numbers, (1, 0, 0));
     Ok(())
 }

@@ -10,12 +10,12 @@ use Rattle.scene_model.specs.Document.{Document}
 use Rattle.scene_model.specs.Element.{Element, Characters, State}
 use Rattle.scene_model.specs.Lookups.{numbers, element_at, is_element}
 use Rattle.scene_model.specs.Nodes.{Node, HaveParentsFrom, IsNodeList, IsParentAt, listed, listed_from}
-use Rattle.scene_model.specs.Valid.{IsValid}
 use Rattle.scene_model.proofs.Listed.{numbered}
 use Rattle.scene_model.proofs.Numbers.{differs}
 use Rattle.change_model.specs.InPlace.{changed_at, IsInPlace, put_state}
+use Rattle.change_model.specs.Sound.{IsSound}
 use Rattle.change_model.proofs.Columns.{filter_map-mapped}
-use Rattle.change_model.proofs.InPlace.{here, number-here, IsInPlace-here, element_at-map, numbers-map, is_element-map, children-map, place_of-map, place_of_type-map, IsValid-map, IsInPlace-attribute, IsInPlace-no_attribute, IsInPlace-state}
+use Rattle.change_model.proofs.InPlace.{here, number-here, IsInPlace-here, element_at-map, numbers-map, is_element-map, children-map, place_of-map, place_of_type-map, IsSound-changed_at, IsInPlace-attribute, IsInPlace-no_attribute, IsInPlace-state}
 use Rattle.dom_tree.specs.declared.labels.Label.{Label}
 use Rattle.dom_tree.specs.declared.links.NodeLink.{NodeLink}
 use Rattle.dom_tree.specs.Kept.{Table, put_node}
@@ -115,7 +115,7 @@ module _ (table later : Table) (links : List NodeLink) (before after : List ℕ)
   whole_more e = record {
     few = subst (λ l. length l ≤ element_limit) (sym e) whole.few;
     shape = subst IsNodeList (sym e) whole.shape;
-    valid = subst (λ l. IsValid (in_order l order)) (sym e) whole.valid;
+    sound = subst IsSound (λ i. record { elements = in_order (sym e i) order; last = length (sym e i) }) whole.sound;
     listed = ap (λ l. numbers (in_order l order)) e ∙ whole.listed;
     known = λ x. ap (λ l. is_element (in_order l order) x) e ∙ (whole.known x ∙ ap (λ l. nat_lt 0 x && nat_le x (length l)) (sym e));
     links_of = subst (λ l. AreLinks (in_order l order) links) (sym e) whole.links_of;
@@ -144,7 +144,7 @@ module _ (table later : Table) (links : List NodeLink) (before after : List ℕ)
         some = subst (λ n. 0 < n) (sym so_many) whole.shape.some;
         parents = subst (HaveParentsFrom 0) (sym e) (parents_put f g c 0 k table.nodes whole.shape.parents);
       };
-      valid = subst IsValid (sym changed) (IsValid-map (here (k + 1) g) there (in_order table.nodes order) whole.valid);
+      sound = subst IsSound (λ i. record { elements = sym changed i; last = sym so_many i }) (IsSound-changed_at (document table order) (k + 1) g c.place whole.sound);
       listed = ap numbers changed ∙ (numbers-map (here (k + 1) g) there.number (in_order table.nodes order) ∙ whole.listed);
       known = λ x. ap (λ d. is_element d x) changed ∙ (is_element-map (here (k + 1) g) there.number (in_order table.nodes order) x ∙ (whole.known x ∙ ap (λ n. nat_lt 0 x && nat_le x n) (sym so_many)));
       links_of = subst (λ d. AreLinks d links) (sym changed) (links_mapped (here (k + 1) g) there (in_order table.nodes order) links whole.links_of);

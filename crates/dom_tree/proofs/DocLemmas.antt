@@ -10,9 +10,10 @@ use Rattle.scene_model.specs.Element.{Characters}
 use Rattle.scene_model.specs.Lookups.{is_element, element_at, numbers}
 use Rattle.scene_model.specs.Nodes.{Node, IsNodeList, listed, tree_order, scene_of}
 use Rattle.scene_model.specs.Document.{document_of}
-use Rattle.scene_model.specs.Valid.{IsValid}
+use Rattle.change_model.specs.Sound.{IsSound}
+use Rattle.change_model.proofs.Started.{IsSound-document_of}
 use Rattle.scene_model.proofs.Listed.{length-listed}
-use Rattle.scene_model.proofs.TreeOrder.{IsValid-scene_of, numbers-scene_of, length-tree_order, length-scene_of, decides-scene_of, children-scene_of, place_of-scene_of}
+use Rattle.scene_model.proofs.TreeOrder.{numbers-scene_of, length-tree_order, length-scene_of, decides-scene_of, children-scene_of, place_of-scene_of}
 use Rattle.dom_tree.specs.declared.labels.Label.{Label}
 use Rattle.dom_tree.specs.declared.links.NodeLink.{NodeLink}
 use Rattle.dom_tree.specs.Kept.{Table}
@@ -51,7 +52,7 @@ module _ (list : List Node) (v : IsNodeList list) where
       record {
         few = subst (λ l. length l ≤ element_limit) (sym nodes) few;
         shape = subst IsNodeList (sym nodes) v;
-        valid = subst IsValid (sym same) (IsValid-scene_of list v);
+        sound = subst IsSound (λ i. record { elements = sym same i; last = so_many i }) (IsSound-document_of list v);
         listed = ap numbers same ∙ (numbers-scene_of list v ∙ sym f);
         known = λ x. ap (λ doc. is_element doc x) same ∙ (same_from_decides _ _ (decides-scene_of list v x) (within-Decides x (length list)) ∙ ap (λ n. nat_lt 0 x && nat_le x n) so_many);
         links_of = subst (λ doc. AreLinks doc links) (sym same) (links_in_tree links are);

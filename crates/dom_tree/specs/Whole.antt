@@ -7,7 +7,7 @@ use Rattle.scene_model.specs.Element.{Element, Characters}
 use Rattle.scene_model.specs.Lookups.{numbers, element_at, is_element}
 use Rattle.scene_model.specs.Document.{Document}
 use Rattle.scene_model.specs.Nodes.{Node, IsNodeList, listed}
-use Rattle.scene_model.specs.Valid.{IsValid}
+use Rattle.change_model.specs.Sound.{IsSound}
 use Rattle.dom_tree.specs.declared.labels.Label.{Label}
 use Rattle.dom_tree.specs.declared.links.NodeLink.{NodeLink}
 use Rattle.dom_tree.specs.Kept.{Table}
@@ -23,14 +23,14 @@ in_order nodes order = filter_map (element_at (listed nodes)) order
 abbrev pub document : Table → List ℕ → Document
 document table order = record { elements = in_order table.nodes order; last = length table.nodes }
 
--- what holds of what is kept: each node is an element and found at its number, and the links, the places among the
--- siblings of its type, from the first and from the last, and the labels are its own; the class lists are those that
--- were cut for values of `class`
+-- what holds of what is kept: the document is sound, each node is an element and found at its number, and the links,
+-- the places among the siblings of its type, from the first and from the last, and the labels are its own; the class
+-- lists are those that were cut for values of `class`
 pub record IsWhole (table : Table) (links : List NodeLink) (before after : List ℕ) (labels : List Label)
     (lists : List (List Characters)) (cuts : List (Option ℕ)) (order : List ℕ) : Type 0 where
   pub few : length table.nodes ≤ element_limit
   pub shape : IsNodeList table.nodes
-  pub valid : IsValid (in_order table.nodes order)
+  pub sound : IsSound (document table order)
   pub listed : numbers (in_order table.nodes order) ≡ order
   pub known : (x : ℕ) → is_element (in_order table.nodes order) x ≡ (nat_lt 0 x && nat_le x (length table.nodes))
   pub links_of : AreLinks (in_order table.nodes order) links

@@ -8,6 +8,7 @@ ghost use Rattle.base_model.specs.Text.{is_empty_text, same_text};
 ghost use Rattle.scene_model.specs.Lookups.{IsElement, attribute_of, attributes_of, children, has_class, is_element, numbers, parent_of, place_of, place_of_type, right_of, siblings, state_of, tag_of};
 ghost use Rattle.scene_model.specs.Document.{document_of};
 ghost use Rattle.scene_model.specs.Valid.{IsValid};
+ghost use Rattle.change_model.specs.Sound.{IsSound};
 ghost use Rattle.stylo_base.specs.StateView.{state_seen};
 ghost use Rattle.dom_tree.specs.ElementNames.{AreNamesOf, names_of};
 ghost use Rattle.dom_tree.specs.Labels.{class_words};
@@ -125,6 +126,7 @@ impl Doc {
     pub fn in_tree_order(&self) -> &[u32]
         ensures order { result.now ≡ numbers self.now.elements }
         ensures valid { IsValid self.now.elements }
+        ensures sound { IsSound self.now }
     {
         self.order.as_slice()
     }

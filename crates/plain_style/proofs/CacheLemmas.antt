@@ -1,10 +1,10 @@
 -- What is known of styles stays right while the table of styles grows.
-use Rattle.std.proofs.Common.{◌≡◌, ℕ, ℤ, ◌<◌, false, refl, get_or, IfSome, List, ◌++◌, length, take, drop, slice_get, Option, Some, None, sym, ap, ◌∙◌, subst, arith, take-append-drop, length-append, append-nil}
-use Rattle.std.specs.Prelude.{Result, Ok, Err, OnOk}
+use Rattle.std.proofs.Common.{◌≡◌, ◌≢◌, ℕ, ℤ, ◌+◌, ◌<◌, ◌≤◌, false, refl, get_or, set, IfSome, List, ◌++◌, length, take, drop, slice_get, Option, Some, None, sym, ap, ◌∙◌, subst, arith, below_more, get_or-set_other, get_or-set_same, take-append-drop, length-append, length-drop, length-set, append-nil}
 use Rattle.std.specs.List.{All}
 use Rattle.std.proofs.lemmas.List.{get_or_append_left}
-use Rattle.std.proofs.lemmas.List.Elements.{All-weaker}
+use Rattle.std.proofs.lemmas.List.Elements.{All-append, All-take, All-weaker}
 use Rattle.std.proofs.lemmas.Option.{same_Some, slice_get-get_or, slice_get_within, get_or_from_slice_get}
+use Rattle.base_model.proofs.Lists.{slice_get_some}
 use Rattle.value_model.specs.Style.{Style}
 use Rattle.sheet_model.specs.Sources.{Sources}
 use Rattle.cascade_model.specs.Cascade.{cascaded}
@@ -83,7 +83,35 @@ fits_more sources size prepared was now kept same fits = record {
   cache = subst (AllRight sources size now.table) (sym same) (all_right_more sources size was.table now.table was.cache.entries.items kept fits.cache);
 }
 
-pub on_ok_fits : {T E : Type 0} (sources : Sources) (size : ℤ) (prepared : Prepared) (was now : Styler) (result : Result T E) → OnOk result (take (length was.table) now.table ≡ was.table) → now.cache ≡ was.cache → Fits sources size prepared was → OnOk result (Fits sources size prepared now)
-on_ok_fits sources size prepared was now (Err e) kept same fits = tt
-on_ok_fits sources size prepared was now (Ok t) kept same fits =
-    fits_more sources size prepared was now kept same fits
+-- and where one more style is kept in the memo, which has grown right if that style is
+pub fits_kept : (sources : Sources) (size : ℤ) (prepared : Prepared) (was now last : Styler) (parent : ℕ) (found : List MatchedRule) (style : ℕ) → take (length was.table) now.table ≡ was.table → now.cache ≡ was.cache → last.table ≡ now.table
+    → ((over : Style) → slice_get was.table parent ≡ Some over → slice_get now.table style ≡ Some (cascaded false over size (declared_by sources found None))) → parent < length was.table
+    → (AllRight sources size now.table now.cache → IsRight sources size now.table parent found style → AllRight sources size now.table last.cache) → Fits sources size prepared was → Fits sources size prepared last
+fits_kept sources size prepared was now last parent found style kept same table made below grown fits =
+    let (over, at) = slice_get_some was.table parent below in
+    record {
+      prepared_is = fits.prepared_is;
+      cache = subst (λ l. AllRight sources size l last.cache) (sym table) (grown (fits_more sources size prepared was now kept same fits).cache (right_grown sources size was.table now.table parent found style over at kept (made over at)));
+    }
+
+-- the entries before a place have no style
+abbrev pub HaveNone : ℕ → List Entry → Type 0
+HaveNone n entries = (k : ℕ) → k < n → (entry : Entry) → k < length entries → (get_or entries k entry).style ≡ None
+
+-- nor has the one at the place, once it is taken
+pub none_more : (entries : List Entry) (n : ℕ) (emptied : Entry) → emptied.style ≡ None → HaveNone n entries → HaveNone (n + 1) (set entries n emptied)
+none_more entries n emptied none before =
+    below_more (λ k. (entry : Entry) → k < length (set entries n emptied) → (get_or (set entries n emptied) k entry).style ≡ None) n
+    (λ k below entry within. let apart : k ≢ n = omega arith in ap (λ (e : Entry). e.style) (get_or-set_other entries n k emptied entry apart) ∙ before k below entry (omega (arith, within, length-set entries n emptied)))
+    (λ entry within. ap (λ (e : Entry). e.style) (get_or-set_same entries n emptied entry (omega (arith, within, length-set entries n emptied))) ∙ none)
+
+-- where none has one, all that is kept is right
+pub all_none_right : (sources : Sources) (size : ℤ) (table : List Style) (n : ℕ) (entries : List Entry) → length entries ≤ n → HaveNone n entries → All (HasRight sources size table) entries
+all_none_right sources size table n entries all none k entry within =
+    none_right sources size table (get_or entries k entry) (none k (omega (arith, within, all)) entry within)
+
+-- and so it is of the list that is written back over one of the same length
+pub all_back : {A : Type 0} (P : A → Type 0) (n : ℕ) (items was : List A) → length items ≡ length was → All P items → All P (take n (items ++ drop (length items) was))
+all_back P n items was same all =
+    let over : All P (drop (length items) was) = λ k d within. absurd (omega (arith, within, same, length-drop (length items) was)) in
+    All-take P n (items ++ drop (length items) was) (All-append P items (drop (length items) was) all over)

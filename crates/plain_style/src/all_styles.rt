@@ -1,6 +1,6 @@
 //! The style of every element, from the root down.
 
-ghost use Rattle.std.specs.Prelude.{◌≡◌, IfOk, OnOk, Some, length, map, slice_get, take};
+ghost use Rattle.std.specs.Prelude.{◌≡◌, IfOk, Some, length, map, slice_get, take};
 ghost use Rattle.sheet_set.specs.View.{sources_seen};
 ghost use Rattle.std.specs.Arc.{arc_value};
 ghost use Rattle.cascade_model.specs.StyleOf.{style_of};
@@ -17,6 +17,9 @@ use std::sync::Arc;
 use style_value::Style;
 use stylo_base::NoMemory;
 
+/// So many styles are found again.
+const SLOTS: usize = 4_096;
+
 /// The styles of all elements, in tree order.
 pub fn style_all(alloc: Global, doc: &Doc, sheets: &Sheets) -> Result<Vec<Arc<Style>>, NoMemory>
     ensures { IfOk result (λ styles. map arc_value styles.items
@@ -32,7 +35,7 @@ pub fn style_all(alloc: Global, doc: &Doc, sheets: &Sheets) -> Result<Vec<Arc<St
     let Some(first) = doc.in_tree_order().first() else {
         return Ok(Vec::new(alloc));
     };
-    let mut styler = Styler::start(alloc)?;
+    let mut styler = Styler::start(alloc, SLOTS)?;
     let root = styler.root(&inputs, *first)?;
     styles_in_order(&inputs, &mut styler, root)
 }
@@ -78,9 +81,8 @@ fn style_number(
         styler.old.table root }
     ensures style { IfOk result (λ style. slice_get styler.new.table style
         ≡ Some (style_of inputs.now.doc.now.elements (sources_seen inputs.now.sheets.now) number)) }
-    ensures kept { OnOk result (take (length styler.old.table) styler.new.table ≡ styler.old.table) }
-    ensures fits { OnOk result
-        (Fits (sources_seen inputs.now.sheets.now) root.size inputs.now.prepared.now styler.new) }
+    ensures kept { take (length styler.old.table) styler.new.table ≡ styler.old.table }
+    ensures fits { Fits (sources_seen inputs.now.sheets.now) root.size inputs.now.prepared.now styler.new }
 {
     match inputs.doc.parent(number) {
         Some(parent) => styler.child(inputs, number, known[parent as usize], root.size),

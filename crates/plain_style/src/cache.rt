@@ -1,6 +1,6 @@
 //! The styles that are known of other elements.
 
-ghost use Rattle.std.specs.Prelude.{◌≡◌, ℤ, List, IfOk, IfSome};
+ghost use Rattle.std.specs.Prelude.{ℤ, List, IfOk, IfSome};
 ghost use Rattle.value_model.specs.Style.{Style};
 ghost use Rattle.sheet_model.specs.Sources.{Sources};
 ghost use Rattle.plain_style.specs.Cache.{AllRight, IsRight};
@@ -9,8 +9,8 @@ use crate::matched_rules::MatchedRule;
 use std::alloc::Global;
 use stylo_base::NoMemory;
 
-/// How many styles are kept at most.
-const SLOTS: usize = 4_096;
+/// How many styles are kept, at most.
+const MOST_SLOTS: usize = 4_096;
 
 /// The longest list of rules that is kept, so that what is kept stays small whatever the sheets.
 const LONGEST: usize = 64;
@@ -33,13 +33,14 @@ struct Entry {
 }
 
 impl MatchedRulesCache {
-    /// Nothing yet.
-    pub(crate) fn start(alloc: Global) -> Result<MatchedRulesCache, NoMemory>
+    /// Nothing yet. It keeps so many styles, up to 4,096: a power of two serves best.
+    pub(crate) fn start(alloc: Global, slots: usize) -> Result<MatchedRulesCache, NoMemory>
         ensures { (sources : Sources) (size : ℤ) (table : List Style)
             → IfOk result (λ cache. AllRight sources size table cache) }
     {
-        let mut entries = Vec::with_capacity(alloc, SLOTS)?;
-        for _ in 0..SLOTS {
+        let slots = slots.min(MOST_SLOTS);
+        let mut entries = Vec::with_capacity(alloc, slots)?;
+        for _ in 0..slots {
             entries.push(Entry {
                 parent: 0,
                 matched: Vec::new(alloc),
@@ -49,13 +50,23 @@ impl MatchedRulesCache {
         Ok(MatchedRulesCache { entries })
     }
 
+    /// Forgets all.
+    pub(crate) fn clear(&mut self)
+        ensures { (sources : Sources) (size : ℤ) (table : List Style)
+            → AllRight sources size table self.new }
+    {
+        for entry in self.entries.iter_mut() {
+            entry.style = None;
+        }
+    }
+
     /// The style that is kept for this style of the parent and these rules, if one is. Where all that
     /// is kept is right, so is it.
     pub(crate) fn find(&self, parent: usize, matched: &[MatchedRule]) -> Option<usize>
         ensures { (sources : Sources) (size : ℤ) (table : List Style) → AllRight sources size table self.now
             → IfSome result (λ style. IsRight sources size table parent matched.now style) }
     {
-        let entry = self.entries.get(slot(parent, matched))?;
+        let entry = self.entries.get(self.slot(parent, matched))?;
         if entry.parent == parent && entry.matched.as_slice() == matched {
             entry.style
         } else {
@@ -76,7 +87,8 @@ impl MatchedRulesCache {
         if matched.len() > LONGEST {
             return Ok(());
         }
-        if let Some(entry) = self.entries.get_mut(slot(parent, matched)) {
+        let slot = self.slot(parent, matched);
+        if let Some(entry) = self.entries.get_mut(slot) {
             entry.style = None;
             entry.parent = parent;
             entry.matched.clear();
@@ -85,13 +97,13 @@ impl MatchedRulesCache {
         }
         Ok(())
     }
-}
 
-/// The slot for this style of the parent and these rules.
-fn slot(parent: usize, matched: &[MatchedRule]) -> usize {
-    let mut sum = parent as u64;
-    for one in matched {
-        sum = sum.wrapping_add(one.rule as u64).wrapping_mul(31);
+    /// The slot for this style of the parent and these rules.
+    fn slot(&self, parent: usize, matched: &[MatchedRule]) -> usize {
+        let mut sum = parent as u64;
+        for one in matched {
+            sum = sum.wrapping_add(one.rule as u64).wrapping_mul(31);
+        }
+        (sum ^ (sum >> 12)) as usize & self.entries.len().wrapping_sub(1)
     }
-    (sum ^ (sum >> 12)) as usize % SLOTS
 }

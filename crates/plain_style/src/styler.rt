@@ -1,6 +1,6 @@
 //! The style of an element over that of its parent, which most often is known from another element.
 
-ghost use Rattle.std.specs.Prelude.{◌≡◌, ◌<◌, ℤ, IfOk, OnOk, Some, [], true, false, length, option_map, slice_get, take};
+ghost use Rattle.std.specs.Prelude.{◌≡◌, ◌<◌, ℤ, IfOk, Some, [], true, false, length, option_map, slice_get, take};
 ghost use Rattle.cascade_model.specs.Matching.{matching};
 ghost use Rattle.cascade_model.specs.StyleOf.{root_size_at};
 ghost use Rattle.cascade_model.specs.Cascade.{cascaded};
@@ -29,7 +29,8 @@ use stylo_base::{Fixed, NoMemory};
 
 /// Styles elements one by one, each after its parent. It keeps the styles in a table, each once, and
 /// gives them by their numbers there. What it knows of them holds for one list of sheets and one font
-/// size of the root: that it fits these is asked of each call.
+/// size of the root: that it fits these is asked of each call, and holds after each, so that it serves
+/// pass after pass until it is cleared.
 #[derive(Drop)]
 pub struct Styler {
     table: StyleTable,
@@ -49,17 +50,44 @@ pub struct RootStyle {
 }
 
 impl Styler {
-    /// No style yet.
-    pub fn start(alloc: Global) -> Result<Styler, NoMemory>
+    /// No style yet. So many styles can be found again, up to 4,096: a power of two serves best.
+    pub fn start(alloc: Global, slots: usize) -> Result<Styler, NoMemory>
         ensures table { IfOk result (λ styler. styler.table ≡ []) }
         ensures fits { (sources : Sources) (size : ℤ) (prepared : Prepared) → IsPrepared sources prepared
             → IfOk result (λ styler. Fits sources size prepared styler) }
     {
         Ok(Styler {
-            table: StyleTable::start(alloc)?,
-            cache: MatchedRulesCache::start(alloc)?,
+            table: StyleTable::start(alloc, slots)?,
+            cache: MatchedRulesCache::start(alloc, slots)?,
             matched: Vec::new(alloc),
         })
+    }
+
+    /// How many styles are kept.
+    pub fn len(&self) -> usize
+        ensures { result ≡ length self.now.table }
+    {
+        self.table.len()
+    }
+
+    /// Takes all styles out, and forgets what is known of them, so that it fits any size of the root.
+    pub fn clear(&mut self)
+        ensures table { self.new.table ≡ [] }
+        ensures fits { (sources : Sources) (size : ℤ) (prepared : Prepared) → IsPrepared sources prepared
+            → Fits sources size prepared self.new }
+    {
+        self.table.clear();
+        self.cache.clear();
+    }
+
+    /// The number of a style that is kept elsewhere too.
+    pub fn adopt(&mut self, style: &Arc<Style>) -> Result<usize, NoMemory>
+        ensures style { IfOk result (λ number. slice_get self.new.table number ≡ Some (arc_value style.now)) }
+        ensures kept { take (length self.old.table) self.new.table ≡ self.old.table }
+        ensures fits { (sources : Sources) (size : ℤ) (prepared : Prepared)
+            → Fits sources size prepared self.old → Fits sources size prepared self.new }
+    {
+        self.table.adopt(style)
     }
 
     /// The style with a number.
@@ -80,9 +108,9 @@ impl Styler {
             (matching inputs.now.doc.now.elements (sources_seen inputs.now.sheets.now) number))) }
         ensures size { IfOk result (λ root. root.size
             ≡ root_size_at inputs.now.doc.now.elements (sources_seen inputs.now.sheets.now) number) }
-        ensures kept { OnOk result (take (length self.old.table) self.new.table ≡ self.old.table) }
+        ensures kept { take (length self.old.table) self.new.table ≡ self.old.table }
         ensures fits { (size : ℤ) → Fits (sources_seen inputs.now.sheets.now) size inputs.now.prepared.now self.old
-            → OnOk result (Fits (sources_seen inputs.now.sheets.now) size inputs.now.prepared.now self.new) }
+            → Fits (sources_seen inputs.now.sheets.now) size inputs.now.prepared.now self.new }
     {
         matching_rules(
             &mut self.matched,
@@ -116,9 +144,8 @@ impl Styler {
         ensures style { (over : Computed) → slice_get self.old.table parent ≡ Some over
             → IfOk result (λ style. slice_get self.new.table style ≡ Some (cascaded false over size
             (matching inputs.now.doc.now.elements (sources_seen inputs.now.sheets.now) number))) }
-        ensures kept { OnOk result (take (length self.old.table) self.new.table ≡ self.old.table) }
-        ensures fits { OnOk result
-            (Fits (sources_seen inputs.now.sheets.now) size inputs.now.prepared.now self.new) }
+        ensures kept { take (length self.old.table) self.new.table ≡ self.old.table }
+        ensures fits { Fits (sources_seen inputs.now.sheets.now) size inputs.now.prepared.now self.new }
     {
         matching_rules(
             &mut self.matched,
@@ -155,7 +182,7 @@ impl Styler {
             → IfOk result (λ style. slice_get self.new.table style ≡ Some (cascaded false over size
             (declared_by (sources_seen inputs.now.sheets.now) self.old.matched.items
             (option_map (λ t. chars t.now) text.entry)))) }
-        ensures kept { OnOk result (take (length self.old.table) self.new.table ≡ self.old.table) }
+        ensures kept { take (length self.old.table) self.new.table ≡ self.old.table }
         ensures cache { self.new.cache ≡ self.old.cache }
         ensures matched { self.new.matched ≡ self.old.matched }
     {

@@ -94,9 +94,9 @@ impl StyleDraft {
         self.columns.is_same(style.columns()) && self.custom.is_same(style.custom())
     }
 
-    /// A number that equal drafts share.
+    /// A number that equal drafts share, and the style that is finished of them.
     pub(crate) fn slot(&self) -> usize {
-        self.columns.slot() ^ self.custom.text().len()
+        slot(&self.columns, &self.custom)
     }
 
     /// The style with these values. It takes memory only for the text of those that are printed.
@@ -107,4 +107,9 @@ impl StyleDraft {
         let text = values_text(alloc, &self.columns)?;
         Ok(Style::of_parts(self.columns, self.custom, text))
     }
+}
+
+/// A number that equal values share.
+pub(crate) fn slot(columns: &ValueColumns, custom: &Custom) -> usize {
+    columns.slot() ^ custom.text().len()
 }

@@ -9,7 +9,7 @@ ghost use Rattle.property_table.specs.View.{property_of, value_seen};
 ghost use Rattle.style_value.specs.StyleText.{longhands_text, values_text};
 
 use crate::value_columns::ValueColumns;
-use crate::{Custom, StyleDraft};
+use crate::{Custom, StyleDraft, draft};
 use property_table::{PropId, Value};
 use std::alloc::Global;
 use std::marker::Model;
@@ -112,6 +112,11 @@ impl Style {
             Value::Number(weight) => weight,
             _ => Fixed::clamp(400_000),
         }
+    }
+
+    /// A number that equal styles share.
+    pub(crate) fn slot(&self) -> usize {
+        draft::slot(&self.columns, &self.custom)
     }
 
     /// Whether the two have the same values, those of custom properties too.

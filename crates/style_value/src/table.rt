@@ -10,7 +10,7 @@ use std::sync::Arc;
 use stylo_base::NoMemory;
 
 /// How many styles can be found again, at most.
-const SLOTS: usize = 4_096;
+const MOST_SLOTS: usize = 4_096;
 
 /// Styles with numbers from 0. A style that is added again most often gets the number that it has, so
 /// that its text is made once and its memory is shared. Contracts see the list of the styles.
@@ -35,14 +35,28 @@ impl Model for StyleTable {
 }
 
 impl StyleTable {
-    /// No style.
-    pub fn start(alloc: Global) -> Result<StyleTable, NoMemory>
+    /// No style. So many styles can be found again, up to 4,096: a power of two serves best.
+    pub fn start(alloc: Global, slots: usize) -> Result<StyleTable, NoMemory>
         ensures { IfOk result (λ table. table ≡ []) }
     {
         Ok(StyleTable {
             styles: Vec::new(alloc),
-            slots: vec![in alloc; 0; SLOTS]?,
+            slots: vec![in alloc; 0; slots.min(MOST_SLOTS)]?,
         })
+    }
+
+    /// How many styles there are.
+    pub fn len(&self) -> usize
+        ensures { result ≡ length self.now }
+    {
+        self.styles.len()
+    }
+
+    /// Takes all styles out.
+    pub fn clear(&mut self)
+        ensures { self.new ≡ [] }
+    {
+        self.styles.clear();
     }
 
     /// The number of the style with the values of a draft, which is added behind the others unless an
@@ -53,7 +67,7 @@ impl StyleTable {
         ensures grown { OnOk result ((self.new ≡ self.old) ⊎ (self.new ≡ self.old ++ draft ∷ [])) }
         ensures refused { OnErr result (self.new ≡ self.old) }
     {
-        let slot = draft.slot() % SLOTS;
+        let slot = self.place(draft.slot());
         if let Some(number) = self.find(slot, &draft) {
             return Ok(number);
         }
@@ -64,6 +78,29 @@ impl StyleTable {
         Ok(number)
     }
 
+    /// The number of a style that is kept elsewhere too, which is shared and added behind the others
+    /// unless an equal one is found. Out of memory, the table is as before.
+    pub fn adopt(&mut self, style: &Arc<Style>) -> Result<usize, NoMemory>
+        ensures added { IfOk result (λ number. slice_get self.new number ≡ Some (arc_value style.now)) }
+        ensures kept { take (length self.old) self.new ≡ self.old }
+        ensures grown { OnOk result ((self.new ≡ self.old) ⊎ (self.new ≡ self.old ++ arc_value style.now ∷ [])) }
+        ensures refused { OnErr result (self.new ≡ self.old) }
+    {
+        let slot = self.place(style.slot());
+        if let Some(number) = self.find_style(slot, style) {
+            return Ok(number);
+        }
+        let number = self.styles.len();
+        self.styles.push(Arc::try_clone(style)?)?;
+        remember(&mut self.slots, slot, number);
+        Ok(number)
+    }
+
+    /// The slot for a number that equal styles share.
+    fn place(&self, slot: usize) -> usize {
+        slot & self.slots.len().wrapping_sub(1)
+    }
+
     /// The number of the style of a slot, if it has the values of the draft.
     fn find(&self, slot: usize, draft: &StyleDraft) -> Option<usize>
         ensures { IfSome result (λ number. slice_get self.now number ≡ Some draft.now) }
@@ -71,6 +108,19 @@ impl StyleTable {
         let number = *self.slots.get(slot)?;
         let style = self.styles.get(number)?;
         if draft.is_same(style) {
+            Some(number)
+        } else {
+            None
+        }
+    }
+
+    /// The number of the style of a slot, if it is the same style.
+    fn find_style(&self, slot: usize, style: &Style) -> Option<usize>
+        ensures { IfSome result (λ number. slice_get self.now number ≡ Some style.now) }
+    {
+        let number = *self.slots.get(slot)?;
+        let other = self.styles.get(number)?;
+        if other.is_same(style) {
             Some(number)
         } else {
             None

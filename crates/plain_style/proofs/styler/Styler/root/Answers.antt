@@ -25,6 +25,10 @@ returns-clause-size c =
     let all = declared_all doc sources x c.matching_rules.new.found.items _ c.in_ok-matching_rules.ensures (c.attribute_atom-text.ensures ∙ ap (attribute_of doc x) c.requires.prepared.name) in
     c.font_size-size.ensures ∙ ap (λ (s : Style). font_size_of s.values) (over_initial c.in_ok-draft.draft c.in_ok-initial.initial c.initial_size.result _ _ c.in_ok-initial.ensures c.initial_size.ensures all c.in_ok-draft.ensures)
 
+pub returns-in_err-style-clause-fits : goal.returns-in_err-style-clause-fits
+returns-in_err-style-clause-fits c size fits =
+    fits_more (sources_seen c.args.inputs.now.sheets.now) size c.args.inputs.now.prepared.now c.args.self.now (record c.args.self.now { table = c.add.new.self; matched = c.matching_rules.new.found }) c.add.ensures.kept refl fits
+
 pub returns-clause-fits : goal.returns-clause-fits
 returns-clause-fits c size fits =
-    fits_more (sources_seen c.args.inputs.now.sheets.now) size c.args.inputs.now.prepared.now c.args.self.now (record c.args.self.now { table = c.add.new.self; matched = c.matching_rules.new.found }) c.in_ok-style.ensures.kept refl fits
+    fits_more (sources_seen c.args.inputs.now.sheets.now) size c.args.inputs.now.prepared.now c.args.self.now (record c.args.self.now { table = c.add.new.self; matched = c.matching_rules.new.found }) c.add.ensures.kept refl fits

@@ -1,0 +1,102 @@
+-- What a session lends to a restyle is what its standing tells.
+use Rattle.std.proofs.Common.{◌≡◌, ℕ, ℤ, List, [], filter, map, Bool, true, false, cond, not, ◌||◌, Option, Some, None, option_map, refl, sym, ap, ◌∙◌}
+use Rattle.std.specs.Prelude.{◌↔◌, IsSome, IsTrue}
+use Rattle.std.specs.Arc.{arc_value}
+use Rattle.std.specs.Borrow.{Bor}
+use Rattle.std.specs.declared.sync.Arc.{Arc}
+use Rattle.std.proofs.lemmas.Bool.Decides.{same_from_decides}
+use Rattle.std.proofs.lemmas.Option.{none-some, same_Some}
+use Rattle.scene_model.specs.Element.{Element}
+use Rattle.scene_model.specs.Document.{Document}
+use Rattle.scene_model.specs.Lookups.{numbers, parent_of, IsElement}
+use Rattle.scene_model.specs.Numbers.{is_in}
+use Rattle.scene_model.specs.Valid.{IsValid}
+use Rattle.scene_model.proofs.Found.{is_element-numbers}
+use Rattle.change_model.specs.Sound.{IsSound}
+use Rattle.value_model.specs.Style.{Style, font_size_of, initial_size, initial_style}
+use Rattle.sheet_model.specs.Sources.{Sources, rules_of_sheets, sources_of}
+use Rattle.cascade_model.specs.Cascade.{cascaded}
+use Rattle.cascade_model.specs.Matching.{matching}
+use Rattle.cascade_model.specs.StyleOf.{root_of, root_size_at, root_size_of, style_of}
+use Rattle.cascade_model.proofs.StyleAlong.{parent_of-root, root_size_of-root, style_of-child, style_of-root}
+use Rattle.sheet_set.specs.View.{kept_seen, sources_seen}
+use Rattle.sheet_set.specs.declared.sheets.Sheets.{Sheets}
+use Rattle.plain_style.specs.declared.prepared.Inputs.{Inputs}
+use Rattle.session_model.specs.Same.{same_style}
+use Rattle.session_model.specs.Standing.{is_matched, is_style, kept_at, style_in}
+use Rattle.session_model.specs.StandingInvariant.{AllKeep}
+use Rattle.session_model.proofs.KeepsLemmas.{root_element}
+use Rattle.session_model.proofs.OpenLemmas.{kept_root}
+use Rattle.session_model.proofs.ListedLemmas.{among-numbers}
+use Rattle.session_model.proofs.SameLemmas.{same_style-Decides}
+use Rattle.session_model.proofs.SlotLemmas.{listed-placed}
+use Rattle.style_session.specs.Lent.{lent}
+use Rattle.style_session.specs.SessionView.{slot_at, standing_seen}
+use Rattle.style_session.specs.Sessions.{AreOfTexts}
+use Rattle.style_session.specs.declared.lists.Lists.{Lists}
+
+-- the marked and the fresh elements
+
+among_fresh : (els : List Element) (b : Bool) (x : ℕ) → IsElement els x → is_in x (cond b (numbers els) []) ≡ b
+among_fresh els true x there = sym (is_element-numbers els x) ∙ there
+among_fresh els false x there = refl
+
+or_turned : (a b : Bool) → (a || b) ≡ (b || a)
+or_turned true true = refl
+or_turned true false = refl
+or_turned false true = refl
+or_turned false false = refl
+
+pub matched-seen : {A : Type 0} (document : Document) (sheets : Sheets) (marks : List ℕ) (is_fresh : Bool) (kept : List (Option (Arc Style A))) (x : ℕ) → IsElement document.elements x → (is_fresh || is_in x marks) ≡ is_matched (standing_seen document sheets marks is_fresh kept []) x
+matched-seen document sheets marks is_fresh kept x there =
+    or_turned is_fresh (is_in x marks)
+    ∙ (ap (λ b. b || is_fresh) (sym (among-numbers document.elements (λ y. is_in y marks) x there))
+    ∙ ap (λ b. is_in x (filter (λ y. is_in y marks) (numbers document.elements)) || b) (sym (among_fresh document.elements is_fresh x there)))
+
+-- the kept style of an element
+pub lent-kept : (inputs : Inputs) (lists : Lists) (x : ℕ) → IsSound inputs.doc.now → IsElement inputs.doc.now.elements x → kept_at (lent inputs lists) x ≡ slot_at lists.kept.now x
+lent-kept inputs lists x sound there = listed-placed (slot_at lists.kept.now) inputs.doc.now sound x there
+
+-- a test of two styles tells whether the kept one is this
+pub other_style : (r : Bool) (kept style : Style) (o : Option Style) → (IsTrue r ↔ (kept ≡ style)) → Some kept ≡ o → not r ≡ not (is_style style o)
+other_style r kept style o h e =
+    ap not (same_from_decides r (same_style kept style) h (same_style-Decides kept style)) ∙ ap (λ o. not (is_style style o)) e
+
+-- the sheets
+pub sources-texts : (sheets : Sheets) → AreOfTexts sheets → sources_seen sheets ≡ sources_of (map kept_seen sheets.sheets.items)
+sources-texts sheets texts =
+    ap (λ rules. record { rules = rules; layers = sheets.layers }) texts.rules
+    ∙ ap (λ layers. record { rules = rules_of_sheets (map kept_seen sheets.sheets.items); layers = layers }) texts.layers
+
+-- a style that is kept is found
+
+pub kept-found : {A : Type 0} (o : Option (Bor (Arc Style A))) (slot : Option Style) (style : Style) → option_map (λ (kept : Bor (Arc Style A)). arc_value kept.now) o ≡ slot → slot ≡ Some style → IsSome o
+kept-found None slot style e h = absurd (none-some style (e ∙ h))
+kept-found (Some kept) slot style e h = refl
+
+pub kept-is : {A : Type 0} (o : Option (Bor (Arc Style A))) (kept : Bor (Arc Style A)) (slot : Option Style) (style : Style) → o ≡ Some kept → option_map (λ (kept : Bor (Arc Style A)). arc_value kept.now) o ≡ slot → slot ≡ Some style → arc_value kept.now ≡ style
+kept-is {A = A} o kept slot style is e h =
+    same_Some _ _ (sym (ap (option_map (λ (kept : Bor (Arc Style A)). arc_value kept.now)) is) ∙ (e ∙ h))
+
+-- the root's style, where it is computed and where it is kept
+
+pub root-over : (doc : List Element) (seen sources : Sources) (r : ℕ) → seen ≡ sources → IsValid doc → root_of doc ≡ Some r → cascaded true initial_style initial_size (matching doc seen r) ≡ style_of doc sources r
+root-over doc seen sources r same v is =
+    ap (λ s. cascaded true initial_style initial_size (matching doc s r)) same ∙ sym (style_of-root doc sources v r (parent_of-root doc v r is))
+
+pub root_size-over : (doc : List Element) (seen sources : Sources) (r : ℕ) → seen ≡ sources → IsValid doc → root_of doc ≡ Some r → root_size_at doc seen r ≡ root_size_of doc sources
+root_size-over doc seen sources r same v is =
+    ap (λ (s : Style). font_size_of s.values) (root-over doc seen sources r same v is) ∙ sym (root_size_of-root doc sources v r is)
+
+pub root-kept : (inputs : Inputs) (lists : Lists) (r : ℕ) (b : Bool) → IsSound inputs.doc.now → AllKeep (lent inputs lists) → root_of inputs.doc.now.elements ≡ Some r → b ≡ is_matched (lent inputs lists) r → b ≡ false → slot_at lists.kept.now r ≡ Some (style_in (lent inputs lists).scene r)
+root-kept inputs lists r b sound all is told h =
+    let st = lent inputs lists in
+    let there = root_element inputs.doc.now.elements r is in
+    sym (lent-kept inputs lists r sound there)
+    ∙ (kept_root st sound.valid r there (all r there (sym told ∙ h)) (parent_of-root inputs.doc.now.elements sound.valid r is)).0
+
+-- each other element is styled over its parent
+pub child-over : (doc : List Element) (seen sources : Sources) (size : ℤ) (x p : ℕ) → seen ≡ sources → IsValid doc → parent_of doc x ≡ Some p → size ≡ root_size_of doc sources → cascaded false (style_of doc sources p) size (matching doc seen x) ≡ style_of doc sources x
+child-over doc seen sources size x p same v parent root =
+    ap (λ s. cascaded false (style_of doc sources p) size (matching doc s x)) same
+    ∙ (ap (λ z. cascaded false (style_of doc sources p) z (matching doc sources x)) root ∙ sym (style_of-child doc sources v x p parent))

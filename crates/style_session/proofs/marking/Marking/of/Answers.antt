@@ -1,0 +1,21 @@
+use Rattle.std.proofs.Common.{◌≡◌, List, flat_map, sym, ap, subst, ◌∙◌}
+use Rattle.std.specs.Prelude.{Vec}
+use Rattle.std.specs.List.Sorted.{IsPermutation}
+use Rattle.std.specs.declared.alloc.Global.{Global}
+use Rattle.selector_model.specs.Selector as model
+use Rattle.selector_types.specs.View as types
+use Rattle.selector_types.specs.declared.selector.Selector.{Selector}
+use Rattle.sheet_set.specs.View.{sources_seen}
+use Rattle.invalidation_map.specs.Rows.{rows_of}
+use Rattle.invalidation_map.specs.RowView.{rows_in}
+use Rattle.session_model.specs.Marking.{selectors_of}
+use Rattle.style_session.proofs.SessionSheets.{selectors-with}
+use Rattle.style_session.proofs.marking.Marking.of.Goals as goal
+
+pub returns-clause-rows : goal.returns-clause-rows
+returns-clause-rows c =
+    let sheets = c.args.sheets.now in
+    let lists = c.selectors.ensures.list in
+    let all : flat_map (λ (list : Vec Selector Global). types.selectors_of list.items) c.selectors.result.now ≡ selectors_of (sources_seen sheets) =
+    ap (flat_map (λ (list : Vec Selector Global). types.selectors_of list.items)) lists ∙ sym (selectors-with sheets.rules.items sheets.selectors.items (cc)) in
+    subst (λ (found : List model.Selector). IsPermutation (rows_of found) (rows_in c.in_ok-dependencies.dependencies)) all c.in_ok-dependencies.ensures

@@ -1,0 +1,10 @@
+-- The standing of what a session lends to a restyle.
+use Rattle.std.specs.Prelude.{[]}
+use Rattle.plain_style.specs.declared.prepared.Inputs.{Inputs}
+use Rattle.session_model.specs.Standing.{Standing}
+use Rattle.style_session.specs.SessionView.{standing_seen}
+use Rattle.style_session.specs.declared.lists.Lists.{Lists}
+
+abbrev pub lent : Inputs → Lists → Standing
+lent inputs lists =
+    standing_seen inputs.doc.now inputs.sheets.now lists.marks.now.items lists.is_fresh lists.kept.now []

@@ -1,0 +1,48 @@
+-- What holds of a session.
+use Rattle.std.specs.Prelude.{◌≡◌, ℕ, nat_eq, [], List, length, map, Bool, Option, None, IfSome}
+use Rattle.std.specs.List.{IsDistinct}
+use Rattle.std.specs.List.Sorted.{IsPermutation}
+use Rattle.std.specs.declared.sync.Arc.{Arc}
+use Rattle.scene_model.specs.Document.{Document}
+use Rattle.change_model.specs.Sound.{IsSound}
+use Rattle.value_model.specs.Style.{Style}
+use Rattle.sheet_model.specs.Sources.{Sources, layers_of_sheets, rules_of_sheets}
+use Rattle.sheet_set.specs.View.{kept_seen, rules_of, sources_seen}
+use Rattle.sheet_set.specs.declared.sheets.Sheets.{Sheets}
+use Rattle.plain_style.specs.Fits.{Fits}
+use Rattle.plain_style.specs.declared.prepared.Prepared.{Prepared}
+use Rattle.invalidation_map.specs.Members.{Members}
+use Rattle.invalidation_map.specs.Rows.{rows_of}
+use Rattle.invalidation_map.specs.RowView.{rows_in}
+use Rattle.invalidation_map.specs.Steps.{HasRoom}
+use Rattle.session_model.specs.Marking.{selectors_of}
+use Rattle.session_model.specs.StandingInvariant.{AllKeep}
+use Rattle.style_session.specs.SessionView.{standing_seen}
+use Rattle.style_session.specs.declared.marking.Marking.{Marking}
+use Rattle.style_session.specs.declared.style_cache.StyleCache.{StyleCache}
+
+-- the rules and layers of sheets are those of the texts that they keep
+pub record AreOfTexts (sheets : Sheets) : Type 0 where
+  pub rules : rules_of sheets ≡ rules_of_sheets (map kept_seen sheets.sheets.items)
+  pub layers : sheets.layers ≡ layers_of_sheets (map kept_seen sheets.sheets.items)
+
+-- what marks elements is made of the selectors of these rules, and has room for each element, as the set of the marks
+pub record CanMark (document : Document) (sources : Sources) (marks : Members) (marking : Marking) : Type 0 where
+  pub rows : IsPermutation (rows_of (selectors_of sources)) (rows_in marking.dependencies)
+  pub room : HasRoom document.elements marking.marker
+  pub marks_room : HasRoom document.elements marks.room
+
+-- The document is sound, and the sheets are of their texts. Before an edit was accepted nothing is marked, and then
+-- what marks is there. There is a place for the style of each element, and an element that is neither marked nor fresh
+-- keeps its style. What the styler knows is right for the sheets and the font size that it is kept with.
+pub record IsSession {A : Type 0} (document : Document) (sheets : Sheets) (prepared : Prepared)
+    (marking : Option Marking) (marks : Members) (is_fresh : Bool) (kept : List (Option (Arc Style A)))
+    (recent : List ℕ) (cache : StyleCache) : Type 0 where
+  pub sound : IsSound document
+  pub texts : AreOfTexts sheets
+  pub can_mark : IfSome marking (CanMark document (sources_seen sheets) marks)
+  pub unmarked : marking ≡ None → marks.items ≡ []
+  pub places : HasRoom document.elements (length kept)
+  pub keeps : AllKeep (standing_seen document sheets marks.items is_fresh kept recent)
+  pub once : IsDistinct nat_eq recent
+  pub fits : Fits (sources_seen sheets) cache.size prepared cache.styler

@@ -1,0 +1,35 @@
+//! What a restyle counts.
+
+ghost use Rattle.std.specs.Prelude.{◌≡◌, length};
+ghost use Rattle.std.specs.List.{count_by};
+
+use crate::styled::Styled;
+
+/// How many elements a restyle went to.
+#[derive(Clone, Copy, Debug, PartialEq, Eq)]
+pub struct Counts {
+    /// Those whose rules were matched: marked or fresh since the last restyle.
+    pub matched: u64,
+    /// Those whose style was computed anew: the matched ones, those whose parent has another style than at
+    /// the last restyle, and all elements where the font size of the root is another one.
+    pub cascaded: u64,
+}
+
+impl Counts {
+    /// Those of a list of cascaded elements.
+    pub(crate) fn of(list: &[Styled]) -> Counts
+        ensures matched { result.matched ≡ count_by (λ one. one.matched) list.now }
+        ensures cascaded { result.cascaded ≡ length list.now }
+    {
+        let mut matched = 0;
+        for one in list {
+            if one.matched {
+                matched += 1;
+            }
+        }
+        Counts {
+            matched,
+            cascaded: list.len() as u64,
+        }
+    }
+}
