@@ -1,5 +1,7 @@
--- That the parts of sheets may cross threads, each by itself: one search through all of them would be too long.
-use denote.Param.Send.{IsSend, IsSync, sendable}
+-- That the parts of sheets and of sessions may cross threads, each by itself: one search through all of them would be
+-- too long.
+use denote.Param.Send.{IsSend, IsSync, sendable, view_send}
+use denote.Param.SendFields.{FieldsHave, as_row_send, declared_send}
 use Rattle.std.proofs.Crossing.{crosses}
 use Rattle.std.proofs.MapsCrossing.{crosses as maps}
 use Rattle.layer_order.specs.contracts.layers.Layers as Layers
@@ -11,6 +13,22 @@ use Rattle.selector_types.proofs.complex.Test.TheLaws.TheKnot as complex
 use Rattle.shorthands.proofs.declared.Declared.TheSendSync as declared
 use Rattle.sheet_set.specs.contracts.kept_sheet.KeptSheet as KeptSheet
 use Rattle.sheet_set.specs.contracts.sheet_rule.SheetRule as SheetRule
+use Rattle.sheet_set.specs.contracts.sheets.Sheets as Sheets
+use Rattle.dom_tree.specs.contracts.doc.Doc as Doc
+use Rattle.css_tokens.proofs.token_kind.TokenKind.TheSendSync as token_kind
+use Rattle.css_tokens.specs.contracts.custom.value.CustomValue as CustomValue
+use Rattle.css_tokens.specs.contracts.custom.map.CustomMap as CustomMap
+use Rattle.style_value.specs.contracts.style.Style as Style
+use Rattle.style_value.specs.contracts.value_columns.ValueColumns as ValueColumns
+use Rattle.style_value.specs.contracts.custom.Custom as Custom
+use Rattle.plain_style.specs.contracts.prepared.Prepared as Prepared
+use Rattle.invalidation_map.specs.contracts.element_set.ElementSet as ElementSet
+use Rattle.invalidation_map.specs.contracts.marker.Marker as Marker
+use Rattle.style_session.specs.contracts.marking.Marking as Marking
+use Rattle.style_session.specs.contracts.session.Session as Session
+use Rattle.style_session.specs.contracts.session.Session.TheInside as Inside
+use Rattle.style_session.specs.contracts.style_cache.StyleCache as StyleCache
+use Rattle.style_session.proofs.style_cache.StyleCache.TheSendSync as cache
 
 -- a selector holds selectors
 
@@ -51,3 +69,91 @@ kept_send = search (rule_send, name_send, selector_send, origin.the_field_send, 
 
 pub kept_sync : IsSync KeptSheet.the_row
 kept_sync = search (rule_sync, name_sync, selector_sync, origin.the_field_sync, sendable, crosses) depth 40 fits 20000
+
+-- The parts of a session, one by one: its fields, and what these are made of.
+
+pub sheets_send : IsSend Sheets.the_row
+sheets_send = search (kept_send, rule_send, layers_send, selector_send, sendable, crosses) depth 40 fits 20000
+
+pub doc_send : IsSend Doc.the_row
+doc_send = search (sendable, crosses, maps) depth 40 fits 20000
+
+pub prepared_send : IsSend Prepared.the_row
+prepared_send = search (sendable, crosses, maps) depth 40 fits 20000
+
+pub columns_send : IsSend ValueColumns.the_row
+columns_send = search (sendable, crosses) depth 40 fits 20000
+
+pub columns_sync : IsSync ValueColumns.the_row
+columns_sync = search (sendable, crosses) depth 40 fits 20000
+
+pub value_send : IsSend CustomValue.the_row
+value_send = search (token_kind.the_field_send, sendable, crosses) depth 40 fits 20000
+
+pub value_sync : IsSync CustomValue.the_row
+value_sync = search (token_kind.the_field_sync, sendable, crosses) depth 40 fits 20000
+
+pub map_send : IsSend CustomMap.the_row
+map_send = search (value_send, value_sync, sendable, crosses) depth 40 fits 20000
+
+pub map_sync : IsSync CustomMap.the_row
+map_sync = search (value_send, value_sync, sendable, crosses) depth 40 fits 20000
+
+pub custom_send : IsSend Custom.the_row
+custom_send = search (map_send, sendable, crosses) depth 40 fits 20000
+
+pub custom_sync : IsSync Custom.the_row
+custom_sync = search (map_sync, sendable, crosses) depth 40 fits 20000
+
+pub style_send : IsSend Style.the_row
+style_send = search (columns_send, custom_send, sendable, crosses) depth 40 fits 20000
+
+pub style_sync : IsSync Style.the_row
+style_sync = search (columns_sync, custom_sync, sendable, crosses) depth 40 fits 20000
+
+pub cache_send : IsSend StyleCache.the_row
+cache_send = search (cache.the_field_send, sendable) depth 20
+
+pub set_send : IsSend ElementSet.the_row
+set_send = search (sendable, crosses) depth 40 fits 20000
+
+pub marker_send : IsSend Marker.the_row
+marker_send = search (set_send, sendable, crosses) depth 40 fits 20000
+
+pub marking_send : IsSend Marking.the_row
+marking_send = search (marker_send, sendable, crosses) depth 40 fits 20000
+
+pub inside_send : IsSend Inside.the_row
+inside_send =
+    let parts : FieldsHave IsSend Inside.the_type.parts = (
+      search (doc_send, sendable) depth 20,
+      (
+        search (sheets_send, sendable) depth 20,
+        (
+          search (prepared_send, sendable) depth 20,
+          (
+            search (marking_send, as_row_send, sendable, crosses) depth 40,
+            (
+              search (set_send, sendable) depth 20,
+              (
+                search (sendable, crosses) depth 20,
+                (
+                  search (style_send, style_sync, as_row_send, sendable, crosses) depth 40,
+                  (
+                    search (sendable, crosses) depth 30,
+                    (
+                      search (cache_send, sendable) depth 20,
+                      tt,
+                    ),
+                  ),
+                ),
+              ),
+            ),
+          ),
+        ),
+      ),
+    ) in
+    declared_send Inside.the_type parts
+
+pub session_send : IsSend Session.the_row
+session_send = search (inside_send, view_send, sendable) depth 20

@@ -5,6 +5,7 @@ use plain_style::{Prepared, Styler};
 use sheet_set::Sheets;
 use std::sync::Arc;
 use std::test::Fail;
+use style_session::Session;
 use style_value::{Style, StyleTable};
 
 /// A value of this type may be handed to another thread.
@@ -31,5 +32,11 @@ fn what_is_lent(_rt: HostRuntime) -> Result<(), Fail> {
 #[test]
 fn sheets_are_lent(_rt: HostRuntime) -> Result<(), Fail> {
     may_be_lent::<Sheets>();
+    Ok(())
+}
+
+#[test]
+fn sessions_are_handed(_rt: HostRuntime) -> Result<(), Fail> {
+    may_be_handed::<Session>();
     Ok(())
 }
