@@ -8,7 +8,9 @@ PARENTS = {
     "deep": lambda k: 0 if k % 255 == 1 else k - 1,
     "wide": lambda k: 0,
     "forty": lambda k: (k - 1) // 4,
+    "edits": lambda k: (k - 1) // 4,
 }
+BATCHES = 20
 MARKS = ["display:block", "display:none", "clear:both", "clear:left", "visibility:hidden", "visibility:collapse"]
 ALL = [
     "direction:rtl", "position:relative", "position:absolute", "float:left", "overflow:hidden auto", "width:50%", "height:2em",
@@ -32,7 +34,7 @@ def sheet(marks):
 def job(kind, size):
     """A job of so many elements with two classes each: four children an element (`plain`, without a sheet, and
     `rules`), chains 255 deep under the root (`deep`), or all children of the root (`wide`); `forty` is `rules` with a
-    sheet over all properties."""
+    sheet over all properties, `edits` is `rules` with BATCHES batches of four edits."""
     r = random.Random(1)
     nodes = [{"tag": "html"}]
     for k in range(1, size):
@@ -40,4 +42,13 @@ def job(kind, size):
         nodes.append({"tag": r.choice("pibu"), "parent": PARENTS[kind](k), "attrs": {"class": classes}})
     text = sheet(MARKS + ALL if kind == "forty" else MARKS)
     sheets = [] if kind == "plain" else [{"origin": "author", "text": text}]
-    return json.dumps({"version": 1, "nodes": nodes, "sheets": sheets}).encode()
+    found = {"version": 1, "nodes": nodes, "sheets": sheets}
+    if kind == "edits":
+        found["batches"] = [[edit(r.randrange(2, size), k, r) for k in range(4)] for _ in range(BATCHES)]
+    return json.dumps(found).encode()
+
+
+def edit(node, k, r):
+    if k % 2:
+        return {"op": "set", "node": node, "name": "class", "value": "c%d" % r.randrange(16)}
+    return {"op": "state", "node": node, "state": "hover", "on": True}

@@ -1,8 +1,7 @@
 -- The cascaded value of each property, by its winner.
-use Rattle.std.proofs.Common.{◌≡◌, Bool, true, false, ◌||◌, is_some, refl, ℕ, List, [], ◌∷◌, ◌++◌, Option, Some, None, filter, sym, ap, ◌∙◌}
+use Rattle.std.proofs.Common.{◌≡◌, Bool, true, false, ◌||◌, is_some, refl, ℕ, List, [], ◌∷◌, ◌++◌, Some, None, filter, sym, ap, ◌∙◌}
 use Rattle.std.proofs.lemmas.List.Folds.{list_any-append}
 use Rattle.std.proofs.lemmas.Option.{none-some, same_Some}
-use Rattle.std.specs.Option.{option_map_or}
 use Rattle.std.proofs.Math.Bool.{or-false}
 use Rattle.cascade_model.specs.Key.{Matched}
 use Rattle.cascade_model.specs.Winner.{winner, declares_longhand}
@@ -21,12 +20,6 @@ module _ (means : Given → Meaning Value) where
   abbrev ended : List Matched → ℕ → Ending Value
   ended ds p = ending_of means (filter (declares_longhand p) ds)
 
-  ending_at : (ds : List Matched) (p : ℕ) (best : Option Matched) → won ds p ≡ best → ended ds p ≡ option_map_or (λ w. ending_on (ending_of means) (filter (declares_longhand p) ds) w (means w.given)) best unsets
-  unfolding winner
-  ending_at ds p best is =
-      ending_of-step means (filter (declares_longhand p) ds)
-      ∙ ap (λ (o : Option Matched). option_map_or (λ w. ending_on (ending_of means) (filter (declares_longhand p) ds) w (means w.given)) o unsets) is
-
   -- where the winner does not take the cascade back, that is all
   settled_on : (again : List Matched → Ending Value) (ds : List Matched) (w : Matched) (meaning : Meaning Value) (end : Ending Value) → settled meaning ≡ Some end → end ≡ ending_on again ds w meaning
   settled_on again ds w (keyword inherit) end is = sym (same_Some _ _ is)
@@ -37,12 +30,14 @@ module _ (means : Given → Meaning Value) where
   settled_on again ds w (value given) end is = sym (same_Some _ _ is)
 
   pub settled_at : (ds : List Matched) (p : ℕ) (w : Matched) (end : Ending Value) → won ds p ≡ Some w → settled (means w.given) ≡ Some end → end ≡ ended ds p
+  unfolding winner
   settled_at ds p w end is ends =
-      settled_on (ending_of means) (filter (declares_longhand p) ds) w (means w.given) end ends
-      ∙ sym (ending_at ds p (Some w) is)
+      rw (ending_of-step means (filter (declares_longhand p) ds), is)
+      (settled_on (ending_of means) (filter (declares_longhand p) ds) w (means w.given) end ends)
 
   pub unset_at : (ds : List Matched) (p : ℕ) → won ds p ≡ None → unsets ≡ ended ds p
-  unset_at ds p is = sym (ending_at ds p None is)
+  unfolding winner
+  unset_at ds p is = rw (ending_of-step means (filter (declares_longhand p) ds), is)
 
 or-true : (b : Bool) → (b || true) ≡ true
 or-true true = refl

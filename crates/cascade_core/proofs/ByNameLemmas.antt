@@ -1,32 +1,34 @@
 -- A list that a stable sort put in the order of names, and what it declares.
-use Rattle.std.proofs.Common.{◌≡◌, Bool, true, false, ◌&&◌, cond, List, [], ◌∷◌, find, filter, map, Option, Some, is_some, refl, sym, ap, subst, ◌∙◌}
+use Rattle.std.proofs.Common.{◌≡◌, Bool, true, false, ◌&&◌, List, [], ◌∷◌, filter, map, is_some, refl, sym, ap, subst, ◌∙◌, Some, ⊎_elim}
 use Rattle.std.specs.Prelude.{IsTrue, T}
 use Rattle.std.specs.Cmp.{IsTotalOrder}
-use Rattle.std.specs.Cmp.Lexicographic.{slice_cmp, nat_list_cmp_total}
+use Rattle.std.specs.Cmp.Lexicographic.{nat_list_cmp_total}
 use Rattle.std.specs.FinMap as finmap
 use Rattle.std.specs.declared.cmp.Ordering.{Ordering}
 use Rattle.std.specs.declared.cmp.Ordering.TheVariants.{Less, Equal, Greater}
 use Rattle.std.specs.List.{list_all}
 use Rattle.std.specs.List.Sorted.{IsPermutation, IsSortedBy, IsStableBy}
-use Rattle.std.specs.Ordering.{nat_cmp, is_le, ordering_then}
-use Rattle.std.proofs.lemmas.Bool.{true≢false, and_parts, and_from}
+use Rattle.std.specs.Ordering.{is_le, ordering_then}
+use Rattle.std.proofs.lemmas.Bool.{true≢false, and_parts, cases_Bool}
 use Rattle.std.proofs.lemmas.Cmp.{on_total, then_total, back_total}
+use Rattle.std.proofs.lemmas.List.Elements.{filter_passes}
 use Rattle.std.proofs.lemmas.List.Folds.{list_all-map}
+use Rattle.std.proofs.lemmas.List.Sums.{list_all-from_AllPass}
 use Rattle.base_model.specs.Text.{Characters}
 use Rattle.custom_model.specs.Value.{CustomValues}
 use Rattle.custom_model.specs.Computed.{resolved}
-use Rattle.custom_model.specs.Cycles.{DeclaredValues}
+use Rattle.css_tokens.proofs.PlaceLemmas.{order}
 use Rattle.sheet_model.specs.Declared.{Target, longhand, custom, is_custom}
 use Rattle.cascade_model.specs.Key.{Matched, key_cmp}
 use Rattle.cascade_model.specs.Winner.{is_greatest, greatest_of, declares_custom}
 use Rattle.cascade_model.specs.Ending.{custom_meaning}
-use Rattle.cascade_model.specs.Custom.{custom_name, declared_value, declared_values, custom_values}
+use Rattle.cascade_model.specs.Custom.{custom_name, declared_values, custom_values}
 use Rattle.cascade_model.proofs.KeyOrder.{key_cmp-total}
 use Rattle.cascade_model.proofs.WinnerLemmas.{all_through, is_top, top_of}
 use Rattle.cascade_core.specs.Rollback.{Descends}
 use Rattle.cascade_core.specs.Names.{name_of, compare_names, by_name, NamesRise, AreByName, declared_of}
 use Rattle.cascade_core.proofs.RollbackLemmas.{stricter, walked_down}
-use Rattle.cascade_core.proofs.SortedLemmas.{Sorted, sorted_by_place, falls, first_seen, by_seen, by_seen-total, found_among}
+use Rattle.cascade_core.proofs.SortedLemmas.{Sorted, sorted_by_place, seen_falls, first_seen, by_seen, by_seen-total, found_among, found_both}
 use Rattle.cascade_core.proofs.DeclaredLemmas.{declared_by, get-declared_values}
 use Rattle.cascade_core.proofs.NameLemmas.{names_cmp-total, declares-names}
 use Rattle.cascade_core.proofs.ListedLemmas.{Entry}
@@ -50,51 +52,33 @@ of_one name x y of_x of_y =
     let tied : compare_names y x ≡ Equal = sym (names_cmp-total.congr (Some name) (name_of y) (name_of x) y_is) ∙ x_is in
     ap (λ o. ordering_then o (key_cmp x y)) tied
 
-alike_step : (f g r : Bool) (fs gs : Bool) → (r ≡ true → f ≡ g) → fs ≡ gs → r ≡ true → (f && fs) ≡ (g && gs)
-alike_step f g r fs gs same rest h = λ i. same h i && rest i
-
 module _ {X : Type 0} where
   -- two filters are one
-  found_step : (p q : X → Bool) (b : Bool) (x : X) (kept : List X) (rest : Option X) → find q kept ≡ rest → find q (cond b (x ∷ kept) kept) ≡ cond (b && q x) (Some x) rest
-  found_step p q true x kept rest h = ap (cond (q x) (Some x)) h
-  found_step p q false x kept rest h = h
-
-  found_both : (p q : X → Bool) (xs : List X) → find q (filter p xs) ≡ find (λ x. p x && q x) xs
-  found_both p q [] = refl
-  found_both p q (x ∷ xs) =
-      found_step p q (p x) x (filter p xs) (find (λ y. p y && q y) xs) (found_both p q xs)
-
-  filter_step : (q : X → Bool) (b : Bool) (x : X) (kept rest : List X) → filter q kept ≡ rest → filter q (cond b (x ∷ kept) kept) ≡ cond (b && q x) (x ∷ rest) rest
-  filter_step q true x kept rest h = λ i. cond (q x) (x ∷ h i) (h i)
-  filter_step q false x kept rest h = h
-
   filter_both : (p q : X → Bool) (xs : List X) → filter q (filter p xs) ≡ filter (λ x. p x && q x) xs
   filter_both p q [] = refl
   filter_both p q (x ∷ xs) =
-      filter_step q (p x) x (filter p xs) (filter (λ y. p y && q y) xs) (filter_both p q xs)
-
-  passing_step : (p q : X → Bool) (b : Bool) (x : X) (kept : List X) → p x ≡ b → list_all p kept ≡ true → list_all p (cond (b && q x) (x ∷ kept) kept) ≡ true
-  passing_step p q true x kept is all = by_other (q x)
-    where
-      by_other : (c : Bool) → list_all p (cond c (x ∷ kept) kept) ≡ true
-      by_other true = and_from (p x) (list_all p kept) is all
-      by_other false = all
-  passing_step p q false x kept is all = all
+      ⊎_elim
+      (λ (yes : p x ≡ true). rw (yes, filter_both p q xs))
+      (λ (no : p x ≡ false). rw (no, filter_both p q xs))
+      (cases_Bool (p x))
 
   all_passing : (p q : X → Bool) (xs : List X) → list_all p (filter (λ x. p x && q x) xs) ≡ true
-  all_passing p q [] = refl
-  all_passing p q (x ∷ xs) =
-      passing_step p q (p x) x (filter (λ y. p y && q y) xs) refl (all_passing p q xs)
+  all_passing p q xs =
+      let both : X → Bool = λ x. p x && q x in
+      all_through both p (λ x h. (and_parts (p x) (q x) h).0) (filter both xs) (list_all-from_AllPass both (filter both xs) (filter_passes both xs))
 
   all_alike : (f g r : X → Bool) → ((x : X) → r x ≡ true → f x ≡ g x) → (xs : List X) → list_all r xs ≡ true → list_all f xs ≡ list_all g xs
   all_alike f g r same [] all = refl
   all_alike f g r same (x ∷ xs) all =
       let parts = and_parts (r x) (list_all r xs) all in
-      alike_step (f x) (g x) (r x) (list_all f xs) (list_all g xs) (same x) (all_alike f g r same xs parts.1) parts.0
+      rw (same x parts.0, all_alike f g r same xs parts.1)
 
 top_of_one : (name : Characters) (ds : List Matched) → list_all (declares_custom name) ds ≡ true → top_of down down-total ds ≡ greatest_of ds
-top_of_one name ds all =
-    found_among (is_top down down-total ds) (is_greatest ds) (declares_custom name) (λ x of_x. all_alike (λ other. is_le (down other x)) (λ other. is_le (key_cmp other x)) (declares_custom name) (λ y of_y. ap is_le (of_one name y x of_y of_x)) ds all) ds all
+top_of_one name ds all = found_among (is_top down down-total ds) (is_greatest ds) (declares_custom name) alike ds all
+  where
+    alike : (x : Matched) → declares_custom name x ≡ true → is_top down down-total ds x ≡ is_greatest ds x
+    alike x of_x =
+        all_alike (λ y. is_le (down y x)) (λ y. is_le (key_cmp y x)) (declares_custom name) (λ y of_y. rw (of_one name y x of_y of_x)) ds all
 
 names_le : (o r : Ordering) → is_le (ordering_then o r) ≡ true → is_le o ≡ true
 names_le Less r h = refl
@@ -108,14 +92,17 @@ module _ {X : Type 0} (seen : X → Matched) where
   abbrev seen_down-total : IsTotalOrder seen_down
   seen_down-total = by_seen-total down down-total seen
 
+  abbrev falls : X → X → Bool
+  falls = seen_falls down down-total seen
+
   rise_seen : (xs : List X) → Sorted seen_down seen_down-total xs → NamesRise (map seen xs)
   rise_seen [] sorted = tt
-  rise_seen (x ∷ xs) sorted = (
-    list_all-map (λ e. is_le (compare_names (seen x) e)) seen xs ∙ all_through (λ y. is_le (seen_down y x)) (λ y. is_le (compare_names (seen x) (seen y))) (λ y h. names_le (compare_names (seen x) (seen y)) (key_cmp (seen y) (seen x)) h) xs sorted.0,
-    rise_seen xs sorted.1,
-  )
+  rise_seen (x ∷ xs) sorted =
+      let is_from : Matched → Bool = λ e. is_le (compare_names (seen x) e) in
+      let from = all_through (λ y. is_le (seen_down y x)) (λ y. is_from (seen y)) (λ y. names_le (compare_names (seen x) (seen y)) (key_cmp (seen y) (seen x))) xs sorted.0 in
+      (rw (list_all-map is_from seen xs) from, rise_seen xs sorted.1)
 
-  module _ (xs ys : List X) (up : IsSortedBy (falls seen_down seen_down-total) ys) (permuted : IsPermutation xs ys) (stable : IsStableBy (falls seen_down seen_down-total) xs ys) where
+  module _ (xs ys : List X) (up : IsSortedBy falls ys) (permuted : IsPermutation xs ys) (stable : IsStableBy falls xs ys) where
     each : (name : Characters) → Descends (filter (declares_custom name) (map seen xs)) (filter (declares_custom name) (map seen ys))
     each name = λ passes.
         let both : Matched → Bool = λ d. declares_custom name d && passes d in
@@ -133,23 +120,26 @@ of_target name (custom other) h = refl
 
 -- those that are of no custom property are of no name
 pub without_others : (ds others sorted : List Matched) → others ≡ filter (λ d. is_some (name_of d)) ds → AreByName others sorted → AreByName ds sorted
-without_others ds others sorted are down = record {
-  rise = down.rise;
-  each = λ name. subst (λ l. Descends l (filter (declares_custom name) sorted)) (ap (filter (declares_custom name)) are ∙ stricter (λ d. is_some (name_of d)) (declares_custom name) (λ d h. of_target name d.target h) ds) (down.each name);
-}
+without_others ds others sorted are down =
+    let named : (name : Characters) (d : Matched) → declares_custom name d ≡ true → is_some (name_of d) ≡ true = λ name d. of_target name d.target in
+    record {
+      rise = down.rise;
+      each = λ name. rw (are, stricter (λ d. is_some (name_of d)) (declares_custom name) (named name) ds) at (down.each name);
+    }
 
--- the cascaded value of a name, by its declarations in this order
-along_declared : (ds sorted : List Matched) → AreByName ds sorted → (name : Characters) → declared_of sorted name ≡ declared_by ds name
-along_declared ds sorted are name =
-    ap declared_value (walked_down custom_meaning (filter (declares_custom name) ds) (filter (declares_custom name) sorted) (are.each name))
+module _ {ds sorted : List Matched} (are : AreByName ds sorted) where
+  -- the cascaded value of a name, by its declarations in this order
+  along_declared : (name : Characters) → declared_of sorted name ≡ declared_by ds name
+  along_declared name =
+      rw (walked_down custom_meaning (filter (declares_custom name) ds) (filter (declares_custom name) sorted) (are.each name))
 
-pub listed_all : (ds sorted : List Matched) (entries : List Entry) → AreByName ds sorted → IsTrue (finmap.is_sorted (slice_cmp nat_cmp) entries) → ((name : Characters) → finmap.find (slice_cmp nat_cmp) name entries ≡ declared_of sorted name) → finmap.from_sorted entries ≡ declared_values ds
-listed_all ds sorted entries are rises found =
-    finmap.same_map nat_list_cmp_total (finmap.slice_cmp-IsAntisymmetric finmap.nat_cmp-IsAntisymmetric) _ _ (λ name.
-    finmap.get-from_sorted (slice_cmp nat_cmp) entries name (subst T (sym rises) tt)
-    ∙ (found name ∙ (along_declared ds sorted are name ∙ sym (get-declared_values ds name))))
+  -- so the custom properties are resolved
+  module _ (entries : List Entry) (rises : IsTrue (finmap.is_sorted order entries)) (found : (name : Characters) → finmap.find order name entries ≡ declared_of sorted name) where
+    listed_all : finmap.from_sorted entries ≡ declared_values ds
+    listed_all =
+        finmap.same_map nat_list_cmp_total (finmap.slice_cmp-IsAntisymmetric finmap.nat_cmp-IsAntisymmetric) _ _ (λ name.
+        finmap.get-from_sorted order entries name (subst T (sym rises) tt)
+        ∙ (found name ∙ (along_declared name ∙ sym (get-declared_values ds name))))
 
--- so the custom properties are resolved
-pub resolved_all : (ds sorted list : List Matched) (entries : List Entry) (declared : DeclaredValues) (parents inherited : CustomValues) → AreByName ds sorted → list ≡ sorted → IsTrue (finmap.is_sorted (slice_cmp nat_cmp) entries) → ((name : Characters) → finmap.find (slice_cmp nat_cmp) name entries ≡ declared_of list name) → declared ≡ finmap.from_sorted entries → inherited ≡ parents → resolved declared inherited ≡ custom_values parents ds
-resolved_all ds sorted list entries declared parents inherited are same rises found is inherits =
-    λ i. resolved ((is ∙ listed_all ds sorted entries are rises (λ name. found name ∙ ap (λ l. declared_of l name) same)) i) (inherits i)
+    pub resolved_all : (parents : CustomValues) → resolved (finmap.from_sorted entries) parents ≡ custom_values parents ds
+    resolved_all parents = rw listed_all

@@ -1,7 +1,7 @@
 -- A declaration as those of its longhands.
-use Rattle.std.proofs.Common.{◌≡◌, ℕ, ◌+◌, ◌==◌, Bool, true, false, cond, List, [], ◌∷◌, filter, map, length, is_some, add-zero, refl, sym, ap, ◌∙◌}
+use Rattle.std.proofs.Common.{◌≡◌, ℕ, ◌+◌, ◌==◌, true, false, cond, List, [], ◌∷◌, filter, map, length, is_some, add-zero, refl, sym, ap, ◌∙◌, ⊎_elim}
 use Rattle.std.specs.List.{list_any, range_with_len}
-use Rattle.std.proofs.lemmas.Bool.{eq-eqb, true≢false}
+use Rattle.std.proofs.lemmas.Bool.{cases_Bool, eq-eqb, true≢false}
 use Rattle.sheet_model.specs.Declared.{longhand}
 use Rattle.value_model.specs.Shorthand.{longhands_of}
 use Rattle.value_model.specs.Table.{table}
@@ -66,30 +66,34 @@ matched_longhands d h =
     ∙ (ap (λ n. counted (at_count d) n (declared_longhands d.declared.now)) (sym (add-zero d.index))
     ∙ counted_by (at_count d) (offset_of d.declared.now) d.index 0 (declared_longhands d.declared.now) (places d.declared.now.target)))
 
+-- those of a target
+abbrev applied_to : Matched → Target → List model.Matched
+applied_to d target = all_applied d d.index (map (declared_as d.declared.now) (targets_of target))
+
 -- or one of a custom property
 pub matched_custom : (d : Matched) → is_of_custom d ≡ true → matched_of d ≡ head_of d ∷ []
 matched_custom d h = by_target d.declared.now.target h
   where
-    by_target : (target : Target) → is_custom_target target ≡ true → all_applied d d.index (map (declared_as d.declared.now) (targets_of target)) ≡ for_target (name_seen target) d.index d ∷ []
+    by_target : (target : Target) → is_custom_target target ≡ true → applied_to d target ≡ for_target (name_seen target) d.index d ∷ []
     by_target (Longhand id) h = absurd (true≢false (sym h))
     by_target (Shorthand short) h = absurd (true≢false (sym h))
     by_target (Custom name) h = refl
 
 -- of those, one is of a property that is among them
 
-of_custom : (p : ℕ) (d : Matched) (target : Target) → is_custom_target target ≡ true → filter (declares_longhand p) (all_applied d d.index (map (declared_as d.declared.now) (targets_of target))) ≡ cond (list_any (λ q. q == p) (target_longhands target)) (entry_of p d ∷ []) []
-of_custom p d (Longhand id) h = absurd (true≢false (sym h))
-of_custom p d (Shorthand short) h = absurd (true≢false (sym h))
-of_custom p d (Custom name) h = refl
+module _ (p : ℕ) (d : Matched) where
+  of_custom : (target : Target) → is_custom_target target ≡ true → filter (declares_longhand p) (applied_to d target) ≡ cond (list_any (λ q. q == p) (target_longhands target)) (entry_of p d ∷ []) []
+  of_custom (Longhand id) h = absurd (true≢false (sym h))
+  of_custom (Shorthand short) h = absurd (true≢false (sym h))
+  of_custom (Custom name) h = refl
 
-pub of_property : (p : ℕ) (d : Matched) → filter (declares_longhand p) (matched_of d) ≡ cond (is_among p d) (entry_of p d ∷ []) []
-of_property p d = by_kind (is_of_custom d) refl
-  where
-    by_kind : (b : Bool) → is_of_custom d ≡ b → filter (declares_longhand p) (matched_of d) ≡ cond (is_among p d) (entry_of p d ∷ []) []
-    by_kind true h = of_custom p d d.declared.now.target h
-    by_kind false h =
-        ap (filter (declares_longhand p)) (matched_longhands d h)
-        ∙ filter-distinct (declares_longhand p) (λ q. entry_of q d) p (λ q. refl) (declared_longhands d.declared.now) (distinct d.declared.now.target)
+  pub of_property : filter (declares_longhand p) (matched_of d) ≡ cond (is_among p d) (entry_of p d ∷ []) []
+  of_property =
+      let one = filter-distinct (declares_longhand p) (λ q. entry_of q d) p (λ q. refl) (declared_longhands d.declared.now) (distinct d.declared.now.target) in
+      ⊎_elim
+      (λ (custom : is_of_custom d ≡ true). of_custom d.declared.now.target custom)
+      (λ (other : is_of_custom d ≡ false). rw (matched_longhands d other) one)
+      (cases_Bool (is_of_custom d))
 
 -- and all are of custom properties, or none
 
@@ -100,7 +104,7 @@ none_named d i (id ∷ ids) = none_named d (i + 1) ids
 pub of_customs : (d : Matched) → filter (λ e. is_some (name_of e)) (matched_of d) ≡ cond (is_of_custom d) (head_of d ∷ []) []
 of_customs d = by_target d.declared.now.target
   where
-    by_target : (target : Target) → filter (λ e. is_some (name_of e)) (all_applied d d.index (map (declared_as d.declared.now) (targets_of target))) ≡ cond (is_custom_target target) (for_target (name_seen target) d.index d ∷ []) []
+    by_target : (target : Target) → filter (λ e. is_some (name_of e)) (applied_to d target) ≡ cond (is_custom_target target) (for_target (name_seen target) d.index d ∷ []) []
     by_target (Longhand id) = refl
     by_target (Shorthand short) = none_named d d.index (longhands_of (short_of short))
     by_target (Custom name) = refl

@@ -1,15 +1,15 @@
 -- Declarations in the order of their names: run by run.
-use Rattle.std.proofs.Common.{◌≡◌, Bool, true, false, not, cond, List, [], ◌∷◌, ◌++◌, filter, map, take, slice_get, Option, Some, refl, sym, ap, ◌∙◌}
+use Rattle.std.proofs.Common.{◌≡◌, Bool, true, false, not, List, [], ◌∷◌, ◌++◌, filter, map, take, slice_get, Option, Some, refl, sym, ap, ◌∙◌}
 use Rattle.std.specs.Cmp.{IsTotalOrder}
 use Rattle.std.specs.Cmp.Lexicographic.{slice_cmp, nat_list_cmp_total, options_total}
 use Rattle.std.specs.declared.cmp.Ordering.{Ordering}
 use Rattle.std.specs.declared.cmp.Ordering.TheVariants.{Less, Equal, Greater}
 use Rattle.std.specs.List.{list_all}
 use Rattle.std.specs.Option.{option_cmp}
-use Rattle.std.specs.Ordering.{nat_cmp, is_lt, is_le, is_eq, ordering_reverse}
+use Rattle.std.specs.Ordering.{nat_cmp, is_lt, is_le, is_eq}
 use Rattle.std.proofs.lemmas.Cmp.{tied_itself, alike_right}
 use Rattle.std.proofs.lemmas.Option.{none-some, same_Some}
-use Rattle.std.proofs.lemmas.Bool.{true≢false, and_parts, and_from, not_from_false}
+use Rattle.std.proofs.lemmas.Bool.{true≢false, and_parts}
 use Rattle.std.proofs.lemmas.List.Folds.{list_all-append}
 use Rattle.base_model.specs.Text.{Characters}
 use Rattle.sheet_model.specs.Declared.{Target, longhand, custom, is_custom}
@@ -37,20 +37,16 @@ pub declares-names : (name : Characters) (d : Matched) → declares_custom name 
 declares-names name d = by_target name d.target
 
 module _ {X : Type 0} where
-  kept_step : (b : Bool) (x : X) (xs ys : List X) → b ≡ true → xs ≡ ys → cond b (x ∷ xs) xs ≡ x ∷ ys
-  kept_step true x xs ys h rest = ap (λ l. x ∷ l) rest
-  kept_step false x xs ys h rest = absurd (true≢false (sym h))
-
   -- where all pass, all are left
   all_left : (p : X → Bool) (xs : List X) → list_all p xs ≡ true → filter p xs ≡ xs
   all_left p [] all = refl
   all_left p (x ∷ xs) all =
       let parts = and_parts (p x) (list_all p xs) all in
-      kept_step (p x) x (filter p xs) xs parts.0 (all_left p xs parts.1)
+      rw (parts.0, all_left p xs parts.1)
 
   pub first_all : (p : X → Bool) (xs ys : List X) → list_all p (xs ++ ys) ≡ true → (list_all p xs ≡ true) × (list_all p ys ≡ true)
   first_all p xs ys all =
-      and_parts (list_all p xs) (list_all p ys) (sym (list_all-append p xs ys) ∙ all)
+      and_parts (list_all p xs) (list_all p ys) (rw (list_all-append p xs ys) at all)
 
 less_than : (x y z : Option Characters) → is_lt (names_cmp x y) ≡ true → is_le (names_cmp y z) ≡ true → is_lt (names_cmp x z) ≡ true
 less_than x y z less le = by_order (names_cmp y z) refl le
@@ -64,6 +60,10 @@ less_than x y z less le = by_order (names_cmp y z) refl le
 abbrev pub is_below : List Matched → Option Characters → Bool
 is_below ds name = list_all (λ d. is_lt (names_cmp name (name_of d))) ds
 
+-- declarations each of which is so
+abbrev pub are_below : List Matched → List Matched → Bool
+are_below ds done = list_all (λ d. is_below ds (name_of d)) done
+
 module _ (first : Option Characters) where
   abbrev is_same : Matched → Bool
   is_same d = is_eq (names_cmp first (name_of d))
@@ -76,22 +76,25 @@ module _ (first : Option Characters) where
   -- all of a run are of its name
   pub run_left : (name : Characters) (run : List Matched) → first ≡ Some name → list_all is_same run ≡ true → filter (declares_custom name) run ≡ run
   run_left name run named same =
-      all_left (declares_custom name) run (all_through is_same (declares_custom name) (λ d h. declares-names name d ∙ (ap (λ n. is_eq (names_cmp n (name_of d))) (sym named) ∙ h)) run same)
+      all_left (declares_custom name) run (all_through is_same (declares_custom name) (λ d tied. rw (declares-names name d, ← named) tied) run same)
 
   -- and of no other
   pub run_dropped : (q : Characters) (run : List Matched) → is_eq (names_cmp (Some q) first) ≡ false → list_all is_same run ≡ true → filter (declares_custom q) run ≡ []
   run_dropped q run other same =
-      none_left (declares_custom q) run (all_through is_same (λ d. not (declares_custom q d)) (λ d h. not_from_false (declares_custom q d) (declares-names q d ∙ (ap is_eq (sym (alike_right names_cmp-total first (name_of d) (Some q) (is_equal _ h))) ∙ other))) run same)
+      none_left (declares_custom q) run (all_through is_same (λ d. not (declares_custom q d)) fails run same)
+    where
+      fails : (d : Matched) → is_same d ≡ true → not (declares_custom q d) ≡ true
+      fails d tied = rw (declares-names q d, ← alike_right names_cmp-total first (name_of d) (Some q) (is_equal _ tied), other)
 
 -- those of lower names are not of it
-pub lower_dropped : (name : Characters) (first : Matched) (rest done : List Matched) → name_of first ≡ Some name → list_all (λ d. is_below (first ∷ rest) (name_of d)) done ≡ true → filter (declares_custom name) done ≡ []
+pub lower_dropped : (name : Characters) (first : Matched) (rest done : List Matched) → name_of first ≡ Some name → are_below (first ∷ rest) done ≡ true → filter (declares_custom name) done ≡ []
 lower_dropped name first rest done named below =
-    none_left (declares_custom name) done (all_through (λ d. is_below (first ∷ rest) (name_of d)) (λ d. not (declares_custom name d)) (λ d h. not_from_false (declares_custom name d) (other d (and_parts (is_lt (names_cmp (name_of d) (name_of first))) (is_below rest (name_of d)) h).0)) done below)
+    none_left (declares_custom name) done (all_through (λ d. is_below (first ∷ rest) (name_of d)) (λ d. not (declares_custom name d)) fails done below)
   where
-    other : (d : Matched) → is_lt (names_cmp (name_of d) (name_of first)) ≡ true → declares_custom name d ≡ false
-    other d less =
-        declares-names name d
-        ∙ ap is_eq (names_cmp-total.antisymm (Some name) (name_of d) ∙ ap ordering_reverse (ap (names_cmp (name_of d)) (sym named) ∙ is_less _ less))
+    fails : (d : Matched) → is_below (first ∷ rest) (name_of d) ≡ true → not (declares_custom name d) ≡ true
+    fails d lower =
+        let less = (and_parts (is_lt (names_cmp (name_of d) (name_of first))) (is_below rest (name_of d)) lower).0 in
+        rw (declares-names name d, ← named, names_cmp-total.antisymm (name_of first) (name_of d), is_less _ less)
 
 pub rise_behind : (run behind : List Matched) → NamesRise (run ++ behind) → NamesRise behind
 rise_behind [] behind rise = rise
@@ -100,9 +103,10 @@ rise_behind (d ∷ ds) behind rise = rise_behind ds behind rise.1
 pub head_above : (first : Matched) (more behind : List Matched) → NamesRise (first ∷ more ++ behind) → begins_apart first behind ≡ true → is_below behind (name_of first) ≡ true
 head_above first more [] rise apart = refl
 head_above first more (d ∷ ds) rise apart =
-    let le : is_le (compare_names first d) ≡ true = (and_parts (is_le (compare_names first d)) (list_all (λ e. is_le (compare_names first e)) ds) (first_all (λ e. is_le (compare_names first e)) more (d ∷ ds) rise.0).1).0 in
-    let less : is_lt (compare_names first d) ≡ true = strictly (compare_names first d) le apart in
-    and_from (is_lt (compare_names first d)) (is_below ds (name_of first)) less (above_head (name_of first) d ds less (rise_behind more (d ∷ ds) rise.1).0)
+    let is_from : Matched → Bool = λ e. is_le (compare_names first e) in
+    let from : list_all is_from (d ∷ ds) ≡ true = (first_all is_from more (d ∷ ds) rise.0).1 in
+    let less = strictly (compare_names first d) (and_parts (is_from d) (list_all is_from ds) from).0 apart in
+    rw (less, above_head (name_of first) d ds less (rise_behind more (d ∷ ds) rise.1).0)
   where
     strictly : (o : Ordering) → is_le o ≡ true → not (is_eq o) ≡ true → is_lt o ≡ true
     strictly Less le apart = refl
@@ -115,11 +119,5 @@ itself d = ap is_eq (tied_itself names_cmp-total (name_of d))
 -- a list begins with a declaration of the name of its first
 pub first_of_run : {X : Type 0} (seen : X → Matched) (first : X) (list : List X) → Some first ≡ slice_get list 0 → list_all (have_same_name (seen first)) (map seen (take 1 list)) ≡ true
 first_of_run seen first [] is = absurd (none-some first (sym is))
-first_of_run seen first (x ∷ xs) is =
-    let same : seen x ≡ seen first = ap seen (sym (same_Some first x is)) in
-    ap (λ (l : List _). list_all (have_same_name (seen first)) (seen x ∷ map seen l)) (nothing xs)
-    ∙ and_from (have_same_name (seen first) (seen x)) true (ap (have_same_name (seen first)) same ∙ itself (seen first)) refl
-  where
-    nothing : {X : Type 0} (xs : List X) → take 0 xs ≡ []
-    nothing [] = refl
-    nothing (x ∷ xs) = refl
+first_of_run seen first (x ∷ []) is = rw (← same_Some first x is, itself (seen first))
+first_of_run seen first (x ∷ y ∷ xs) is = rw (← same_Some first x is, itself (seen first))

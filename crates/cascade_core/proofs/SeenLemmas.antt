@@ -10,6 +10,10 @@ use Rattle.cascade_core.specs.declared.cascaded_value.CascadedValue.TheVariants 
 use Rattle.cascade_core.specs.declared.substituted_value.SubstitutedValue.{SubstitutedValue}
 use Rattle.cascade_core.specs.declared.substituted_value.SubstitutedValue.TheVariants.{Keyword, Value}
 
+-- whether this is the cascaded value that a substituted value settles, if it does
+abbrev Settles : {V A : Type 0} → (V → A) → SubstitutedValue V → Option (CascadedValue V) → Type 0
+Settles seen s e = option_map (cascaded_seen seen) e ≡ settled (substituted_seen seen s)
+
 module _ {V A : Type 0} (seen : V → A) where
   abbrev through : model.Ending V → model.Ending A
   through model.inherits = model.inherits
@@ -32,10 +36,10 @@ module _ {V A : Type 0} (seen : V → A) where
   of_substituted (Keyword Revert) = refl
   of_substituted (Keyword RevertLayer) = refl
 
-  pub settled_seen : (s : SubstitutedValue V) (e : Option (CascadedValue V)) → option_map (cascaded_seen (λ v. v)) e ≡ settled (substituted_seen (λ v. v) s) → option_map (cascaded_seen seen) e ≡ settled (substituted_seen seen s)
+  pub settled_seen : (s : SubstitutedValue V) (e : Option (CascadedValue V)) → Settles (λ v. v) s e → Settles seen s e
   settled_seen s e is = of_cascaded e ∙ (ap (option_map through) is ∙ sym (of_substituted s))
 
   -- if it is settled, it is the cascaded value
-  pub settled_is : (end : model.Ending A) (e : Option (CascadedValue V)) (o : Option (model.Ending A)) → option_map (cascaded_seen seen) e ≡ o → ((x : model.Ending A) → o ≡ Some x → x ≡ end) → IfSome e (λ x. cascaded_seen seen x ≡ end)
-  settled_is end None o is all = tt
-  settled_is end (Some e) o is all = all (cascaded_seen seen e) (sym is)
+  pub settled_is : (end : model.Ending A) (e : Option (CascadedValue V)) → ((x : model.Ending A) → option_map (cascaded_seen seen) e ≡ Some x → x ≡ end) → IfSome e (λ x. cascaded_seen seen x ≡ end)
+  settled_is end None all = tt
+  settled_is end (Some e) all = all (cascaded_seen seen e) refl

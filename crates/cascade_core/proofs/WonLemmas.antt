@@ -1,8 +1,9 @@
 -- The winner of each property, as declarations come one by one.
-use Rattle.std.proofs.Common.{lit<, true, is_some, append-nil, append_assoc, get_or, take, length-set, ◌≡◌, ◌≢◌, ◌==◌, ℕ, zero, suc, ◌+◌, ◌<◌, ◌^◌, ◌*◌, ◌%◌, false, List, [], ◌∷◌, ◌++◌, Option, Some, None, slice_get, length, set, option_map, refl, sym, ap, ◌∙◌, ⊎_elim, arith, subst}
+use Rattle.std.proofs.Common.{lit<, true, is_some, append-nil, append_assoc, get_or, take, length-set, ◌≡◌, ◌≢◌, ◌==◌, ℕ, zero, suc, ◌+◌, ◌<◌, ◌^◌}
+use Rattle.std.proofs.Common.{◌*◌, ◌%◌, false, List, [], ◌∷◌, ◌++◌, Option, Some, None, slice_get, length, set, option_map, refl, sym, ap, ◌∙◌, ⊎_elim, arith}
 use Rattle.std.specs.Int.{bit_at, w64}
 use Rattle.std.specs.List.{flat_map, list_all}
-use Rattle.std.proofs.Math.Seq.{take-suc}
+use Rattle.std.proofs.lemmas.List.{take_more}
 use Rattle.std.proofs.lemmas.Grind.{flat_map-append}
 use Rattle.std.specs.Int.RustNames.{bit_or}
 use Rattle.std.proofs.lemmas.Bool.{true≢false, and_parts, cases_eq, eqb-true, false_from_ne_true}
@@ -56,9 +57,11 @@ module _ {X : Type 0} (seen : ℕ → X → Option Matched) (ds : List Matched) 
   -- what wins once a declaration is added is kept at the row of its property
   pub best_put : (best : List X) (old new : X) → AreBest ds best → slice_get best q ≡ Some old → won (ds ++ d ∷ []) q ≡ seen q new → AreBest (ds ++ d ∷ []) (set best q new)
   best_put best old new are at wins = λ p o found.
-      ⊎_elim (λ (e : p ≡ q). ap (won (ds ++ d ∷ [])) e ∙ (wins
-      ∙ (ap (seen q) (same_Some new o (sym (get-set_same best q new (slice_get_within best q old at)) ∙ (ap (slice_get (set best q new)) (sym e) ∙ found)))
-      ∙ ap (λ k. seen k o) (sym e)))) (λ (ne : p ≢ q). won_other ds d q p target ne ∙ are p o (sym (get-set_other best q p new ne) ∙ found)) (cases_eq p q)
+      let put = get-set_same best q new (slice_get_within best q old at) in
+      ⊎_elim
+      (λ (e : p ≡ q). rw (e, wins, same_Some new o (rw (e, put) at found)))
+      (λ (ne : p ≢ q). rw (won_other ds d q p target ne) (are p o (rw (get-set_other best q p new ne) at found)))
+      (cases_eq p q)
 
   module _ (declared : ℕ) (within : q < 64) where
     abbrev marked : ℕ
@@ -66,33 +69,26 @@ module _ {X : Type 0} (seen : ℕ → X → Option Matched) (ds : List Matched) 
 
     pub rows_put : q < length table → ((p : ℕ) → bit_at declared p ≡ 1 → p < length table) → (p : ℕ) → bit_at marked p ≡ 1 → p < length table
     rows_put in_table rows p is =
-        ⊎_elim (λ (e : p ≡ q). subst (λ k. k < length table) (sym e) in_table) (λ (ne : p ≢ q). rows p (sym (bit_at_set_other w64 declared q within p ne) ∙ is)) (cases_eq p q)
+        ⊎_elim
+        (λ (e : p ≡ q). rw e in_table)
+        (λ (ne : p ≢ q). rows p (sym (bit_at_set_other w64 declared q within p ne) ∙ is))
+        (cases_eq p q)
 
     pub others_put : ((p : ℕ) → bit_at declared p ≡ 0 → p < length table → won ds p ≡ None) → (p : ℕ) → bit_at marked p ≡ 0 → p < length table → won (ds ++ d ∷ []) p ≡ None
     others_put others p is in_table =
-        ⊎_elim (λ (e : p ≡ q). absurd (omega (arith, sym (bit_at_set_same w64 declared q within) ∙ (ap (bit_at marked) (sym e) ∙ is)))) (λ (ne : p ≢ q). won_other ds d q p target ne ∙ others p (sym (bit_at_set_other w64 declared q within p ne) ∙ is) in_table) (cases_eq p q)
+        ⊎_elim
+        (λ (e : p ≡ q). absurd (omega (arith, bit_at_set_same w64 declared q within, (rw e at is))))
+        (λ (ne : p ≢ q). rw (won_other ds d q p target ne) (others p (sym (bit_at_set_other w64 declared q within p ne) ∙ is) in_table))
+        (cases_eq p q)
 
--- a declaration of a property is put among the winners
-pub put_one : (list : List code.Matched) (w : Places) (ds : List Matched) (q : ℕ) (d : code.Matched) (new : ℕ) → q < length table → won (ds ++ entry_of q d ∷ []) q ≡ option_map (entry_of q) (at_place list new) → AreWinners list w ds → AreWinners list (record w { rows = set w.rows q new; declared = bit_or w.declared (1 * 2 ^ q % 2 ^ 64) }) (ds ++ entry_of q d ∷ [])
-put_one list w ds q d new within wins are =
-    let (old, at) = slice_get_some w.rows q (omega (arith, within, are.long)) in
-    let seen : ℕ → ℕ → Option Matched = λ p place. option_map (entry_of p) (at_place list place) in record {
-      long = length-set w.rows q new ∙ are.long;
-      best = best_put seen ds (entry_of q d) q refl w.rows old new are.best at wins;
-      rows = rows_put seen ds (entry_of q d) q refl w.declared (omega (arith, within, short_table)) within are.rows;
-      others = others_put seen ds (entry_of q d) q refl w.declared (omega (arith, within, short_table)) are.others;
-      have_custom = are.have_custom ∙ sym (still_custom ds (entry_of q d) q refl);
-    }
+-- with a winner for a property
+abbrev with_winner : Places → ℕ → ℕ → Places
+with_winner w q place = record w { rows = set w.rows q place; declared = bit_or w.declared (1 * 2 ^ q % 2 ^ 64) }
 
 -- what the first of a list give, after others, with one more of them
-pub one_more : {X A : Type 0} (f : X → List A) (others list : List X) (i : ℕ) (x : X) → i < length list → x ≡ get_or list i x → flat_map f (others ++ take i list) ++ f x ≡ flat_map f (others ++ take (i + 1) list)
-one_more f others list i x within at =
-    let next : suc i ≡ i + 1 = omega arith in
-    ap (λ l. flat_map f (others ++ take i list) ++ l) (sym (append-nil (f x)))
-    ∙ (sym (flat_map-append f (others ++ take i list) (x ∷ []))
-    ∙ ap (flat_map f) (append_assoc others (take i list) (x ∷ [])
-    ∙ ap (λ l. others ++ l) (ap (λ y. take i list ++ y ∷ []) at
-    ∙ (sym (take-suc list i x within) ∙ ap (λ k. take k list) next))))
+pub one_more : {X A : Type 0} (f : X → List A) (xs ys : List X) (i : ℕ) (x : X) → i < length ys → x ≡ get_or ys i x → flat_map f (xs ++ take i ys) ++ f x ≡ flat_map f (xs ++ take (i + 1) ys)
+one_more f xs ys i x within at =
+    rw (take_more ys i x within, ← at, ← append_assoc xs (take i ys) (x ∷ []), flat_map-append f (xs ++ take i ys) (x ∷ []), append-nil (f x))
 
 -- the declaration at a place, in the first of two lists or in the second
 module _ (first second : List code.Matched) where
@@ -122,17 +118,33 @@ is_named (Longhand id) h = absurd (true≢false (sym h))
 is_named (Shorthand short) h = absurd (true≢false (sym h))
 is_named (Custom name) h = refl
 
--- one of a custom property changes nothing for the others
-pub put_custom : (list : List code.Matched) (w : Places) (ds : List Matched) (d : code.Matched) → is_of_custom d ≡ true → AreWinners list w ds → AreWinners list (record w { have_custom = true }) (ds ++ matched_of d)
-put_custom list w ds d h are =
-    let same : (p : ℕ) → won (ds ++ head_of d ∷ []) p ≡ won ds p = λ p. winner_other (declares_longhand p) ds (head_of d) (not_longhand p d.declared.now.target h) in
-    subst (λ es. AreWinners list (record w { have_custom = true }) (ds ++ es)) (sym (matched_custom d h)) (record {
-      long = are.long;
-      best = λ p o at. same p ∙ are.best p o at;
-      rows = are.rows;
-      others = λ p is within. same p ∙ are.others p is within;
-      have_custom = sym (custom_added ds (head_of d) (is_named d.declared.now.target h));
-    })
+module _ (list : List code.Matched) (w : Places) (ds : List Matched) (are : AreWinners list w ds) where
+  -- a declaration of a property is put among the winners
+  module _ (q : ℕ) (within : q < length table) (d : code.Matched) where
+    pub put_one : (new : ℕ) → won (ds ++ entry_of q d ∷ []) q ≡ option_map (entry_of q) (at_place list new) → AreWinners list (with_winner w q new) (ds ++ entry_of q d ∷ [])
+    put_one new wins =
+        let (old, at) = slice_get_some w.rows q (omega (arith, within, are.long)) in
+        let seen : ℕ → ℕ → Option Matched = λ p place. option_map (entry_of p) (at_place list place) in
+        let short : q < 64 = omega (arith, within, short_table) in
+        record {
+          long = length-set w.rows q new ∙ are.long;
+          best = best_put seen ds (entry_of q d) q refl w.rows old new are.best at wins;
+          rows = rows_put seen ds (entry_of q d) q refl w.declared short within are.rows;
+          others = others_put seen ds (entry_of q d) q refl w.declared short are.others;
+          have_custom = are.have_custom ∙ sym (still_custom ds (entry_of q d) q refl);
+        }
+
+  -- one of a custom property changes nothing for the others
+  pub put_custom : (d : code.Matched) → is_of_custom d ≡ true → AreWinners list (record w { have_custom = true }) (ds ++ matched_of d)
+  put_custom d h =
+      let same = λ (p : ℕ). winner_other (declares_longhand p) ds (head_of d) (not_longhand p d.declared.now.target h) in
+      rw (matched_custom d h) (record {
+        long = are.long;
+        best = λ p o at. same p ∙ are.best p o at;
+        rows = are.rows;
+        others = λ p is within. same p ∙ are.others p is within;
+        have_custom = sym (custom_added ds (head_of d) (is_named d.declared.now.target h));
+      })
 
 -- where all places are 0, each is
 zero_at : (places : List ℕ) (p place : ℕ) → list_all (λ k. k == 0) places ≡ true → slice_get places p ≡ Some place → place ≡ 0

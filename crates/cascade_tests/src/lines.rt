@@ -1,11 +1,11 @@
 //! The printed lines.
 
 use property_table::{Color, Keyword, PropId, Value};
-use report_text::{batch_line, element_line};
+use report_text::{batch_line, element_line, refused_line};
 use std::alloc::Global;
 use std::test::Fail;
 use style_value::{Style, StyleDraft};
-use stylo_base::{Fixed, NoMemory, Text};
+use stylo_base::{EditRefused, Fixed, Kind, NoMemory, Text};
 
 #[test]
 fn batch(rt: HostRuntime) -> Result<(), Fail> {
@@ -14,6 +14,14 @@ fn batch(rt: HostRuntime) -> Result<(), Fail> {
         line.as_str(),
         "batch 10000: 20 accepted, 3 refused, 4 matched, 18446744073709551615 cascaded\n"
     );
+    Ok(())
+}
+
+#[test]
+fn refused(rt: HostRuntime) -> Result<(), Fail> {
+    let why = EditRefused::Limit(Kind::Value, 1_048_576);
+    let line = refused_line(rt.alloc(), 12, &why)?;
+    assert_eq!(rt; line.as_str(), "refused 12: limit value 1048576\n");
     Ok(())
 }
 

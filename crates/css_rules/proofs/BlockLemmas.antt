@@ -1,8 +1,8 @@
 -- The tokens up to the end of a block.
-use Rattle.std.proofs.Common.{◌≡◌, Bool, true, false, cond, not, ◌&&◌, List, [], ◌∷◌, ◌++◌, Option, Some, None, refl, sym, ap, subst, ◌∙◌, ⊎_elim, append_assoc, append-nil}
+use Rattle.std.proofs.Common.{◌≡◌, Bool, true, false, not, ◌&&◌, List, [], ◌∷◌, ◌++◌, Option, Some, None, refl, sym, ap, subst, ◌∙◌, ⊎_elim, append_assoc, append-nil}
 use Rattle.std.proofs.lemmas.Bool.{and_parts, cases_Bool, cond-true, cond-false, false≢true, true≢false}
 use Rattle.base_model.specs.Lists.{is_nil}
-use Rattle.syntax_model.specs.Token.{Token, TokenKind, close_curly, close_round, close_square}
+use Rattle.syntax_model.specs.Token.{Token, TokenKind, close_curly}
 use Rattle.syntax_model.specs.TokenKinds.{is_close_curly}
 use Rattle.syntax_model.specs.Brackets.{Bracket, closed, closed_by, closer, closers, curly, open_after, open_past, opened_by, round, same_bracket, square, with_opened, without_closed}
 use Rattle.syntax_model.specs.Rules.{Head}
@@ -18,40 +18,41 @@ abbrev pub Fits : Bool → List Bracket → List Token → Type 0
 Fits top pending [] = pending ≡ []
 Fits top pending (token ∷ tokens) = (is_end top pending token ≡ false) × Fits top (open_past pending token) tokens
 
-without_more : (bracket : Bracket) (pending : List Bracket) (o : Option Bracket) → without_closed (bracket ∷ (pending ++ curly ∷ [])) o ≡ without_closed (bracket ∷ pending) o ++ curly ∷ []
+-- the brackets that are open past a token of a kind, and brackets in a block
+abbrev pub open_past_kind : List Bracket → TokenKind → List Bracket
+open_past_kind pending kind = with_opened (opened_by kind) (without_closed pending (closed_by kind))
+
+abbrev in_curly : List Bracket → List Bracket
+in_curly pending = pending ++ curly ∷ []
+
+without_more : (bracket : Bracket) (pending : List Bracket) (o : Option Bracket) → without_closed (in_curly (bracket ∷ pending)) o ≡ in_curly (without_closed (bracket ∷ pending) o)
 without_more bracket pending None = refl
 without_more bracket pending (Some closed) =
-    elim (same_bracket bracket closed) as (λ b. cond b (pending ++ curly ∷ []) (bracket ∷ (pending ++ curly ∷ [])) ≡ cond b pending (bracket ∷ pending) ++ curly ∷ []) [
-      | true ↦ refl
-      | false ↦ refl
-    ]
+    ⊎_elim
+    (λ (same : same_bracket bracket closed ≡ true). rw same)
+    (λ (other : same_bracket bracket closed ≡ false). rw other)
+    (cases_Bool (same_bracket bracket closed))
 
-without_below : (pending : List Bracket) (kind : TokenKind) → (is_nil pending && is_close_curly kind) ≡ false → without_closed (pending ++ curly ∷ []) (closed_by kind) ≡ without_closed pending (closed_by kind) ++ curly ∷ []
-without_below [] close_curly test = absurd (true≢false test)
-without_below [] close_square test = refl
-without_below [] close_round test = refl
-without_below [] kind test = refl
-without_below (bracket ∷ pending) kind test = without_more bracket pending (closed_by kind)
-
-with_below : (o : Option Bracket) (pending : List Bracket) → with_opened o (pending ++ curly ∷ []) ≡ with_opened o pending ++ curly ∷ []
+with_below : (o : Option Bracket) (pending : List Bracket) → with_opened o (in_curly pending) ≡ in_curly (with_opened o pending)
 with_below None pending = refl
 with_below (Some bracket) pending = refl
 
 -- inside a block its own bracket stays below the others
-past_below : (pending : List Bracket) (token : Token) → (is_nil pending && is_close_curly token.kind) ≡ false → open_past (pending ++ curly ∷ []) token ≡ open_past pending token ++ curly ∷ []
-past_below pending token test =
-    ap (with_opened (opened_by token.kind)) (without_below pending token.kind test)
-    ∙ with_below (opened_by token.kind) (without_closed pending (closed_by token.kind))
+past_below : (pending : List Bracket) (kind : TokenKind) → (is_nil pending && is_close_curly kind) ≡ false → open_past_kind (in_curly pending) kind ≡ in_curly (open_past_kind pending kind)
+past_below [] close_curly test = absurd (true≢false test)
+past_below [] kind test = refl
+past_below (bracket ∷ pending) kind test =
+    rw (without_more bracket pending (closed_by kind)) (with_below (opened_by kind) (without_closed (bracket ∷ pending) (closed_by kind)))
 
 pub is_closer : (kind : TokenKind) → is_close_curly kind ≡ true → kind ≡ close_curly
 is_closer close_curly test = refl
 is_closer kind test = cc
 
-past_end : (token : Token) → is_close_curly token.kind ≡ true → open_past (curly ∷ []) token ≡ []
-past_end token test =
-    ap (λ kind. with_opened (opened_by kind) (without_closed (curly ∷ []) (closed_by kind))) (is_closer token.kind test)
+past_end : (kind : TokenKind) → is_close_curly kind ≡ true → open_past_kind (curly ∷ []) kind ≡ []
+past_end close_curly test = refl
+past_end kind test = cc
 
-some_below : (pending : List Bracket) → is_nil (pending ++ curly ∷ []) ≡ false
+some_below : (pending : List Bracket) → is_nil (in_curly pending) ≡ false
 some_below [] = refl
 some_below (bracket ∷ pending) = refl
 
@@ -64,15 +65,15 @@ pub record IsBlock (top : Bool) (pending : List Bracket) (tokens : List Token) :
   pub closes : is_close_curly close.kind ≡ true
   pub fits_inside : Fits false pending body
   pub fits_after : Fits top [] rest
-  pub read : (head : Head) (prelude block : List Token) → in_block top head prelude block (pending ++ curly ∷ []) tokens ≡ with_block head prelude (block ++ body) ∷ pieces_in top rest
+  pub read : (head : Head) (prelude block : List Token) → in_block top head prelude block (in_curly pending) tokens ≡ with_block head prelude (block ++ body) ∷ pieces_in top rest
 
 module _ (top : Bool) (pending : List Bracket) (token : Token) (tokens : List Token) where
   -- a token ends the block
-  block_ends : Fits top (pending ++ curly ∷ []) (token ∷ tokens) → (is_nil pending && is_close_curly token.kind) ≡ true → IsBlock top pending (token ∷ tokens)
+  block_ends : Fits top (in_curly pending) (token ∷ tokens) → (is_nil pending && is_close_curly token.kind) ≡ true → IsBlock top pending (token ∷ tokens)
   block_ends fits test =
       let parts = and_parts (is_nil pending) (is_close_curly token.kind) test in
       let none : pending ≡ [] = nil_from_test pending parts.0 in
-      let after : open_past (pending ++ curly ∷ []) token ≡ [] = ap (λ p. open_past (p ++ curly ∷ []) token) none ∙ past_end token parts.1 in
+      let after : open_past (in_curly pending) token ≡ [] = ap (λ p. open_past (in_curly p) token) none ∙ past_end token.kind parts.1 in
       record {
         body = [];
         close = token;
@@ -87,7 +88,7 @@ module _ (top : Bool) (pending : List Bracket) (token : Token) (tokens : List To
   -- or is in it
   block_goes_on : (is_nil pending && is_close_curly token.kind) ≡ false → IsBlock top (open_past pending token) tokens → IsBlock top pending (token ∷ tokens)
   block_goes_on test inner =
-      let next : open_past (pending ++ curly ∷ []) token ≡ open_past pending token ++ curly ∷ [] = past_below pending token test in
+      let next : open_past (in_curly pending) token ≡ in_curly (open_past pending token) = past_below pending token.kind test in
       record {
         body = token ∷ inner.body;
         close = inner.close;
@@ -103,15 +104,14 @@ module _ (top : Bool) (pending : List Bracket) (token : Token) (tokens : List To
             ∙ ap (λ b. with_block head prelude b ∷ pieces_in top inner.rest) (append_assoc block (token ∷ []) inner.body)));
       }
 
-  fits_on : Fits top (pending ++ curly ∷ []) (token ∷ tokens) → (is_nil pending && is_close_curly token.kind) ≡ false → Fits top (open_past pending token ++ curly ∷ []) tokens
-  fits_on fits test = subst (λ p. Fits top p tokens) (past_below pending token test) fits.1
-
-pub block_of : (top : Bool) (pending : List Bracket) (tokens : List Token) → Fits top (pending ++ curly ∷ []) tokens → IsBlock top pending tokens
+pub block_of : (top : Bool) (pending : List Bracket) (tokens : List Token) → Fits top (in_curly pending) tokens → IsBlock top pending tokens
 block_of top pending [] fits = absurd (false≢true (sym (some_below pending) ∙ ap is_nil fits))
 block_of top pending (token ∷ tokens) fits =
     ⊎_elim
     (λ (test : (is_nil pending && is_close_curly token.kind) ≡ true). block_ends top pending token tokens fits test)
-    (λ (test : (is_nil pending && is_close_curly token.kind) ≡ false). block_goes_on top pending token tokens test (block_of top (open_past pending token) tokens (fits_on top pending token tokens fits test)))
+    (λ (test : (is_nil pending && is_close_curly token.kind) ≡ false).
+    let fits_on = rw (past_below pending token.kind test) at fits.1 in
+    block_goes_on top pending token tokens test (block_of top (open_past pending token) tokens fits_on))
     (cases_Bool (is_nil pending && is_close_curly token.kind))
 
 -- closed tokens close what is open

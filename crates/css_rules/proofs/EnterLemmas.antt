@@ -1,47 +1,39 @@
 -- Where a block is opened: that of a layer is read in the inner layer.
-use Rattle.std.proofs.Common.{◌≡◌, ℕ, zero, suc, ◌+◌, ◌≤◌, ◌<◌, Bool, true, false, cond, nat_le, List, [], ◌∷◌, ◌++◌, length, Option, Some, None, refl, sym, ap, subst, ◌∙◌, ⊎_elim, arith, append_assoc, length-append}
+use Rattle.std.proofs.Common.{◌≡◌, ℕ, zero, suc, pred, ◌+◌, ◌≤◌, ◌<◌, Bool, true, false, cond, nat_le, List, [], ◌∷◌, ◌++◌, length}
+use Rattle.std.proofs.Common.{Option, Some, None, refl, ap, ◌∙◌, arith, append_assoc, length-append}
 use Rattle.std.specs.Option.{option_and_then}
-use Rattle.std.proofs.lemmas.Bool.{cases_Bool, cond-true, cond-false}
 use Rattle.std.proofs.lemmas.Bool.Decides.{nat_tests}
 use Rattle.std.proofs.lemmas.Option.{option_and_then_some}
 use Rattle.base_model.specs.Lists.{is_nil}
 use Rattle.base_model.specs.Text.{Characters}
 use Rattle.layer_model.specs.Name.{LayerName, Part, anonymous, part_limit}
 use Rattle.syntax_model.specs.Token.{Token}
-use Rattle.syntax_model.specs.TokenKinds.{is_open_curly, trimmed}
+use Rattle.syntax_model.specs.TokenKinds.{trimmed}
 use Rattle.syntax_model.specs.Brackets.{curly, open_past}
-use Rattle.syntax_model.specs.Rules.{Rule, layer, Context, SheetEdition, qualified_head, at_head, at_rule}
+use Rattle.syntax_model.specs.Rules.{Context, Head, Piece, layer, qualified_head, at_head, at_rule}
 use Rattle.syntax_model.specs.RulesIn.{in_block, pieces_in}
 use Rattle.syntax_model.specs.LayersIn.{block_layer, is_anonymous, layer_within, name_in, part_in, parts_after}
-use Rattle.syntax_model.specs.SheetRules.{RulesFound, found, block_found, block_within, counted, in_layer, is_layer_name}
-use Rattle.css_rules.specs.Walk.{Walk, between, entered, opened, step, steps}
-use Rattle.css_rules.specs.declared.rule_parser.ParserState.TheVariants.{Prelude, Block, Dropped}
-use Rattle.css_rules.specs.declared.rule_parser.Head.{Head}
-use Rattle.css_rules.specs.declared.rule_parser.Head.TheVariants.{Layer, Other}
+use Rattle.syntax_model.specs.SheetRules.{RulesFound, found, block_found, block_within, counted, is_layer_name}
+use Rattle.css_rules.specs.Walk.{Walk, entered, head_named, opened, step, steps}
+use Rattle.css_rules.specs.declared.rule_parser.ParserState.TheVariants.{Prelude, Dropped}
+use Rattle.css_rules.specs.declared.rule_parser.Head.TheVariants.{Layer}
 use Rattle.css_rules.proofs.BlockLemmas.{Fits, IsBlock, block_of}
-use Rattle.css_rules.proofs.WalkLemmas.{all_kept, found_in, opens_curly, reading}
-use Rattle.css_rules.proofs.RunLemmas.{Claims, Ends, Holds, Opens, ReadsBlock, ReadsDropped, given, moved, steps-append}
+use Rattle.css_rules.proofs.WalkLemmas.{Place, after, found_at, found_then, head_of, reading}
+use Rattle.css_rules.proofs.RunLemmas.{DropsBlock, Ends, Holds, IsEnough, Known, before_block, in_dropped, in_kept, no_rule, between_at, from_end, from_stage, steps-append, walk_in}
 
 -- a layer that is declared is deeper, and within the limit
 pub record IsDeeper (context inner : Context) : Type 0 where
   pub deeper : length context.layer < length inner.layer
   pub few : length inner.layer ≤ part_limit
 
-within_deeper : (context : Context) (name : LayerName) (inner : Context) → 0 < length name → layer_within context name ≡ Some inner → IsDeeper context inner
-within_deeper context name inner some is =
-    ⊎_elim
-    (λ (test : nat_le (length (context.layer ++ name)) part_limit ≡ true).
-    let made : record { layer = context.layer ++ name } ≡ inner = cc (sym (cond-true (nat_le (length (context.layer ++ name)) part_limit) (Some (record { layer = context.layer ++ name })) None test) ∙ is) in
-    let same : context.layer ++ name ≡ inner.layer = ap (λ (c : Context). c.layer) made in
-    let few : length (context.layer ++ name) ≤ part_limit = grind (arith, nat_tests) in
-    record {
-      deeper = omega (arith, ap length same, length-append context.layer name);
-      few = omega (arith, few, ap length same);
-    })
-    (λ (test : nat_le (length (context.layer ++ name)) part_limit ≡ false).
-    let none : None ≡ Some inner = sym (cond-false (nat_le (length (context.layer ++ name)) part_limit) (Some (record { layer = context.layer ++ name })) None test) ∙ is in
-    cc)
-    (cases_Bool (nat_le (length (context.layer ++ name)) part_limit))
+module _ (context inner : Context) (name : LayerName) (some : 0 < length name) where
+  within_deeper : (few : Bool) → nat_le (length (context.layer ++ name)) part_limit ≡ few → cond few (Some (record { layer = context.layer ++ name })) None ≡ Some inner → IsDeeper context inner
+  within_deeper false test is = cc
+  within_deeper true test is =
+      let made : record { layer = context.layer ++ name } ≡ inner = cc in
+      let same : length (context.layer ++ name) ≡ length inner.layer = ap (λ (c : Context). length c.layer) made in
+      let few : length (context.layer ++ name) ≤ part_limit = grind (arith, nat_tests) in
+      record { deeper = omega (arith, length-append context.layer name); few = omega arith }
 
 -- a name has a part
 one_part : (part : Option Part) (rest : Option LayerName) (name : LayerName) → option_and_then (λ p. option_and_then (λ ps. Some (p ∷ ps)) rest) part ≡ Some name → 0 < length name
@@ -53,100 +45,121 @@ name_some : (tokens : List Token) (name : LayerName) → name_in tokens ≡ Some
 name_some [] name is = cc
 name_some (token ∷ tokens) name is = one_part (part_in token) (parts_after tokens) name is
 
-pub layer_deeper : (edition : SheetEdition) (place : ℕ) (context inner : Context) (prelude : List Token) → block_layer edition place context prelude ≡ Some inner → IsDeeper context inner
-layer_deeper edition place context inner prelude is =
-    ⊎_elim
-    (λ (test : is_anonymous prelude ≡ true).
-    within_deeper context (anonymous edition.sheet edition.edition place ∷ []) inner (omega arith) (sym (cond-true _ _ _ test) ∙ is))
-    (λ (test : is_anonymous prelude ≡ false).
-    option_and_then_some (layer_within context) (name_in (trimmed prelude)) inner (sym (cond-false _ _ _ test) ∙ is) (λ name named within. within_deeper context name inner (name_some (trimmed prelude) name named) within))
-    (cases_Bool (is_anonymous prelude))
+module _ (at : Place) (prelude : List Token) where
+  -- the layer that `@layer` with this prelude and a block declares
+  abbrev declared : Option Context
+  declared = block_layer at.edition at.anonymous at.context prelude
 
-module _ (edition : SheetEdition) (outer : List Context) (context : Context) (token : Token) (tokens : List Token) (claims : Claims edition (length tokens + 1)) where
+  module _ (inner : Context) where
+    layer_deeper : (nameless : Bool) → is_anonymous prelude ≡ nameless → declared ≡ Some inner → IsDeeper at.context inner
+    layer_deeper true test is =
+        let name : LayerName = anonymous at.edition.sheet at.edition.edition at.anonymous ∷ [] in
+        within_deeper at.context inner name (omega arith) _ refl (rw test at is)
+    layer_deeper false test is =
+        option_and_then_some (layer_within at.context) (name_in (trimmed prelude)) inner (rw test at is)
+        (λ name named within. within_deeper at.context inner name (name_some (trimmed prelude) name named) _ refl within)
+
+module _ {at : Place} {tokens : List Token} (known : Known at tokens) (fits : Fits (is_nil at.outer) (curly ∷ []) tokens) where
   abbrev top : Bool
-  top = is_nil outer
+  top = is_nil at.outer
 
-  -- the block of a layer, and then what comes after it
-  module _ (levels : ℕ) (enough : part_limit ≤ length context.layer + suc levels) (rules : List Rule) (count : ℕ) (name : Characters) (prelude : List Token) (inner : Context) (named : is_layer_name name ≡ true) (is : block_layer edition count context prelude ≡ Some inner) (block : IsBlock top [] tokens) where
-    abbrev start : Walk
-    start = between edition (rules ++ layer inner ∷ []) (counted count prelude) (context ∷ outer) inner
+  -- by the walk where the block of a rule begins
+  abbrev FromBlock : Head → List Token → Walk → Type 0
+  FromBlock head prelude walk = Holds at (steps walk tokens) (in_block top head prelude [] (curly ∷ []) tokens)
 
-    abbrev inside : RulesFound
-    inside = found_in edition levels inner (counted count prelude) (pieces_in false block.body)
+  abbrev begun : Head → List Token → Walk
+  begun head prelude = walk_in {at = at} (before_block head prelude [])
 
-    abbrev given_rules : List Rule
-    given_rules = layer inner ∷ inside.rules
+  module _ (name : Characters) (prelude : List Token) where
+    abbrev counting : Place
+    counting = record at { anonymous = counted at.anonymous prelude }
 
-    abbrev rest : Walk
-    rest = between edition (rules ++ given_rules) inside.anonymous outer context
+    -- the block of a layer, and then what comes after it
+    module _ (named : is_layer_name name ≡ true) (inner : Context) (is : declared at prelude ≡ Some inner) where
+      abbrev in_layer : ℕ → Place
+      in_layer levels = record {
+        edition = at.edition;
+        levels = levels;
+        rules = at.rules ++ layer inner ∷ [];
+        anonymous = counting.anonymous;
+        outer = at.context ∷ at.outer;
+        context = inner;
+      }
 
-    lengths : length tokens ≡ length block.body + length (block.close ∷ block.rest)
-    lengths = ap length block.split ∙ length-append block.body (block.close ∷ block.rest)
+      deep : IsDeeper at.context inner
+      deep = layer_deeper at prelude inner _ refl is
 
-    body_ends : Ends edition (context ∷ outer) (steps start block.body) ((rules ++ layer inner ∷ []) ++ inside.rules) inside.anonymous
-    body_ends =
-        let deep : IsDeeper context inner = layer_deeper edition count context inner prelude is in
-        claims.reads levels (context ∷ outer) inner block.body (omega (arith, lengths)) (omega (arith, enough, deep.deeper)) (rules ++ layer inner ∷ []) (counted count prelude) block.fits_inside
+      module _ (levels : ℕ) (level : at.levels ≡ suc levels) (block : IsBlock top [] tokens) where
+        abbrev start : Walk
+        start = between_at (in_layer levels)
 
-    leads_to : steps start tokens ≡ steps rest block.rest
-    leads_to =
-        let closes : step (steps start block.body) block.close ≡ rest = body_ends.leaves context outer block.close refl block.closes ∙ ap (λ rs. between edition rs inside.anonymous outer context) (append_assoc rules (layer inner ∷ []) inside.rules) in
-        ap (steps start) block.split ∙ (steps-append start block.body (block.close ∷ block.rest) ∙ ap (λ w. steps w block.rest) closes)
+        abbrev inside : RulesFound
+        inside = found_at (in_layer levels) (pieces_in false block.body)
 
-    block_gives : block_found (block_within (suc levels) edition) edition context count name prelude block.body ≡ found given_rules inside.anonymous
-    block_gives = cond-true _ _ _ named ∙ ap (λ o. in_layer (block_within (suc levels) edition) o (counted count prelude) block.body) is
+        abbrev all : RulesFound
+        all = found (layer inner ∷ inside.rules) inside.anonymous
 
-    pub layer_read : Holds edition (suc levels) outer context rules count (steps start tokens) (in_block top (at_head name) prelude [] (curly ∷ []) tokens)
-    layer_read =
-        let pieces = at_rule name prelude (Some block.body) ∷ pieces_in top block.rest in
-        moved edition (suc levels) outer context rules count (steps start tokens) (steps rest block.rest) _ pieces leads_to (block.read (at_head name) prelude [])
-        (given edition (suc levels) outer context rules given_rules count inside.anonymous (steps rest block.rest) pieces (pieces_in top block.rest)
-        (ap (λ (f : RulesFound). found (f.rules ++ (found_in edition (suc levels) context f.anonymous (pieces_in top block.rest)).rules) (found_in edition (suc levels) context f.anonymous (pieces_in top block.rest)).anonymous) block_gives)
-        (claims.reads (suc levels) outer context block.rest (omega (arith, lengths)) enough (rules ++ given_rules) inside.anonymous block.fits_after))
+        lengths : length tokens ≡ length block.body + length (block.close ∷ block.rest)
+        lengths = ap length block.split ∙ length-append block.body (block.close ∷ block.rest)
 
-  -- there is a level for it
-  layer_entered : (levels : ℕ) → part_limit ≤ length context.layer + levels → (rules : List Rule) (count : ℕ) (name : Characters) (prelude : List Token) (inner : Context) → is_layer_name name ≡ true → block_layer edition count context prelude ≡ Some inner → Fits top (curly ∷ []) tokens → Holds edition levels outer context rules count (steps (between edition (rules ++ layer inner ∷ []) (counted count prelude) (context ∷ outer) inner) tokens) (in_block top (at_head name) prelude [] (curly ∷ []) tokens)
-  layer_entered zero enough rules count name prelude inner named is fits =
-      let deep : IsDeeper context inner = layer_deeper edition count context inner prelude is in
-      absurd (omega (arith, enough, deep.deeper, deep.few))
-  layer_entered (suc levels) enough rules count name prelude inner named is fits =
-      layer_read levels enough rules count name prelude inner named is (block_of top [] tokens fits)
+        body_ends : Ends (after (in_layer levels) inside) (steps start block.body)
+        body_ends =
+            let short : length block.body < known.most = omega (arith, lengths, known.short) in
+            let enough : IsEnough (in_layer levels) = omega (arith, level, known.enough, deep.deeper) in
+            known.claims (in_layer levels) no_rule block.body short enough block.fits_inside
 
-  module _ (levels : ℕ) (enough : part_limit ≤ length context.layer + levels) (reads_block : ReadsBlock edition levels outer context tokens) (reads_dropped : ReadsDropped edition levels outer context tokens) (rules : List Rule) (count : ℕ) (test : is_open_curly token.kind ≡ true) (fits : Fits top (curly ∷ []) tokens) where
-    after : open_past [] token ≡ curly ∷ []
-    after = opens_curly token test
+        closes : step (steps start block.body) block.close ≡ between_at (after at all)
+        closes =
+            let joined = append_assoc at.rules (layer inner ∷ []) inside.rules in
+            body_ends.leaves at.context at.outer block.close refl block.closes
+            ∙ ap (λ rules. between_at (record (after at all) { rules = rules })) joined
 
-    -- `@layer`, by the layer that it declares
-    by_layer : (name : Characters) (prelude : List Token) → is_layer_name name ≡ true → (o : Option Context) → block_layer edition count context prelude ≡ o → Holds edition levels outer context rules count (steps (entered o (reading edition rules (counted count prelude) outer context (Prelude Layer) [] [] []) token) tokens) (in_block top (at_head name) prelude [] (curly ∷ []) tokens)
-    by_layer name prelude named None is =
-        moved edition levels outer context rules count _ _ (in_block top (at_head name) prelude [] (curly ∷ []) tokens) (in_block top (at_head name) prelude [] (curly ∷ []) tokens) (ap (λ p. steps (reading edition rules (counted count prelude) outer context Dropped [] [] p) tokens) after) refl
-        (reads_dropped rules count (counted count prelude) name prelude [] (curly ∷ []) refl (λ inside. cond-true _ _ _ named ∙ ap (λ o. in_layer (block_within levels edition) o (counted count prelude) inside) is) fits)
-    by_layer name prelude named (Some inner) is =
-        layer_entered levels enough rules count name prelude inner named is fits
+        goes_to : steps start tokens ≡ steps (between_at (after at all)) block.rest
+        goes_to = rw (block.split, steps-append start block.body (block.close ∷ block.rest), closes) refl
 
-    abbrev OpenGoal : Head → Characters → List Token → Type 0
-    OpenGoal head name prelude =
-        Holds edition levels outer context rules count (steps (opened head (reading edition rules count outer context (Prelude head) (all_kept head prelude) [] []) token) tokens) (in_block top (at_head name) prelude [] (curly ∷ []) tokens)
+        known_after : Known at block.rest
+        known_after = record {
+          most = known.most;
+          claims = known.claims;
+          short = omega (arith, lengths, known.short);
+          enough = known.enough;
+        }
 
-    other_opened : (name : Characters) (prelude : List Token) → is_layer_name name ≡ false → OpenGoal Other name prelude
-    other_opened name prelude other =
-        moved edition levels outer context rules count _ _ (in_block top (at_head name) prelude [] (curly ∷ []) tokens) (in_block top (at_head name) prelude [] (curly ∷ []) tokens) (ap (λ p. steps (reading edition rules count outer context Dropped [] [] p) tokens) after) refl
-        (reads_dropped rules count count name prelude [] (curly ∷ []) refl (λ inside. cond-false _ _ _ other) fits)
+        gives : block_found (block_within at.levels at.edition) at.edition at.context at.anonymous name prelude block.body ≡ all
+        gives = rw (named, is, level)
 
-    named_opened : (name : Characters) (prelude : List Token) → OpenGoal (cond (is_layer_name name) Layer Other) name prelude
-    named_opened name prelude =
-        ⊎_elim
-        (λ (named : is_layer_name name ≡ true). subst (λ head. OpenGoal head name prelude) (sym (cond-true _ _ _ named)) (by_layer name prelude named (block_layer edition count context prelude) refl))
-        (λ (other : is_layer_name name ≡ false). subst (λ head. OpenGoal head name prelude) (sym (cond-false _ _ _ other)) (other_opened name prelude other))
-        (cases_Bool (is_layer_name name))
+        layer_read : FromBlock (at_head name) prelude start
+        layer_read =
+            let pieces : List Piece = pieces_in top block.rest in
+            rw (goes_to, block.read (at_head name) prelude [])
+            (from_end known_after all (at_rule name prelude (Some block.body) ∷ pieces) (ap (λ first. found_then at first pieces) gives) block.fits_after)
 
-    style_opened : (prelude : List Token) → Holds edition levels outer context rules count (steps (reading edition rules count outer context Block prelude [] (open_past [] token)) tokens) (in_block top qualified_head prelude [] (curly ∷ []) tokens)
-    style_opened prelude =
-        moved edition levels outer context rules count _ _ (in_block top qualified_head prelude [] (curly ∷ []) tokens) (in_block top qualified_head prelude [] (curly ∷ []) tokens) (ap (λ p. steps (reading edition rules count outer context Block prelude [] p) tokens) after) refl
-        (reads_block rules count prelude [] (curly ∷ []) refl fits)
+      -- there is a level for it
+      by_level : (levels : ℕ) → at.levels ≡ levels → FromBlock (at_head name) prelude (between_at (in_layer (pred levels)))
+      by_level zero level = absurd (omega (arith, level, known.enough, deep.deeper, deep.few))
+      by_level (suc levels) level = layer_read levels level (block_of top [] tokens fits)
 
-  pub opens_all : (levels : ℕ) → part_limit ≤ length context.layer + levels → ReadsBlock edition levels outer context tokens → ReadsDropped edition levels outer context tokens → Opens edition levels outer context token tokens
-  opens_all levels enough reads_block reads_dropped rules count qualified_head prelude test fits =
-      style_opened levels enough reads_block reads_dropped rules count test fits prelude
-  opens_all levels enough reads_block reads_dropped rules count (at_head name) prelude test fits =
-      named_opened levels enough reads_block reads_dropped rules count test fits name prelude
+    -- any other is dropped
+    module _ (token : Token) (opens_one : open_past [] token ≡ curly ∷ []) where
+      from_dropped : (rule : DropsBlock at) → FromBlock (at_head rule.name) rule.prelude (reading (record at { anonymous = rule.anonymous }) Dropped [] [] (open_past [] token))
+      from_dropped rule = rw opens_one (from_stage known (in_dropped rule [] curly []) fits)
+
+      -- `@layer`, by the layer that it declares
+      by_layer : is_layer_name name ≡ true → (o : Option Context) → declared at prelude ≡ o → FromBlock (at_head name) prelude (entered o (reading counting (Prelude Layer) [] [] []) token)
+      by_layer named None is = from_dropped (record {
+        name = name;
+        prelude = prelude;
+        anonymous = counting.anonymous;
+        gives_none = λ block. rw (named, is);
+      })
+      by_layer named (Some inner) is = by_level named inner is at.levels refl
+
+      by_name : (named : Bool) → is_layer_name name ≡ named → FromBlock (at_head name) prelude (opened (head_named name) (begun (at_head name) prelude) token)
+      by_name true named = rw named (by_layer named _ refl)
+      by_name false other =
+          rw other
+          (from_dropped (record { name = name; prelude = prelude; anonymous = at.anonymous; gives_none = λ block. rw other }))
+
+  pub opens : (token : Token) → open_past [] token ≡ curly ∷ [] → (head : Head) (prelude : List Token) → FromBlock head prelude (opened (head_of head) (begun head prelude) token)
+  opens token is qualified_head prelude = rw is (from_stage known (in_kept prelude [] curly []) fits)
+  opens token is (at_head name) prelude = by_name name prelude token is _ refl

@@ -1,77 +1,119 @@
 -- What is to be shown of the tokens that are read, by where they stand.
-use Rattle.std.proofs.Common.{◌≡◌, ℕ, ◌+◌, ◌≤◌, ◌<◌, true, false, List, [], ◌∷◌, ◌++◌, length, sym, subst, append_assoc, refl}
+use Rattle.std.proofs.Common.{◌≡◌, ℕ, ◌+◌, ◌≤◌, ◌<◌, true, List, [], ◌∷◌, ◌++◌, length, refl, ap, append-nil, append_assoc}
 use Rattle.base_model.specs.Lists.{is_nil}
 use Rattle.base_model.specs.Text.{Characters}
 use Rattle.layer_model.specs.Name.{part_limit}
 use Rattle.syntax_model.specs.Token.{Token}
-use Rattle.syntax_model.specs.TokenKinds.{is_close_curly, is_open_curly}
-use Rattle.syntax_model.specs.Brackets.{Bracket, curly}
-use Rattle.syntax_model.specs.Rules.{Rule, Context, SheetEdition, Piece, Head, qualified_head, at_head}
+use Rattle.syntax_model.specs.TokenKinds.{is_close_curly}
+use Rattle.syntax_model.specs.Brackets.{Bracket}
+use Rattle.syntax_model.specs.Rules.{Context, Piece, Head, qualified_head, at_head}
 use Rattle.syntax_model.specs.RulesIn.{in_block, in_prelude, pieces_in}
 use Rattle.syntax_model.specs.SheetRules.{RulesFound, found, block_found, block_within}
-use Rattle.css_rules.specs.Walk.{Walk, between, finished, opened, step, steps}
-use Rattle.css_rules.specs.declared.rule_parser.ParserState.TheVariants.{Prelude, Block, Dropped}
+use Rattle.css_rules.specs.Walk.{Walk, finished, step, steps}
+use Rattle.css_rules.specs.declared.rule_parser.ParserState.TheVariants.{Between, Prelude, Block, Dropped}
 use Rattle.css_rules.proofs.BlockLemmas.{Fits}
-use Rattle.css_rules.proofs.WalkLemmas.{all_kept, found_in, head_of, reading}
+use Rattle.css_rules.proofs.WalkLemmas.{Place, after, all_kept, found_at, found_then, head_of, reading}
 
 pub steps-append : (walk : Walk) (tokens more : List Token) → steps walk (tokens ++ more) ≡ steps (steps walk tokens) more
 steps-append walk [] more = refl
 steps-append walk (token ∷ tokens) more = steps-append (step walk token) tokens more
 
+-- a walk between rules
+abbrev pub between_at : Place → Walk
+between_at at = reading at Between [] [] []
+
+pub after_none : (at : Place) → after at (found [] at.anonymous) ≡ at
+after_none at = ap (λ rules. record at { rules = rules }) (append-nil at.rules)
+
+after_both : (at : Place) (first : RulesFound) (pieces : List Piece) → after (after at first) (found_at (after at first) pieces) ≡ after at (found_then at first pieces)
+after_both at first pieces =
+    let all : RulesFound = found_at (after at first) pieces in
+    ap (λ rules. record at { rules = rules; anonymous = all.anonymous }) (append_assoc at.rules first.rules all.rules)
+
+-- a place in what a layer is in
+abbrev pub out_of : Place → Context → List Context → Place
+out_of at above others = record at { outer = others; context = above }
+
 -- where tokens end that end no block that they are in: these are the rules, and a `}` leads out of the layer
-pub record Ends (edition : SheetEdition) (outer : List Context) (walk : Walk) (rules : List Rule) (anonymous : ℕ) : Type 0 where
-  pub all : finished walk ≡ rules
-  pub leaves : (above : Context) (others : List Context) (token : Token) → outer ≡ above ∷ others → is_close_curly token.kind ≡ true → step walk token ≡ between edition rules anonymous others above
+pub record Ends (at : Place) (walk : Walk) : Type 0 where
+  pub all : finished walk ≡ at.rules
+  pub leaves : (above : Context) (others : List Context) (token : Token) → at.outer ≡ above ∷ others → is_close_curly token.kind ≡ true → step walk token ≡ between_at (out_of at above others)
 
-module _ (edition : SheetEdition) (levels : ℕ) (outer : List Context) (context : Context) where
-  -- what is found in the pieces comes after the rules so far
-  abbrev pub Holds : List Rule → ℕ → Walk → List Piece → Type 0
-  Holds rules count walk pieces =
-      let all = found_in edition levels context count pieces in Ends edition outer walk (rules ++ all.rules) all.anonymous
+-- what is found in the pieces comes after the rules so far
+abbrev pub Holds : Place → Walk → List Piece → Type 0
+Holds at walk pieces = Ends (after at (found_at at pieces)) walk
 
-  pub moved : (rules : List Rule) (count : ℕ) (walk next : Walk) (pieces rest : List Piece) → walk ≡ next → pieces ≡ rest → Holds rules count next rest → Holds rules count walk pieces
-  moved rules count walk next pieces rest is same holds =
-      subst (λ w. Holds rules count w pieces) (sym is) (subst (λ ps. Holds rules count next ps) (sym same) holds)
+-- what is found, and then what the next rules give
+abbrev pub found_next : Place → RulesFound → List Token → RulesFound
+found_next at first tokens = found_then at first (pieces_in (is_nil at.outer) tokens)
 
-  -- after what gives some rules
-  pub given : (rules first : List Rule) (count after : ℕ) (walk : Walk) (pieces rest : List Piece) → found_in edition levels context count pieces ≡ found (first ++ (found_in edition levels context after rest).rules) (found_in edition levels context after rest).anonymous → Holds (rules ++ first) after walk rest → Holds rules count walk pieces
-  given rules first count after walk pieces rest is holds =
-      let all : RulesFound = found_in edition levels context after rest in
-      subst (λ (f : RulesFound). Ends edition outer walk (rules ++ f.rules) f.anonymous) (sym is)
-      (subst (λ rs. Ends edition outer walk rs all.anonymous) (append_assoc rules first all.rules) holds)
+-- an at-rule whose block gives nothing, whatever is in it, and how many anonymous layers there are up to its end
+pub record DropsBlock (at : Place) : Type 0 where
+  pub name : Characters
+  pub prelude : List Token
+  pub anonymous : ℕ
+  pub gives_none : (block : List Token) → block_found (block_within at.levels at.edition) at.edition at.context at.anonymous name prelude block ≡ found [] anonymous
 
-  -- between rules
-  abbrev pub Reads : List Token → Type 0
-  Reads tokens =
-      (rules : List Rule) (count : ℕ) → Fits (is_nil outer) [] tokens → Holds rules count (steps (between edition rules count outer context) tokens) (pieces_in (is_nil outer) tokens)
+-- what was read of a rule: nothing, or its prelude, or that and a part of its block, which is kept or dropped; and the
+-- brackets that are open
+pub data Stage (at : Place) : Type 0 where
+  no_rule : Stage at
+  before_block : Head → List Token → List Bracket → Stage at
+  in_kept : List Token → List Token → Bracket → List Bracket → Stage at
+  in_dropped : DropsBlock at → List Token → Bracket → List Bracket → Stage at
 
-  -- in a prelude
-  abbrev pub in_prelude_of : List Rule → ℕ → Head → List Token → List Bracket → Walk
-  in_prelude_of rules count head prelude pending =
-      reading edition rules count outer context (Prelude (head_of head)) (all_kept (head_of head) prelude) [] pending
+abbrev pub open_in : {at : Place} → Stage at → List Bracket
+open_in no_rule = []
+open_in (before_block head prelude pending) = pending
+open_in (in_kept prelude block bracket pending) = bracket ∷ pending
+open_in (in_dropped rule block bracket pending) = bracket ∷ pending
 
-  abbrev pub ReadsPrelude : List Token → Type 0
-  ReadsPrelude tokens =
-      (rules : List Rule) (count : ℕ) (head : Head) (prelude : List Token) (pending : List Bracket) → Fits (is_nil outer) pending tokens → Holds rules count (steps (in_prelude_of rules count head prelude pending) tokens) (in_prelude (is_nil outer) head prelude pending tokens)
+abbrev pub walk_in : {at : Place} → Stage at → Walk
+walk_in {at} no_rule = between_at at
+walk_in {at} (before_block head prelude pending) =
+    reading at (Prelude (head_of head)) (all_kept (head_of head) prelude) [] pending
+walk_in {at} (in_kept prelude block bracket pending) = reading at Block prelude block (bracket ∷ pending)
+walk_in {at} (in_dropped rule block bracket pending) =
+    reading (record at { anonymous = rule.anonymous }) Dropped [] [] (bracket ∷ pending)
 
-  -- where a block is opened
-  abbrev pub Opens : Token → List Token → Type 0
-  Opens token tokens =
-      (rules : List Rule) (count : ℕ) (head : Head) (prelude : List Token) → is_open_curly token.kind ≡ true → Fits (is_nil outer) (curly ∷ []) tokens → Holds rules count (steps (opened (head_of head) (in_prelude_of rules count head prelude []) token) tokens) (in_block (is_nil outer) head prelude [] (curly ∷ []) tokens)
+abbrev pub pieces_of : {at : Place} → Stage at → List Token → List Piece
+pieces_of {at} no_rule tokens = pieces_in (is_nil at.outer) tokens
+pieces_of {at} (before_block head prelude pending) tokens = in_prelude (is_nil at.outer) head prelude pending tokens
+pieces_of {at} (in_kept prelude block bracket pending) tokens =
+    in_block (is_nil at.outer) qualified_head prelude block (bracket ∷ pending) tokens
+pieces_of {at} (in_dropped rule block bracket pending) tokens =
+    in_block (is_nil at.outer) (at_head rule.name) rule.prelude block (bracket ∷ pending) tokens
 
-  -- in the block of a qualified rule
-  abbrev pub ReadsBlock : List Token → Type 0
-  ReadsBlock tokens =
-      (rules : List Rule) (count : ℕ) (prelude block : List Token) (pending : List Bracket) → is_nil pending ≡ false → Fits (is_nil outer) pending tokens → Holds rules count (steps (reading edition rules count outer context Block prelude block pending) tokens) (in_block (is_nil outer) qualified_head prelude block pending tokens)
+-- tokens that come there, and what is to be shown of them
+abbrev pub Fit : {at : Place} → Stage at → List Token → Type 0
+Fit {at} stage tokens = Fits (is_nil at.outer) (open_in stage) tokens
 
-  -- and in one that gives nothing
-  abbrev pub ReadsDropped : List Token → Type 0
-  ReadsDropped tokens =
-      (rules : List Rule) (count after : ℕ) (name : Characters) (prelude block : List Token) (pending : List Bracket) → is_nil pending ≡ false → ((inside : List Token) → block_found (block_within levels edition) edition context count name prelude inside ≡ found [] after) → Fits (is_nil outer) pending tokens → Holds rules count (steps (reading edition rules after outer context Dropped [] [] pending) tokens) (in_block (is_nil outer) (at_head name) prelude block pending tokens)
+abbrev pub Reads : {at : Place} → Stage at → List Token → Type 0
+Reads {at} stage tokens = Fit stage tokens → Holds at (steps (walk_in stage) tokens) (pieces_of stage tokens)
 
--- all of fewer tokens than so many; the levels are enough for what a name's length leaves
-pub record Claims (edition : SheetEdition) (most : ℕ) : Type 0 where
-  pub reads : (levels : ℕ) (outer : List Context) (context : Context) (tokens : List Token) → length tokens < most → part_limit ≤ length context.layer + levels → Reads edition levels outer context tokens
-  pub in_preludes : (levels : ℕ) (outer : List Context) (context : Context) (tokens : List Token) → length tokens < most → part_limit ≤ length context.layer + levels → ReadsPrelude edition levels outer context tokens
-  pub in_blocks : (levels : ℕ) (outer : List Context) (context : Context) (tokens : List Token) → length tokens < most → part_limit ≤ length context.layer + levels → ReadsBlock edition levels outer context tokens
-  pub in_dropped : (levels : ℕ) (outer : List Context) (context : Context) (tokens : List Token) → length tokens < most → part_limit ≤ length context.layer + levels → ReadsDropped edition levels outer context tokens
+-- the levels are enough for what the length of a name leaves
+abbrev pub IsEnough : Place → Type 0
+IsEnough at = part_limit ≤ length at.context.layer + at.levels
+
+-- all of fewer tokens than so many
+abbrev pub Claims : ℕ → Type 0
+Claims most =
+    (at : Place) (stage : Stage at) (tokens : List Token) → length tokens < most → IsEnough at → Reads stage tokens
+
+-- that is known of some tokens
+pub record Known (at : Place) (tokens : List Token) : Type 0 where
+  pub most : ℕ
+  pub claims : Claims most
+  pub short : length tokens < most
+  pub enough : IsEnough at
+
+module _ {at : Place} {tokens : List Token} (known : Known at tokens) where
+  -- from a stage on
+  pub from_stage : (stage : Stage at) → Reads stage tokens
+  from_stage stage = known.claims at stage tokens known.short known.enough
+
+  -- from the end of a rule on, which gives this
+  pub from_end : (first : RulesFound) (ps : List Piece) → found_at at ps ≡ found_next at first tokens → Fits (is_nil at.outer) [] tokens → Holds at (steps (between_at (after at first)) tokens) ps
+  from_end first ps gives fits =
+      rw (gives, ← after_both at first (pieces_in (is_nil at.outer) tokens))
+      (known.claims (after at first) no_rule tokens known.short known.enough fits)

@@ -1,33 +1,55 @@
 -- One token more, by where it stands.
-use Rattle.std.proofs.Common.{◌≡◌, ℕ, Bool, true, false, cond, List, [], ◌∷◌, ◌++◌, None, refl, sym, ap, ◌∙◌}
-use Rattle.std.proofs.lemmas.Bool.{and_right, true≢false}
+use Rattle.std.proofs.Common.{◌≡◌, ℕ, Bool, true, false, List, [], ◌∷◌, ◌++◌, refl, sym, ap, ◌∙◌}
+use Rattle.std.proofs.lemmas.Bool.{and_right, cond-false, cond-true, cond_both, true≢false}
 use Rattle.base_model.specs.Text.{Characters}
 use Rattle.syntax_model.specs.Token.{Token, TokenKind, at_keyword, cdc, cdo, open_curly, semicolon, whitespace}
 use Rattle.syntax_model.specs.TokenKinds.{is_at_keyword, is_close_curly, is_open_curly, is_semicolon}
-use Rattle.syntax_model.specs.Brackets.{Bracket, closed_by, curly, open_past, opened_by, with_opened, without_closed}
+use Rattle.syntax_model.specs.Brackets.{Bracket, curly}
 use Rattle.syntax_model.specs.Rules.{Rule, Context, SheetEdition, Piece, qualified_head, at_head}
 use Rattle.syntax_model.specs.Rules as model
 use Rattle.syntax_model.specs.RulesIn.{is_between_rules, is_last, without_block}
 use Rattle.syntax_model.specs.SheetRules.{RulesFound, found, block_within, pieces_found, is_layer_name, statement_found}
-use Rattle.css_rules.proofs.BlockLemmas.{is_closer}
+use Rattle.css_rules.proofs.BlockLemmas.{is_closer, open_past_kind}
 use Rattle.css_rules.specs.Walk.{Walk, ended_rules, ends_statement, head_named, kept}
 use Rattle.css_rules.specs.declared.rule_parser.ParserState.{ParserState}
 use Rattle.css_rules.specs.declared.rule_parser.Head.{Head}
 use Rattle.css_rules.specs.declared.rule_parser.Head.TheVariants.{Qualified, Layer, Other}
 
--- in a rule
-abbrev pub reading : SheetEdition → List Rule → ℕ → List Context → Context → ParserState → List Token → List Token → List Bracket → Walk
-reading edition rules anonymous outer context state prelude block pending = record {
-  edition = edition;
-  rules = rules;
-  anonymous = anonymous;
-  outer = outer;
-  context = context;
+-- Where a walk stands: in which sheet, in how many levels layers may be nested, after which rules and how many anonymous
+-- layers; what the layers whose blocks are open are in, innermost first, and what the next rule is in.
+pub record Place : Type 0 where
+  pub edition : SheetEdition
+  pub levels : ℕ
+  pub rules : List Rule
+  pub anonymous : ℕ
+  pub outer : List Context
+  pub context : Context
+
+-- a walk that stands there, in a rule
+abbrev pub reading : Place → ParserState → List Token → List Token → List Bracket → Walk
+reading at state prelude block pending = record {
+  edition = at.edition;
+  rules = at.rules;
+  anonymous = at.anonymous;
+  outer = at.outer;
+  context = at.context;
   state = state;
   prelude = prelude;
   block = block;
   pending = pending;
 }
+
+-- what pieces that come there give
+abbrev pub found_at : Place → List Piece → RulesFound
+found_at at pieces = pieces_found (block_within at.levels at.edition) at.edition at.context at.anonymous pieces
+
+-- the place after what is found, and what is found from there on, after it
+abbrev pub after : Place → RulesFound → Place
+after at all = record at { rules = at.rules ++ all.rules; anonymous = all.anonymous }
+
+abbrev pub found_then : Place → RulesFound → List Piece → RulesFound
+found_then at first pieces =
+    let all = found_at (after at first) pieces in found (first.rules ++ all.rules) all.anonymous
 
 -- what begins a rule, and what of its prelude is kept
 abbrev pub head_of : model.Head → Head
@@ -50,50 +72,29 @@ one_kept Layer prelude token = refl
 one_kept Other prelude token = refl
 
 -- tokens that open and close nothing
-opens_none : (token : Token) (kind : TokenKind) → token.kind ≡ kind → opened_by kind ≡ None → open_past [] token ≡ without_closed [] (closed_by kind)
-opens_none token kind is none = ap (λ k. with_opened (opened_by k) (without_closed [] (closed_by k))) is ∙ ap (λ o. with_opened o (without_closed [] (closed_by kind))) none
+pub between_opens_none : (top : Bool) (kind : TokenKind) → is_between_rules top kind ≡ true → open_past_kind [] kind ≡ []
+between_opens_none top whitespace test = refl
+between_opens_none top cdo test = refl
+between_opens_none top cdc test = refl
+between_opens_none top kind test = absurd (true≢false (sym test ∙ and_right top false refl))
 
-between_kind : (top : Bool) (kind : TokenKind) → is_between_rules top kind ≡ true → with_opened (opened_by kind) (without_closed [] (closed_by kind)) ≡ []
-between_kind top whitespace test = refl
-between_kind top cdo test = refl
-between_kind top cdc test = refl
-between_kind top kind test = absurd (true≢false (sym test ∙ and_right top false refl))
+pub keyword_opens_none : (kind : TokenKind) → is_at_keyword kind ≡ true → open_past_kind [] kind ≡ []
+keyword_opens_none at_keyword test = refl
+keyword_opens_none kind test = cc
 
-pub between_opens_none : (top : Bool) (token : Token) → is_between_rules top token.kind ≡ true → open_past [] token ≡ []
-between_opens_none top token test = between_kind top token.kind test
+pub last_opens_none : (head : model.Head) (kind : TokenKind) → is_last head kind ≡ true → open_past_kind [] kind ≡ []
+last_opens_none (at_head name) semicolon test = refl
+last_opens_none head kind test = cc
 
-keyword_kind : (kind : TokenKind) → is_at_keyword kind ≡ true → kind ≡ at_keyword
-keyword_kind at_keyword test = refl
-keyword_kind kind test = cc
-
-pub keyword_opens_none : (token : Token) → is_at_keyword token.kind ≡ true → open_past [] token ≡ []
-keyword_opens_none token test = ap (λ k. with_opened (opened_by k) (without_closed [] (closed_by k))) (keyword_kind token.kind test)
-
-semicolon_kind : (kind : TokenKind) → is_semicolon kind ≡ true → kind ≡ semicolon
-semicolon_kind semicolon test = refl
-semicolon_kind kind test = cc
-
-pub last_opens_none : (head : model.Head) (token : Token) → is_last head token.kind ≡ true → open_past [] token ≡ []
-last_opens_none qualified_head token test = absurd (true≢false (sym test))
-last_opens_none (at_head name) token test = ap (λ k. with_opened (opened_by k) (without_closed [] (closed_by k))) (semicolon_kind token.kind test)
-
-open_kind : (kind : TokenKind) → is_open_curly kind ≡ true → kind ≡ open_curly
-open_kind open_curly test = refl
-open_kind kind test = cc
-
-pub opens_curly : (token : Token) → is_open_curly token.kind ≡ true → open_past [] token ≡ curly ∷ []
-opens_curly token test = ap (λ k. with_opened (opened_by k) (without_closed [] (closed_by k))) (open_kind token.kind test)
+pub opens_curly : (kind : TokenKind) → is_open_curly kind ≡ true → open_past_kind [] kind ≡ curly ∷ []
+opens_curly open_curly test = refl
+opens_curly kind test = cc
 
 -- what ends a statement
-named_ends : (name : Characters) (kind : TokenKind) → ends_statement (head_named name) kind ≡ is_semicolon kind
-named_ends name kind = elim (is_layer_name name) as (λ b. ends_statement (cond b Layer Other) kind ≡ is_semicolon kind) [
-  | true ↦ refl
-  | false ↦ refl
-]
-
 pub same_last : (head : model.Head) (kind : TokenKind) → ends_statement (head_of head) kind ≡ is_last head kind
 same_last qualified_head kind = refl
-same_last (at_head name) kind = named_ends name kind
+same_last (at_head name) kind =
+    cond_both (is_layer_name name) Layer Other (λ head. ends_statement head kind ≡ is_semicolon kind) (λ _. refl) (λ _. refl)
 
 pub close_is_not_last : (head : Head) (kind : TokenKind) → is_close_curly kind ≡ true → ends_statement head kind ≡ false
 close_is_not_last Qualified kind test = refl
@@ -101,17 +102,15 @@ close_is_not_last Layer kind test = ap is_semicolon (is_closer kind test)
 close_is_not_last Other kind test = ap is_semicolon (is_closer kind test)
 
 -- what a rule without a block gives
+abbrev pub ended_at : Place → model.Head → List Token → RulesFound
+ended_at at head prelude = found (ended_rules (head_of head) at.context (all_kept (head_of head) prelude)) at.anonymous
+
 named_statement : (context : Context) (name : Characters) (prelude : List Token) → ended_rules (head_named name) context (all_kept (head_named name) prelude) ≡ statement_found context name prelude
 named_statement context name prelude =
-    elim (is_layer_name name) as (λ b. ended_rules (cond b Layer Other) context (all_kept (cond b Layer Other) prelude) ≡ cond b (ended_rules Layer context prelude) []) [
-      | true ↦ refl
-      | false ↦ refl
-    ]
+    let Gives : Head → Type 0 = λ head. ended_rules head context (all_kept head prelude) ≡ statement_found context name prelude in
+    cond_both (is_layer_name name) Layer Other Gives (λ t. sym (cond-true _ _ _ t)) (λ t. sym (cond-false _ _ _ t))
 
-module _ (edition : SheetEdition) (levels : ℕ) (context : Context) (count : ℕ) where
-  abbrev pub found_in : List Piece → RulesFound
-  found_in pieces = pieces_found (block_within levels edition) edition context count pieces
-
-  pub statement : (head : model.Head) (prelude : List Token) (pieces : List Piece) → found_in (without_block head prelude ++ pieces) ≡ found (ended_rules (head_of head) context (all_kept (head_of head) prelude) ++ (found_in pieces).rules) (found_in pieces).anonymous
-  statement qualified_head prelude pieces = refl
-  statement (at_head name) prelude pieces = ap (λ rules. found (rules ++ (found_in pieces).rules) (found_in pieces).anonymous) (sym (named_statement context name prelude))
+pub statement : (at : Place) (head : model.Head) (prelude : List Token) (pieces : List Piece) → found_at at (without_block head prelude ++ pieces) ≡ found_then at (ended_at at head prelude) pieces
+statement at qualified_head prelude pieces = refl
+statement at (at_head name) prelude pieces =
+    ap (λ rules. found_then at (found rules at.anonymous) pieces) (sym (named_statement at.context name prelude))

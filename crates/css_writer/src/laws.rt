@@ -11,15 +11,17 @@ ghost use Rattle.custom_model.specs.Value.{CustomValue, CustomValues, unplaced};
 ghost use Rattle.syntax_model.specs.Preprocess.{preprocessed};
 ghost use Rattle.syntax_model.specs.Token.{Token, said};
 ghost use Rattle.syntax_model.specs.TokensIn.{tokens_in};
-ghost use Rattle.syntax_model.specs.Written.{is_bad_string, is_broken, is_sound, is_writable, urls_go_on, written};
+ghost use Rattle.syntax_model.specs.Written.{is_bad_string, is_broken, is_clean_token, is_sound, is_writable};
+ghost use Rattle.syntax_model.specs.Written.{urls_go_on, written};
 
-/// What is written of a writable list reads as tokens of the same kinds, names and spellings.
+/// What is written of a writable list reads, preprocessed like any text, as tokens of the same kinds,
+/// names and spellings.
 pub fn reads_back()
     ensures { (tokens : List Token) → is_writable tokens ≡ true
-        → map said (tokens_in (written tokens)) ≡ map said tokens }
+        → map said (tokens_in (preprocessed (written tokens))) ≡ map said tokens }
 {}
 
-/// So does what is written of a text's tokens, where they are writable: it needs no preprocessing.
+/// So does what is written of a text's tokens, where they are writable.
 pub fn text_reads_back()
     ensures { (text : Characters) → is_writable (tokens_in (preprocessed text)) ≡ true
         → map said (tokens_in (preprocessed (written (tokens_in (preprocessed text)))))
@@ -30,6 +32,12 @@ pub fn text_reads_back()
 pub fn tokens_are_sound()
     ensures { (text : Characters)
         → list_all (λ token. is_broken token.kind || is_sound token) (tokens_in text) ≡ true }
+{}
+
+/// No token of a text holds U+0000, and none is a delim that preprocessing would change.
+pub fn tokens_are_clean()
+    ensures { (text : Characters)
+        → list_all is_clean_token (tokens_in (preprocessed text)) ≡ true }
 {}
 
 /// In a text without bad strings a string follows the function `url`, with whitespace or none

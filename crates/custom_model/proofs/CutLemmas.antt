@@ -1,10 +1,10 @@
--- What is known of each list of tokens that is cut from those of a text: its tokens are sound or broken, and a string, or
--- a bad one, comes after each function `url`.
+-- What is known of each list of tokens that is cut from those of a text: its tokens are sound or broken, and clean, and a
+-- string, or a bad one, comes after each function `url`.
 use Rattle.std.proofs.Common.{◌≡◌, ℕ, zero, suc, List, [], ◌∷◌, ◌++◌, take, drop, reverse, Bool, true, false, cond, ◌&&◌, refl, sym, ap, ◌∙◌, subst, take-append-drop}
 use Rattle.std.specs.Prelude.{◌+◌}
 use Rattle.std.specs.List.{AllByRecursion, list_all}
 use Rattle.std.proofs.Math.Numerals.{one-add}
-use Rattle.std.proofs.lemmas.Bool.{false≢true, and_parts, cond_both, cond-false}
+use Rattle.std.proofs.lemmas.Bool.{false≢true, and_from, and_parts, cond_both, cond-false}
 use Rattle.std.proofs.lemmas.List.{reverse-append, reverse-reverse}
 use Rattle.base_model.specs.Lists.{is_nil}
 use Rattle.base_model.specs.Text.{Characters}
@@ -12,22 +12,33 @@ use Rattle.syntax_model.specs.Token.{Token, TokenKind, whitespace, semicolon}
 use Rattle.syntax_model.specs.TokenKinds.{begins_with, is_white, is_semicolon, without_white, trimmed}
 use Rattle.syntax_model.specs.Brackets.{Bracket, square, round, curly, closer, closers, closed, open_after, open_past}
 use Rattle.syntax_model.specs.Outside.{length_before, up_to}
+use Rattle.syntax_model.specs.Preprocess.{preprocessed}
 use Rattle.syntax_model.specs.TokensIn.{tokens_in}
-use Rattle.syntax_model.specs.Written.{is_url_function}
+use Rattle.syntax_model.specs.Written.{is_clean_token, is_url_function}
+use Rattle.syntax_model.proofs.CleanTokens.{text_tokens_clean}
 use Rattle.syntax_model.proofs.SoundLemmas.{is_known, sound_tokens}
 use Rattle.syntax_model.proofs.UrlStrings.{is_quoted, QuotesFollow, quotes_in}
 
+-- sound or broken, and clean
+abbrev pub is_read : Token → Bool
+is_read token = is_known token && is_clean_token token
+
 abbrev pub OfText : List Token → Type 0
-OfText tokens = AllByRecursion (λ token. is_known token ≡ true) tokens × QuotesFollow tokens
+OfText tokens = AllByRecursion (λ token. is_read token ≡ true) tokens × QuotesFollow tokens
 
 -- the tokens of a text are so
 
-each_of_all : (p : Token → Bool) (tokens : List Token) → list_all p tokens ≡ true → AllByRecursion (λ token. p token ≡ true) tokens
-each_of_all p [] h = tt
-each_of_all p (token ∷ tokens) h = let parts = and_parts (p token) _ h in (parts.0, each_of_all p tokens parts.1)
+each_read : (tokens : List Token) → list_all is_known tokens ≡ true → list_all is_clean_token tokens ≡ true → AllByRecursion (λ token. is_read token ≡ true) tokens
+each_read [] known clean = tt
+each_read (token ∷ tokens) known clean =
+    let first = and_parts (is_known token) _ known in
+    let own = and_parts (is_clean_token token) _ clean in
+    (and_from _ _ first.0 own.0, each_read tokens first.1 own.1)
 
-pub of_text : (text : Characters) → OfText (tokens_in text)
-of_text text = (each_of_all is_known (tokens_in text) (sound_tokens text), quotes_in text)
+pub of_text : (text : Characters) → OfText (tokens_in (preprocessed text))
+of_text text =
+    let ready : Characters = preprocessed text in
+    (each_read (tokens_in ready) (sound_tokens ready) (text_tokens_clean text), quotes_in ready)
 
 -- a string, or a bad one, comes first, with whitespace or none before it
 
@@ -74,7 +85,7 @@ of_text-closers [] = (tt, tt)
 of_text-closers (bracket ∷ pending) =
     let rest = of_text-closers pending in
     ((known bracket, rest.0), ((λ url. absurd (false≢true (sym (other bracket) ∙ url))), rest.1)) where
-      known : (b : Bracket) → is_known (closer b) ≡ true
+      known : (b : Bracket) → is_read (closer b) ≡ true
       known square = refl
       known round = refl
       known curly = refl

@@ -1,12 +1,12 @@
 -- Lists of tokens that can be written once their whitespace is joined.
-use Rattle.std.proofs.Common.{◌≡◌, List, [], ◌∷◌, ◌++◌, map, Bool, true, false, cond, if◌then◌else◌, ◌||◌, refl, sym, ap, ◌∙◌}
+use Rattle.std.proofs.Common.{◌≡◌, List, [], ◌∷◌, ◌++◌, map, Bool, true, false, cond, if◌then◌else◌, ◌&&◌, ◌||◌, refl, sym, ap, ◌∙◌}
 use Rattle.std.specs.List.{AllByRecursion}
 use Rattle.std.proofs.lemmas.Bool.{false≢true, and_from, cond_both, cond-true, cond-false, not_from_false}
 use Rattle.base_model.specs.Text.{Characters}
 use Rattle.syntax_model.specs.Token.{Token, Said, said, TokenKind, function, string, bad_string, whitespace}
 use Rattle.syntax_model.specs.TokenKinds.{begins_with, is_white, without_white}
-use Rattle.syntax_model.specs.Written.{is_broken, is_sound, is_string, is_url_function, is_writable, url_goes_on, goes_before}
-use Rattle.syntax_model.proofs.WrittenLemmas.{sound_first}
+use Rattle.syntax_model.specs.Written.{is_broken, is_clean_token, is_sound, is_string, is_url_function, is_writable, url_goes_on, goes_before}
+use Rattle.syntax_model.proofs.WrittenLemmas.{IsWritable, writable_parts}
 use Rattle.syntax_model.proofs.UrlStrings.{is_quoted}
 use Rattle.custom_model.specs.Value.{CustomValue, unplaced, white_space, spaced, normal}
 use Rattle.custom_model.proofs.Said.{said_unplaced}
@@ -22,9 +22,9 @@ UrlsGo p [] = Unit
 UrlsGo p (token ∷ tokens) = (is_url_function (unplaced token) ≡ true → first_is p tokens ≡ true) × UrlsGo p tokens
 
 abbrev pub Sound : Said → Type 0
-Sound token = is_sound (unplaced token) ≡ true
+Sound token = (is_sound (unplaced token) && is_clean_token (unplaced token)) ≡ true
 
--- each token is sound, and a string comes after each function `url`
+-- each token is sound and clean, and a string comes after each function `url`
 abbrev pub Kept : CustomValue → Type 0
 Kept tokens = AllByRecursion Sound tokens × UrlsGo is_string tokens
 
@@ -65,9 +65,9 @@ kept_first token tokens goes url =
 pub kept_writable : (tokens : CustomValue) → is_writable (map unplaced tokens) ≡ true → Kept tokens
 kept_writable [] h = (tt, tt)
 kept_writable (token ∷ tokens) h =
-    let parts = sound_first (unplaced token) (map unplaced tokens) h in
-    let rest = kept_writable tokens parts.1.1 in
-    ((parts.0, rest.0), (kept_first token tokens parts.1.0, rest.1))
+    let parts : IsWritable (unplaced token) (map unplaced tokens) = writable_parts (unplaced token) (map unplaced tokens) h in
+    let rest = kept_writable tokens parts.rest in
+    ((and_from _ _ parts.sound parts.clean, rest.0), (kept_first token tokens parts.goes, rest.1))
 
 -- and what is kept can be written once its whitespace is joined
 
@@ -125,9 +125,9 @@ abbrev pub Fit : CustomValue → Type 0
 Fit tokens = AllByRecursion (λ token. is_broken token.kind ≡ false) tokens
 
 abbrev pub Known : Said → Type 0
-Known token = (is_broken token.kind || is_sound (unplaced token)) ≡ true
+Known token = ((is_broken token.kind || is_sound (unplaced token)) && is_clean_token (unplaced token)) ≡ true
 
--- each token is sound or broken, and a string, or a bad one, comes after each function `url`
+-- each token is sound or broken, and clean, and a string, or a bad one, comes after each function `url`
 abbrev pub AsRead : CustomValue → Type 0
 AsRead tokens = AllByRecursion Known tokens × UrlsGo is_quoted tokens
 
@@ -148,7 +148,7 @@ pub kept_fit : (tokens : CustomValue) → Fit tokens → AsRead tokens → Kept 
 kept_fit [] fit read = (tt, tt)
 kept_fit (token ∷ tokens) fit read =
     let rest = kept_fit tokens fit.1 (read.0.1, read.1.1) in
-    ((sym (ap (λ b. b || is_sound (unplaced token)) fit.0) ∙ read.0.0, rest.0), ((λ u. first_fit tokens fit.1 (read.1.0 u)), rest.1))
+    ((sym (ap (λ b. (b || is_sound (unplaced token)) && is_clean_token (unplaced token)) fit.0) ∙ read.0.0, rest.0), ((λ u. first_fit tokens fit.1 (read.1.0 u)), rest.1))
 
 -- joined whitespace leaves what is broken
 

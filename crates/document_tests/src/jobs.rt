@@ -25,6 +25,24 @@ fn counts(rt: HostRuntime) -> Result<(), Fail> {
     Ok(())
 }
 
+#[test]
+fn batches(rt: HostRuntime) -> Result<(), Fail> {
+    let job = job(
+        rt.alloc(),
+        r#"{"version":1,"nodes":[{"tag":"a"}],"batches":[[],[{"op":"unset","node":1,"name":"k"}]]}"#,
+    )?;
+    assert!(rt; has_two_batches(&job));
+    Ok(())
+}
+
+/// Whether a job has two batches, of no edit and of one.
+fn has_two_batches(job: &Job) -> bool {
+    match job.batches.as_slice() {
+        [first, second] => first.is_empty() && second.len() == 1,
+        _ => false,
+    }
+}
+
 /// Whether the first of a job's sheets has this text.
 fn has_text(job: &Job, text: &str) -> bool {
     match job.sheets.as_slice() {

@@ -1,99 +1,114 @@
 -- What is kept after an edit is whole, and is the edited document.
-use Rattle.std.proofs.Common.{◌≡◌, ℕ, ◌+◌, ◌-◌, ◌<◌, Bool, true, false, cond, List, length, get_or, Option, Some, None, IfSome, slice_get, slice_set, sym, ap, ◌∙◌, subst, refl, arith}
-use Rattle.std.specs.Cmp.Lexicographic.{slice_cmp}
+use Rattle.std.proofs.Common.{◌≡◌, ℕ, ◌+◌, ◌-◌, Bool, List, get_or, Option, Some, None, slice_get, slice_set, sym, ap, ◌∙◌, subst, refl, arith}
 use Rattle.std.specs.FinMap as finmap
-use Rattle.std.specs.Ordering.{eq_by_cmp, nat_cmp}
-use Rattle.std.proofs.lemmas.Cmp.{nat_list_cmp_total}
-use Rattle.std.proofs.lemmas.Option.{slice_get_within}
 use Rattle.stylo_base.specs.NameList.{StandOnce}
 use Rattle.scene_model.specs.Document.{Document}
-use Rattle.scene_model.specs.Element.{Element, Attributes, Characters, State, States}
+use Rattle.scene_model.specs.Element.{Element, Characters, State, States}
 use Rattle.scene_model.specs.Lookups.{IsElement}
 use Rattle.scene_model.specs.Nodes.{Node}
 use Rattle.change_model.specs.InPlace.{changed_at, put_state, with_state, without_attribute}
 use Rattle.dom_tree.specs.declared.labels.Label.{Label}
-use Rattle.dom_tree.specs.declared.links.NodeLink.{NodeLink}
 use Rattle.dom_tree.specs.Kept.{Table, KeepsTexts, put_node, text_of, with_attr, with_states, without_attr}
 use Rattle.dom_tree.specs.Labels.{AreCuts, IsGiven, IsLabel, KeepsLists}
-use Rattle.dom_tree.specs.Whole.{document, IsWhole}
-use Rattle.dom_tree.proofs.ChangeLemmas.{IsChange, IsChange-no_attribute, IsChange-state, document_put, put_agree, put_is, set_same, whole_more, whole_put}
-use Rattle.dom_tree.proofs.KeptLemmas.{labelled, within}
-use Rattle.dom_tree.proofs.NameLemmas.{text_is, tied-Decides}
-use Rattle.dom_tree.proofs.Places.{item_at}
+use Rattle.dom_tree.specs.Whole.{document}
+use Rattle.dom_tree.proofs.ChangeLemmas.{IsChange, IsChange-attribute, IsChange-no_attribute, IsChange-state, document_put, put_agree, whole_more, whole_put}
+use Rattle.dom_tree.proofs.ColumnLemmas.{AtIndex}
+use Rattle.dom_tree.proofs.CutLemmas.{cuts_more}
+use Rattle.dom_tree.proofs.EditLemmas.{put_absent}
+use Rattle.dom_tree.proofs.GivenLemmas.{IsGiven-with_attr, IsGiven-without_attr}
+use Rattle.dom_tree.proofs.KeptLemmas.{label_is, node, node_at, told, within}
+use Rattle.dom_tree.proofs.NameLemmas.{text_is}
+use Rattle.dom_tree.proofs.Parts.{AreSeenAs, AreWhole, Cuts, Lists, Parts}
 use Rattle.dom_tree.proofs.RelabelLemmas.{label_more, labels_more, labels_put, labels_stay}
 
-remove_absent : (attrs : Attributes) (name : Characters) → finmap.get attrs name ≡ None → finmap.remove attrs name ≡ attrs
-remove_absent attrs name none =
-    finmap.same_map nat_list_cmp_total (finmap.slice_cmp-IsAntisymmetric finmap.nat_cmp-IsAntisymmetric) (finmap.remove attrs name) attrs (λ q. (let d = tied-Decides q name in finmap.get-remove nat_list_cmp_total attrs name q ∙ absent_or (eq_by_cmp (slice_cmp nat_cmp) q name) (finmap.get attrs q) (λ t. ap (finmap.get attrs) (d.0 t) ∙ none)))
-  where
-    absent_or : (b : Bool) (o : Option Characters) → (b ≡ true → o ≡ None) → cond b None o ≡ o
-    absent_or true o h = sym (h refl)
-    absent_or false o h = refl
+-- more names, class lists and cuts
+pub record IsMore (p : Parts) (names : List Characters) (lists : Lists) (cuts : Cuts) : Type 0 where
+  pub kept : KeepsTexts p.table.names names
+  pub once : StandOnce names
+  pub also : KeepsLists p.lists lists
+  pub cut : AreCuts names lists cuts
 
-same_texts : (names more : List Characters) → more ≡ names → KeepsTexts names more
-same_texts names more e n l = ap (λ t. slice_get t n) e
+module _ {p : Parts} (whole : AreWhole p) where
+  pub more_names : {names : List Characters} → KeepsTexts p.table.names names → StandOnce names → IsMore p names p.lists p.cuts
+  more_names kept once = record { kept = kept; once = once; also = λ k list h. h; cut = cuts_more kept (λ k list h. h) whole.cuts_of }
 
-module _ (table later : Table) (links : List NodeLink) (before after : List ℕ) (labels : List Label) (lists : List (List Characters)) (cuts : List (Option ℕ)) (order : List ℕ) (now : Document) (x : ℕ) (whole : IsWhole table links before after labels lists cuts order) (view : document table order ≡ now) (is : IsElement now.elements x) where
+  pub more_whole : {later : Table} {lists : Lists} {cuts : Cuts} → IsMore p later.names lists cuts → later.nodes ≡ p.table.nodes → AreWhole (record p { table = later; lists = lists; cuts = cuts })
+  more_whole more e = whole_more whole (record { once = more.once; labels_of = labels_more whole.labels_of more.kept more.also e; cuts_of = more.cut }) e
+
+module _ {p : Parts} {names : List Characters} {lists : Lists} {cuts : Cuts} (more : IsMore p names lists cuts) where
+  pub more_lists : {shown : List Characters} {longer : Lists} {recut : Cuts} → shown ≡ names → KeepsLists lists longer → AreCuts shown longer recut → IsMore p names longer recut
+  more_lists {longer = longer} {recut = recut} same kept cut =
+      record { kept = more.kept; once = more.once; also = λ k list h. kept k list (more.also k list h); cut = subst (λ n. AreCuts n longer recut) same cut }
+
+  pub more_same : {again : List Characters} → again ≡ names → IsMore p again lists cuts
+  more_same e = subst (λ n. IsMore p n lists cuts) (sym e) more
+
+-- an edit of an attribute, of a node and of its element
+pub record IsEdit (name : Characters) (value : Option Characters) (f : Node → Node) (g : Element → Element) : Type 0 where
+  pub change : IsChange f g
+  pub gives : (node : Node) → IsGiven name value node (f node)
+
+pub is_set : (name value : Characters) → IsEdit name (Some value) (with_attr name value) (λ e. record e { attrs = finmap.insert e.attrs name value })
+is_set name value = record { change = IsChange-attribute name value; gives = IsGiven-with_attr name value }
+
+pub is_removed : (name : Characters) → IsEdit name None (without_attr name) (λ e. record e { attrs = finmap.remove e.attrs name })
+is_removed name = record { change = IsChange-no_attribute name; gives = IsGiven-without_attr name }
+
+abbrev with_state_put : State → Bool → Node → Node
+with_state_put state on node = record node { states = put_state state on node.states }
+
+module _ {p : Parts} {now : Document} (whole : AreWhole p) (view : AreSeenAs p now) (x : ℕ) (is : IsElement now.elements x) where
   -- the number of the element is that of its node and 1
-  below : x - 1 < length table.nodes
-  below = let w = within table links before after labels lists cuts order now x whole view is in omega (arith, w.0, w.1)
-
   back : x - 1 + 1 ≡ x
-  back = let w = within table links before after labels lists cuts order now x whole view is in omega (arith, w.0)
+  back = omega (arith, (within whole view x is).0)
 
-  module _ (state : State) (on : Bool) (was new : States) (told : IfSome (slice_get table.nodes (x - 1)) (λ node. was ≡ node.states)) (is_new : new ≡ put_state state on was) (names : later.names ≡ table.names) (nodes : later.nodes ≡ put_node (x - 1) (with_states new) table.nodes) where
-    state_put : later.nodes ≡ put_node (x - 1) (λ node. record node { states = put_state state on node.states }) table.nodes
-    state_put =
-        let (node, at, same) = item_at table.nodes (x - 1) (λ node. was ≡ node.states) below told in
-        nodes ∙ put_agree (with_states new) (λ node. record node { states = put_state state on node.states }) (x - 1) table.nodes node at (ap (λ s. record node { states = s }) (is_new ∙ ap (put_state state on) same))
+  module _ (state : State) (on : Bool) (was : States) {new : States} (seen : AtIndex p.table (x - 1) (λ node. was ≡ node.states)) (is_new : new ≡ put_state state on was) where
+    module _ (later : Table) (names : later.names ≡ p.table.names) (nodes : later.nodes ≡ put_node (x - 1) (with_states new) p.table.nodes) where
+      state_put : later.nodes ≡ put_node (x - 1) (with_state_put state on) p.table.nodes
+      state_put =
+          nodes ∙ put_agree (with_states new) (with_state_put state on) (x - 1) p.table.nodes (node whole view x is) (node_at whole view x is)
+          (ap (λ s. record (node whole view x is) { states = s }) (is_new ∙ ap (put_state state on) (told whole view x is (λ node. was ≡ node.states) seen)))
 
-    pub state_whole : IsWhole later links before after labels lists cuts order
-    state_whole =
-        let (node, at, same) = item_at table.nodes (x - 1) (λ node. was ≡ node.states) below told in
-        whole_put table later links before after labels labels lists lists cuts cuts order whole (subst StandOnce (sym names) whole.once) (labels_stay (λ node. record node { states = put_state state on node.states }) (λ node. refl) table later lists labels (x - 1) node whole.labels_of at state_put (same_texts table.names later.names names)) (subst (λ n. AreCuts n lists cuts) (sym names) whole.cuts_of) (λ node. record node { states = put_state state on node.states }) (λ e. record e { states = put_state state on e.states }) (IsChange-state state on) (x - 1) state_put
+      pub state_whole : AreWhole (record p { table = later })
+      state_whole = whole_put whole (record {
+        once = subst StandOnce (sym names) whole.once;
+        labels_of = labels_stay (with_state_put state on) (x - 1) (λ node. refl) whole.labels_of (λ n l. ap (λ t. slice_get t n) names) (node_at whole view x is) state_put;
+        cuts_of = subst (λ n. AreCuts n p.lists p.cuts) (sym names) whole.cuts_of;
+      }) (IsChange-state state on) (x - 1) state_put
 
-    pub state_document : document later order ≡ record now { elements = with_state x state on now.elements }
-    state_document =
-        document_put (λ node. record node { states = put_state state on node.states }) (λ e. record e { states = put_state state on e.states }) (IsChange-state state on) table later order now (x - 1) x view state_put back
-
-  -- more names and class lists
-  module _ (longer : List (List Characters)) (recut : List (Option ℕ)) (nodes : later.nodes ≡ table.nodes) (kept : KeepsTexts table.names later.names) (once : StandOnce later.names) (also : KeepsLists lists longer) (cut : AreCuts later.names longer recut) where
-    pub more_whole : IsWhole later links before after labels longer recut order
-    more_whole =
-        whole_more table later links before after labels labels lists longer cuts recut order whole once (labels_more table later lists longer labels nodes kept also whole.labels_of) cut nodes
+      pub state_document : document later p.order ≡ record now { elements = with_state x state on now.elements }
+      state_document = document_put p later (x - 1) (IsChange-state state on) view state_put back
 
   -- an attribute that is given a value, or taken away
-  module _ (f : Node → Node) (g : Element → Element) (c : IsChange f g) (name : Characters) (value : Option Characters) (gives : (node : Node) → IsGiven name value node (f node)) (nodes : later.nodes ≡ put_node (x - 1) f table.nodes) where
-    pub given_document : document later order ≡ record now { elements = changed_at x g now.elements }
-    given_document = document_put f g c table later order now (x - 1) x view nodes back
+  module _ {name : Characters} {value : Option Characters} {f : Node → Node} {g : Element → Element} (edit : IsEdit name value f g) (later : Table) where
+    pub given_document : later.nodes ≡ put_node (x - 1) f p.table.nodes → document later p.order ≡ record now { elements = changed_at x g now.elements }
+    given_document e = document_put p later (x - 1) edit.change view e back
 
-    module _ (relabelled : List Label) (longer : List (List Characters)) (recut : List (Option ℕ)) (old new : Label) (shown : List Characters) (read : old ≡ get_or labels (x - 1) old) (told : (node after : Node) → IsLabel shown lists node old → IsGiven name value node after → IsLabel shown longer after new) (same : shown ≡ later.names) (kept : KeepsTexts table.names later.names) (once : StandOnce later.names) (also : KeepsLists lists longer) (cut : AreCuts later.names longer recut) (r : relabelled ≡ slice_set labels (x - 1) new) where
-      pub given_whole : IsWhole later links before after relabelled longer recut order
-      given_whole =
-          let (node, at, is_label) = labelled table links before after labels lists cuts order now x whole view is old read in
-          let more : IsLabel shown lists node old = subst (λ n. IsLabel n lists node old) (sym same) (label_more table.names later.names lists lists node old kept (λ n list h. h) is_label) in
-          let made : IsLabel later.names longer (f node) new = subst (λ n. IsLabel n longer (f node) new) same (told node (f node) more (gives node)) in
-          whole_put table later links before after labels relabelled lists longer cuts recut order whole once (labels_put f table later lists longer labels relabelled (x - 1) node new whole.labels_of at nodes kept also r made) cut f g c (x - 1) nodes
+    pub given_whole : {lists : Lists} {cuts : Cuts} {given : Option Characters} {shown : List Characters} {old : Label} (new : Label)
+        → later.nodes ≡ put_node (x - 1) f p.table.nodes → IsMore p later.names lists cuts → given ≡ value → shown ≡ later.names
+        → old ≡ get_or p.labels (x - 1) old → ((node after : Node) → IsLabel shown p.lists node old → IsGiven name given node after → IsLabel shown lists after new)
+        → AreWhole (record p { table = later; labels = slice_set p.labels (x - 1) new; lists = lists; cuts = cuts })
+    given_whole {lists} {given = given} {old = old} new e more is_given same read tells =
+        let before = node whole view x is in
+        let was = subst (λ n. IsLabel n p.lists before old) (sym same) (label_more more.kept (λ n list h. h) (label_is whole view x is read)) in
+        let made = subst (λ n. IsLabel n lists (f before) new) same (tells before (f before) was (subst (λ v. IsGiven name v before (f before)) (sym is_given) (edit.gives before))) in
+        let labels = labels_put whole.labels_of more.kept more.also f (x - 1) (node_at whole view x is) e made in
+        whole_put whole (record { once = more.once; labels_of = labels; cuts_of = more.cut }) edit.change (x - 1) e
 
   -- an attribute that it has not
-  pub unset_document : (name : Characters) (value : Option Characters) → IfSome (slice_get table.nodes (x - 1)) (λ node. value ≡ finmap.get node.attrs name) → value ≡ None → now ≡ record now { elements = without_attribute x name now.elements }
-  unset_document name value told none =
-      let (node, at, same) = item_at table.nodes (x - 1) (λ node. value ≡ finmap.get node.attrs name) below told in
-      let absent : finmap.get node.attrs name ≡ None = sym same ∙ none in
-      let stays : without_attr name node ≡ node = ap (λ a. record node { attrs = a }) (remove_absent node.attrs name absent) in
-      let nodes : table.nodes ≡ put_node (x - 1) (without_attr name) table.nodes =
-      sym (put_is (without_attr name) (x - 1) table.nodes node at ∙ (ap (slice_set table.nodes (x - 1)) stays ∙ set_same table.nodes (x - 1) node at)) in
-      sym view ∙ document_put (without_attr name) (λ e. record e { attrs = finmap.remove e.attrs name }) (IsChange-no_attribute name) table table order now (x - 1) x view nodes back
+  pub unset_document : (name : Characters) {value : Option Characters} → AtIndex p.table (x - 1) (λ node. value ≡ finmap.get node.attrs name) → value ≡ None
+      → now ≡ record now { elements = without_attribute x name now.elements }
+  unset_document name seen none =
+      let absent = subst (λ v. AtIndex p.table (x - 1) (λ (node : Node). v ≡ finmap.get node.attrs name)) none seen in
+      sym view ∙ document_put p p.table (x - 1) (IsChange-no_attribute name) view (put_absent p.table.nodes (x - 1) name absent) back
 
--- texts that were given names
+-- the nodes after an edit by names that have texts
 
-pub interned_text : (first second : List Characters) (n : ℕ) (text : Characters) → slice_get first n ≡ Some text → KeepsTexts first second → slice_get second n ≡ Some text
-interned_text first second n text at kept = kept n (slice_get_within first n text at) ∙ at
+pub set_nodes : (names : List Characters) (attribute text k : ℕ) {name value : Characters} {old before later : List Node} → slice_get names attribute ≡ Some name → slice_get names text ≡ Some value
+    → before ≡ old → later ≡ put_node k (with_attr (text_of names attribute) (text_of names text)) before → later ≡ put_node k (with_attr name value) old
+set_nodes names attribute text k at here same e =
+    e ∙ (λ i. put_node k (with_attr (text_is names attribute _ at i) (text_is names text _ here i)) (same i))
 
-pub set_nodes : (names : List Characters) (attribute text : ℕ) (name value : Characters) (old before later : List Node) (k : ℕ) → slice_get names attribute ≡ Some name → slice_get names text ≡ Some value → before ≡ old → later ≡ put_node k (with_attr (text_of names attribute) (text_of names text)) before → later ≡ put_node k (with_attr name value) old
-set_nodes names attribute text name value old before later k at here same e =
-    e ∙ (λ i. put_node k (with_attr (text_is names attribute name at i) (text_is names text value here i)) (same i))
-
-pub unset_nodes : (names : List Characters) (attribute : ℕ) (name : Characters) (old before later : List Node) (k : ℕ) → slice_get names attribute ≡ Some name → before ≡ old → later ≡ put_node k (without_attr (text_of names attribute)) before → later ≡ put_node k (without_attr name) old
-unset_nodes names attribute name old before later k at same e =
-    e ∙ (λ i. put_node k (without_attr (text_is names attribute name at i)) (same i))
+pub unset_nodes : (names : List Characters) (attribute k : ℕ) {name : Characters} {old before later : List Node} → slice_get names attribute ≡ Some name → before ≡ old
+    → later ≡ put_node k (without_attr (text_of names attribute)) before → later ≡ put_node k (without_attr name) old
+unset_nodes names attribute k at same e = e ∙ (λ i. put_node k (without_attr (text_is names attribute _ at i)) (same i))

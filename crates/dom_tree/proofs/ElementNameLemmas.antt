@@ -16,20 +16,16 @@ after_two x y xs (suc zero) h = absurd (omega arith)
 after_two x y xs (suc (suc i)) h = let same : i ≡ suc (suc i) - 2 = omega arith in ap (slice_get xs) same
 
 -- the classes come after the tag, and after the id where there is one
-module _ (now : List ElementName) (tag : Characters) (names : List Characters) (id : Option ℕ) (classes : List Characters) (class : Characters) (view : names_with tag (option_map (text_of names) id) classes ≡ now) where
+module _ (tag : Characters) (names : List Characters) (id : Option ℕ) (classes : List Characters) {now : List ElementName} (view : names_with tag (option_map (text_of names) id) classes ≡ now) where
   with_id : (i : ℕ) (o : Option ℕ) → id ≡ o → slice_get now i ≡ slice_get (names_with tag (option_map (text_of names) o) classes) i
   with_id i o e =
       ap (λ l. slice_get l i) (sym view) ∙ ap (λ p. slice_get (names_with tag (option_map (text_of names) p) classes) i) e
 
-  mapped : (i : ℕ) → slice_get classes i ≡ Some class → slice_get (map (named_as Class) classes) i ≡ Some (named_as Class class)
+  mapped : (i : ℕ) {class : Characters} → slice_get classes i ≡ Some class → slice_get (map (named_as Class) classes) i ≡ Some (named_as Class class)
   mapped i h = slice_get-map (named_as Class) classes i ∙ ap (option_map (named_as Class)) h
 
-  pub class_after_id : (i name : ℕ) → id ≡ Some name → 2 ≤ i → slice_get classes (i - 2) ≡ Some class → slice_get now i ≡ Some (named_as Class class)
-  class_after_id i name e l h = with_id i (Some name) e ∙ (after_two _ _ (map (named_as Class) classes) i l ∙ mapped (i - 2) h)
+  pub class_after_id : (i : ℕ) {name : ℕ} {class : Characters} → id ≡ Some name → 2 ≤ i → slice_get classes (i - 2) ≡ Some class → slice_get now i ≡ Some (named_as Class class)
+  class_after_id i {name} e l h = with_id i (Some name) e ∙ (after_two _ _ (map (named_as Class) classes) i l ∙ mapped (i - 2) h)
 
-  pub class_after_tag : (i : ℕ) → id ≡ None → 1 ≤ i → slice_get classes (i - 1) ≡ Some class → slice_get now i ≡ Some (named_as Class class)
+  pub class_after_tag : (i : ℕ) {class : Characters} → id ≡ None → 1 ≤ i → slice_get classes (i - 1) ≡ Some class → slice_get now i ≡ Some (named_as Class class)
   class_after_tag i e l h = with_id i None e ∙ (after_one _ (map (named_as Class) classes) i l ∙ mapped (i - 1) h)
-
--- names of equal parts are equal
-pub same_names_with : (tag t : Characters) (id i : Option Characters) (classes c : List Characters) → tag ≡ t → id ≡ i → classes ≡ c → names_with tag id classes ≡ names_with t i c
-same_names_with tag t id i classes c e f g = λ j. names_with (e j) (f j) (g j)

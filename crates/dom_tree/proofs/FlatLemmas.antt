@@ -1,48 +1,32 @@
 -- Links whose children are parts of one flat list, after one more.
-use Rattle.std.proofs.Common.{◌≡◌, ℕ, ◌+◌, ◌<◌, ◌≤◌, List, [], ◌∷◌, ◌++◌, map, length, take, get_or, Some, IfSome, option_map, slice_get, sym, ap, ◌∙◌, subst, refl, arith, length-append}
-use Rattle.std.proofs.lemmas.List.{map-append, take_more}
-use Rattle.std.proofs.lemmas.Option.{slice_get-map, slice_get_read}
+use Rattle.std.proofs.Common.{◌≡◌, ℕ, ◌+◌, ◌<◌, List, [], ◌∷◌, ◌++◌, map, length, take, get_or, sym, ◌∙◌, subst, refl}
+use Rattle.std.proofs.lemmas.List.{map-append}
+use Rattle.base_model.proofs.Lists.{each-append}
 use Rattle.scene_model.proofs.Lists.{each_weaker}
 use Rattle.dom_tree.specs.declared.links.NodeLink.{NodeLink}
 use Rattle.dom_tree.specs.declared.links.LinkRow.{LinkRow}
-use Rattle.dom_tree.specs.Kept.{part_of}
 use Rattle.dom_tree.specs.Links.{AreWithin, link_seen}
-use Rattle.dom_tree.proofs.ColumnLemmas.{part_kept, part_last}
-use Rattle.dom_tree.proofs.Places.{each_at}
-use Rattle.base_model.proofs.Lists.{each-append}
+use Rattle.dom_tree.proofs.ColumnLemmas.{IsWithin, last_within, part_kept, part_last, still_within}
+use Rattle.dom_tree.proofs.Places.{read_at, taken}
 
-seen_kept : (flat more : List ℕ) (rows : List LinkRow) → AreWithin flat rows → map (link_seen (flat ++ more)) rows ≡ map (link_seen flat) rows
-seen_kept flat more [] are = refl
-seen_kept flat more (row ∷ rows) are = λ i. record { children = part_kept flat more row.children are.0 i; place = row.place } ∷ seen_kept flat more rows are.1 i
+-- the rows of the links up to one
+pub record AreFlat (found : List NodeLink) (flat : List ℕ) (rows : List LinkRow) (k : ℕ) : Type 0 where
+  pub within : AreWithin flat rows
+  pub seen : map (link_seen flat) rows ≡ take k found
 
-module _ (flat later more : List ℕ) (rows longer : List LinkRow) (row : LinkRow) (found : List NodeLink) (k : ℕ) (link : NodeLink) (are : AreWithin flat rows) (seen : map (link_seen flat) rows ≡ take k found) (l : k < length found) (is : link ≡ get_or found k link) (same : more ≡ link.children) (is_first : row.children.first ≡ length flat) (is_count : row.children.count ≡ length more) (is_place : row.place ≡ link.place) (e : later ≡ flat ++ more) (f : longer ≡ rows ++ row ∷ []) where
-  pub within_next : AreWithin later longer
-  within_next =
-      subst (AreWithin later) (sym f) (each-append (λ (row : LinkRow). row.children.first + row.children.count ≤ length later) rows (row ∷ [])
-      (each_weaker (λ (row : LinkRow). row.children.first + row.children.count ≤ length flat) (λ row. row.children.first + row.children.count ≤ length later) (λ row h. omega (arith, ap length e, length-append flat more)) rows are)
-      (omega (arith, ap length e, length-append flat more), tt))
+seen_kept : (flat more : List ℕ) {later : List ℕ} (e : later ≡ flat ++ more) (rows : List LinkRow) → AreWithin flat rows → map (link_seen later) rows ≡ map (link_seen flat) rows
+seen_kept flat more e [] are = refl
+seen_kept flat more e (row ∷ rows) are = λ i. record { children = part_kept flat more e row.children are.0 i; place = row.place } ∷ seen_kept flat more e rows are.1 i
 
-  last : link_seen later row ≡ link
-  last =
-      let here : part_of later row.children ≡ link.children = ap (λ l. part_of l row.children) e ∙ (part_last flat more row.children is_first is_count ∙ same) in
-      λ i. record { children = here i; place = is_place i }
-
-  pub seen_next : map (link_seen later) longer ≡ take (k + 1) found
-  seen_next =
-      ap (map (link_seen later)) f ∙ (map-append (link_seen later) rows (row ∷ [])
-      ∙ ((λ i. (ap (λ l. map (link_seen l) rows) e ∙ (seen_kept flat more rows are ∙ seen)) i ++ last i ∷ [])
-      ∙ sym (take_more found k link l ∙ ap (λ x. take k found ++ x ∷ []) (sym is))))
-
--- what the links show of an element
-module _ (flat : List ℕ) (rows : List LinkRow) (are : AreWithin flat rows) (links : List NodeLink) (view : map (link_seen flat) rows ≡ links) (i : ℕ) (row : LinkRow) (l : i < length rows) (is : row ≡ get_or rows i row) where
-  here : slice_get rows i ≡ Some row
-  here = slice_get_read rows (length rows) i row refl l is
-
-  pub row_within : row.children.first + row.children.count ≤ length flat
-  row_within = each_at (λ (row : LinkRow). row.children.first + row.children.count ≤ length flat) rows i row are here
-
-  pub link_at : slice_get links i ≡ Some (link_seen flat row)
-  link_at = sym (ap (λ l. slice_get l i) view) ∙ (slice_get-map (link_seen flat) rows i ∙ ap (option_map (link_seen flat)) here)
-
-  pub shown : (P : NodeLink → Type 0) → P (link_seen flat row) → IfSome (slice_get links i) P
-  shown P h = subst (λ o. IfSome o P) (sym link_at) h
+-- after one more
+module _ {found : List NodeLink} {flat : List ℕ} {rows : List LinkRow} {k : ℕ} {link : NodeLink} (are : AreFlat found flat rows k) (l : k < length found) (is : link ≡ get_or found k link) where
+  pub flat_next : {more later : List ℕ} {longer : List LinkRow} (row : LinkRow) → more ≡ link.children → later ≡ flat ++ more → longer ≡ rows ++ row ∷ [] → row.children.first ≡ length flat
+      → row.children.count ≡ length more → row.place ≡ link.place → AreFlat found later longer (k + 1)
+  flat_next {more} {later} row same e f first count place =
+      let within = λ (row : LinkRow). IsWithin later row.children in
+      let last : link_seen later row ≡ link = λ i. record { children = (part_last flat more e row.children first count ∙ same) i; place = place i } in
+      subst (λ l. AreFlat found later l (k + 1)) (sym f) (record {
+        within = each-append within rows (row ∷ []) (each_weaker (λ (row : LinkRow). IsWithin flat row.children) within (λ row h. still_within flat more e row.children h) rows are.within)
+            (last_within flat more e row.children first count, tt);
+        seen = map-append (link_seen later) rows (row ∷ []) ∙ ((λ i. (seen_kept flat more e rows are.within ∙ are.seen) i ++ last i ∷ []) ∙ sym (taken found k link (read_at found l is)));
+      })

@@ -1,21 +1,25 @@
 -- The labels of nodes: the id of a value, and the labels so far after one more.
-use Rattle.std.proofs.Common.{◌≡◌, ℕ, suc, ◌<◌, ◌==◌, Bool, cond, List, [], ◌∷◌, ◌++◌, length, codes, Option, Some, None, IfSome, option_map, option_and_then, unwrap_or, slice_get, sym, ap, ◌∙◌, subst, refl, arith, inl, inr}
+use Rattle.std.proofs.Common.{◌≡◌, ℕ, suc, ◌+◌, ◌<◌, ◌==◌, Bool, cond, sym, ap, ◌∙◌, subst, subst₂, refl, arith, inl, inr}
+use Rattle.std.proofs.Common.{List, [], ◌∷◌, ◌++◌, length, codes, Option, Some, None, IfSome, option_map, option_and_then, unwrap_or, slice_get}
 use Rattle.std.specs.FinMap as finmap
 use Rattle.std.specs.Str.{chars, IsUtf8}
 use Rattle.std.proofs.lemmas.Bool.{cases_eq, ne_eqb}
 use Rattle.std.proofs.lemmas.List.{length_push}
-use Rattle.std.proofs.lemmas.Option.{slice_get_within}
+use Rattle.std.proofs.lemmas.Option.{IfSome_then, slice_get_within}
 use Rattle.std.proofs.lemmas.Str.{chars-nil, IsUtf8-nil}
-use Rattle.base_model.proofs.Lists.{get_push_below, get_push_last, slice_get_some}
 use Rattle.base_model.specs.Text.{is_empty_text, same_text}
+use Rattle.base_model.proofs.Lists.{get_push_below, get_push_last, slice_get_some}
 use Rattle.stylo_base.proofs.TextLemmas.{same_test}
 use Rattle.scene_model.specs.Element.{Characters}
 use Rattle.scene_model.specs.Nodes.{Node}
 use Rattle.dom_tree.specs.declared.labels.Label.{Label}
 use Rattle.dom_tree.specs.Classes.{list_of}
 use Rattle.dom_tree.specs.Kept.{Table, text_of}
-use Rattle.dom_tree.specs.Labels.{IsLabel, KeepsLists, class_words, id_text}
+use Rattle.dom_tree.specs.Labels.{AreCuts, IsLabel, IsLabelOf, KeepsLists, class_words, id_text}
+use Rattle.dom_tree.proofs.ColumnLemmas.{AtIndex}
 use Rattle.dom_tree.proofs.NameLemmas.{text_is}
+use Rattle.dom_tree.proofs.Parts.{Lists, Cuts}
+use Rattle.dom_tree.proofs.Places.{at_some, if_some}
 
 no_length : (b : List ℕ) → is_empty_text b ≡ (length b == 0)
 no_length [] = refl
@@ -25,66 +29,87 @@ no_length (c ∷ b) = sym (ne_eqb (suc (length b)) 0 (λ e. omega arith))
 pub empty_test : (b : List ℕ) (e : Bool) → IsUtf8 b → e ≡ (length b == 0) → is_empty_text (chars b) ≡ e
 empty_test b e u h = sym (same_test b [] u IsUtf8-nil ∙ ap (same_text (chars b)) chars-nil) ∙ (no_length b ∙ sym h)
 
--- the id of a value
-pub id_among-is : (names : List Characters) (name : ℕ) (value : Option ℕ) (b : List ℕ) (e : Bool) → value ≡ Some name → slice_get names name ≡ Some (chars b) → IsUtf8 b → e ≡ (length b == 0) → cond e None (Some (text_of names name)) ≡ option_and_then id_text (option_map (text_of names) value)
-id_among-is names name value b e is at u h =
-    let empty : is_empty_text (text_of names name) ≡ e = ap is_empty_text (text_is names name (chars b) at) ∙ empty_test b e u h in
-    ap (λ c. cond c None (Some (text_of names name))) (sym empty) ∙ sym (ap (λ v. option_and_then id_text (option_map (text_of names) v)) is)
+-- the id of a value, whose text was asked whether it is empty
+pub id_among-is : (names : List Characters) (b : List ℕ) {name : ℕ} {value : Option ℕ} {e empty : Bool} → value ≡ Some name → slice_get names name ≡ Some (chars b) → IsUtf8 b
+    → e ≡ (length b == 0) → e ≡ empty → cond empty None (Some (text_of names name)) ≡ option_and_then id_text (option_map (text_of names) value)
+id_among-is names b {name} {value} {e} is at u h f =
+    ap (λ c. cond c None (Some (text_of names name))) (sym (ap is_empty_text (text_is names name (chars b) at) ∙ (empty_test b e u h ∙ f)))
+    ∙ sym (ap (λ v. option_and_then id_text (option_map (text_of names) v)) is)
 
 -- lists that were appended stay
 
-list_kept : (old new : List (List Characters)) (index : Option ℕ) → KeepsLists old new → IfSome index (λ k. k < length old) → list_of new index ≡ list_of old index
-list_kept old new None kept h = refl
-list_kept old new (Some k) kept h =
-    let (list, at) = slice_get_some old k h in
-    ap (λ o. unwrap_or o []) (kept k list at) ∙ sym (ap (λ o. unwrap_or o []) at)
-
-index_kept : (old new : List (List Characters)) (index : Option ℕ) → KeepsLists old new → IfSome index (λ k. k < length old) → IfSome index (λ k. k < length new)
-index_kept old new None kept h = tt
+index_kept : (old new : Lists) (index : Option ℕ) → KeepsLists old new → IfSome index (λ k. k < length old) → (list_of new index ≡ list_of old index) × IfSome index (λ k. k < length new)
+index_kept old new None kept h = (refl, tt)
 index_kept old new (Some k) kept h =
     let (list, at) = slice_get_some old k h in
-    slice_get_within new k list (kept k list at)
+    (ap (λ o. unwrap_or o []) (kept k list at) ∙ sym (ap (λ o. unwrap_or o []) at), slice_get_within new k list (kept k list at))
 
-pub label_kept : (names : List Characters) (old new : List (List Characters)) (node : Node) (label : Label) → KeepsLists old new → IsLabel names old node label → IsLabel names new node label
-label_kept names old new node label kept is = record {
-  id = is.id;
-  named = is.named;
-  classes = list_kept old new label.classes kept is.listed ∙ is.classes;
-  listed = index_kept old new label.classes kept is.listed;
-}
+pub label_kept : {old new : Lists} {names : List Characters} {node : Node} {label : Label} → KeepsLists old new → IsLabel names old node label → IsLabel names new node label
+label_kept {old} {new} {label = label} kept is =
+    let (same, within) = index_kept old new label.classes kept is.listed in
+    record { id = is.id; named = is.named; classes = same ∙ is.classes; listed = within }
 
--- the labels so far, after one more
-abbrev pub AreSoFar : Table → List (List Characters) → List Label → Type 0
-AreSoFar table lists labels =
-    (i : ℕ) → i < length labels → IfSome (slice_get labels i) (λ label. IfSome (slice_get table.nodes i) (λ node. IsLabel table.names lists node label))
+-- the label at an index is that of the node there
 
-pub if_both : {X Y : Type 0} (P Q : X → Y → Type 0) (a : Option X) (b : Option Y) → ((x : X) (y : Y) → P x y → Q x y) → IfSome a (λ x. IfSome b (P x)) → IfSome a (λ x. IfSome b (Q x))
-if_both P Q None b f h = tt
-if_both P Q (Some x) None f h = tt
-if_both P Q (Some x) (Some y) f h = f x y h
+abbrev pub LabelledAt : Table → Lists → List Label → ℕ → Type 0
+LabelledAt table lists labels i = IfSome (slice_get labels i) (λ label. AtIndex table i (IsLabelOf table.names lists label))
 
-if_made : {X : Type 0} (P Q R : X → Type 0) (o : Option X) → ((x : X) → P x → Q x → R x) → IfSome o P → IfSome o Q → IfSome o R
-if_made P Q R None f p q = tt
-if_made P Q R (Some x) f p q = f x p q
+module _ (table : Table) (lists : Lists) (labels : List Label) (i : ℕ) where
+  pub labelled_at : {label : Label} {node : Node} → slice_get labels i ≡ Some label → slice_get table.nodes i ≡ Some node → IsLabel table.names lists node label → LabelledAt table lists labels i
+  labelled_at {label} there at is =
+      if_some (λ label. AtIndex table i (IsLabelOf table.names lists label)) there (if_some (IsLabelOf table.names lists label) at is)
 
-module _ (table : Table) (old new : List (List Characters)) (labels longer : List Label) (label : Label) (k : ℕ) (id value : Option ℕ) (so_far : AreSoFar table old labels) (kept : KeepsLists old new) (count : length labels ≡ k) (l : k < length table.nodes) (is_id : IfSome (slice_get table.nodes k) (λ node. option_map (text_of table.names) id ≡ finmap.get node.attrs (chars (codes "id")))) (is_class : IfSome (slice_get table.nodes k) (λ node. option_map (text_of table.names) value ≡ finmap.get node.attrs (chars (codes "class")))) (id_is : option_map (text_of table.names) label.id ≡ option_and_then id_text (option_map (text_of table.names) id)) (id_named : IfSome label.id (λ name. name < length table.names)) (list_is : list_of new label.classes ≡ class_words (option_map (text_of table.names) value)) (listed : IfSome label.classes (λ n. n < length new)) (e : longer ≡ labels ++ label ∷ []) where
-  last : IfSome (slice_get table.nodes k) (λ node. IsLabel table.names new node label)
-  last =
-      if_made (λ (node : Node). option_map (text_of table.names) id ≡ finmap.get node.attrs (chars (codes "id"))) (λ (node : Node). option_map (text_of table.names) value ≡ finmap.get node.attrs (chars (codes "class"))) (λ node. IsLabel table.names new node label) (slice_get table.nodes k)
-      (λ node a b. record { id = id_is ∙ ap (option_and_then id_text) a; named = id_named; classes = list_is ∙ ap class_words b; listed = listed }) is_id is_class
+  -- where it is the same label of the same node
+  pub still_labelled : (later : Table) (longer : Lists) (relabelled : List Label) → slice_get relabelled i ≡ slice_get labels i → slice_get later.nodes i ≡ slice_get table.nodes i
+      → ((label : Label) (node : Node) → IsLabel table.names lists node label → IsLabel later.names longer node label) → LabelledAt table lists labels i → LabelledAt later longer relabelled i
+  still_labelled later longer relabelled e f more h =
+      subst₂ (λ o q. IfSome o (λ label. IfSome q (IsLabelOf later.names longer label))) (sym e) (sym f)
+      (IfSome_then (slice_get labels i) h (λ label is. IfSome_then (slice_get table.nodes i) is (more label)))
 
-  pub labels_push : AreSoFar table new longer
-  labels_push i h = elim (cases_eq i k) [
-    | inl f ↦ subst (λ o. IfSome o (λ label. IfSome (slice_get table.nodes i) (λ node. IsLabel table.names new node label))) (sym (ap (λ l. slice_get l i) e ∙ get_push_last labels i label (f ∙ sym count))) (subst (λ j. IfSome (slice_get table.nodes j) (λ node. IsLabel table.names new node label)) (sym f) last)
-    | inr f ↦
-        let below : i < length labels = omega (arith, ap length e, length_push labels label) in
-        subst (λ o. IfSome o (λ label. IfSome (slice_get table.nodes i) (λ node. IsLabel table.names new node label))) (sym (ap (λ l. slice_get l i) e ∙ get_push_below labels i label below))
-        (if_both (λ label node. IsLabel table.names old node label) (λ label node. IsLabel table.names new node label) (slice_get labels i) (slice_get table.nodes i) (λ label node is. label_kept table.names old new node label kept is) (so_far i below))
-  ]
+-- the value of an attribute of the node at an index
+abbrev pub HasValue : Table → ℕ → Characters → Option ℕ → Type 0
+HasValue table k name value = AtIndex table k (λ node. option_map (text_of table.names) value ≡ finmap.get node.attrs name)
 
-pub labels_next : (table : Table) (names : List Characters) (old new : List (List Characters)) (labels longer : List Label) (label : Label) (k : ℕ) (id value : Option ℕ) → names ≡ table.names → AreSoFar table old labels → KeepsLists old new → length labels ≡ k → k < length table.nodes → IfSome (slice_get table.nodes k) (λ node. option_map (text_of table.names) id ≡ finmap.get node.attrs (chars (codes "id"))) → IfSome (slice_get table.nodes k) (λ node. option_map (text_of table.names) value ≡ finmap.get node.attrs (chars (codes "class"))) → option_map (text_of names) label.id ≡ option_and_then id_text (option_map (text_of names) id) → IfSome label.id (λ name. name < length names) → list_of new label.classes ≡ class_words (option_map (text_of names) value) → IfSome label.classes (λ n. n < length new) → longer ≡ labels ++ label ∷ [] → AreSoFar table new longer
-labels_next table names old new labels longer label k id value same so_far kept count l is_id is_class id_is id_named list_is listed e =
-    labels_push table old new labels longer label k id value so_far kept count l is_id is_class
-    (subst (λ n. option_map (text_of n) label.id ≡ option_and_then id_text (option_map (text_of n) id)) same id_is)
-    (subst (λ n. IfSome label.id (λ name. name < length n)) same id_named)
-    (subst (λ n. list_of new label.classes ≡ class_words (option_map (text_of n) value)) same list_is) listed e
+abbrev pub id_name : Characters
+id_name = chars (codes "id")
+
+abbrev pub class_name : Characters
+class_name = chars (codes "class")
+
+-- the labels so far, and the lists that were cut for them
+pub record AreLabelsSoFar (table : Table) (lists : Lists) (labels : List Label) (cuts : Cuts) (k : ℕ) : Type 0 where
+  pub count : length labels ≡ k
+  pub cuts_of : AreCuts table.names lists cuts
+  pub each : (i : ℕ) → i < length labels → LabelledAt table lists labels i
+
+-- a label that was made of a value of `id` and one of `class`
+pub record IsMadeOf (names : List Characters) (lists : Lists) (id value : Option ℕ) (label : Label) : Type 0 where
+  pub id_is : option_map (text_of names) label.id ≡ option_and_then id_text (option_map (text_of names) id)
+  pub named : IfSome label.id (λ name. name < length names)
+  pub list_is : list_of lists label.classes ≡ class_words (option_map (text_of names) value)
+  pub listed : IfSome label.classes (λ n. n < length lists)
+
+-- after one more
+module _ {table : Table} {old : Lists} {labels : List Label} {cuts : Cuts} {k : ℕ} (so_far : AreLabelsSoFar table old labels cuts k) where
+  pub labels_next : {new : Lists} {names : List Characters} {id value : Option ℕ} {label : Label} {longer : List Label} {recut : Cuts}
+      → KeepsLists old new → k < length table.nodes → names ≡ table.names → IsMadeOf names new id value label
+      → HasValue table k id_name id → HasValue table k class_name value → AreCuts names new recut → longer ≡ labels ++ label ∷ [] → AreLabelsSoFar table new longer recut (k + 1)
+  labels_next {new = new} {id = id} {value = value} {label = label} {recut = recut} kept l same named is_id is_class cut e =
+      let (node, at) = slice_get_some table.nodes k l in
+      let made = subst (λ n. IsMadeOf n new id value label) same named in
+      let is : IsLabel table.names new node label = record {
+        id = made.id_is ∙ ap (option_and_then id_text) (at_some (λ (node : Node). option_map (text_of table.names) id ≡ finmap.get node.attrs id_name) at is_id);
+        named = made.named;
+        classes = made.list_is ∙ ap class_words (at_some (λ (node : Node). option_map (text_of table.names) value ≡ finmap.get node.attrs class_name) at is_class);
+        listed = made.listed;
+      } in
+      record {
+        count = omega (arith, ap length e, length_push labels label, so_far.count);
+        cuts_of = subst (λ n. AreCuts n new recut) same cut;
+        each = λ i h. elim (cases_eq i k) [
+          | inl f ↦ labelled_at table new _ i (ap (λ l. slice_get l i) e ∙ get_push_last labels i label (f ∙ sym so_far.count)) (ap (slice_get table.nodes) f ∙ at) is
+          | inr f ↦
+              let below : i < length labels = omega (arith, h, ap length e, length_push labels label, so_far.count) in
+              still_labelled table old labels i table new _ (ap (λ l. slice_get l i) e ∙ get_push_below labels i label below) refl (λ label node was. label_kept kept was) (so_far.each i below)
+        ];
+      }

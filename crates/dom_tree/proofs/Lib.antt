@@ -1,5 +1,6 @@
 pub mod Places
 pub mod NodeLists
+pub mod Parts
 pub mod NameLemmas
 pub mod AttrLemmas
 pub mod PutLemmas

@@ -1,55 +1,60 @@
 -- The place of a name among rows that are sorted, and the rows after a write there.
-use Rattle.std.proofs.Common.{◌≡◌, ◌≢◌, ℕ, zero, suc, ◌+◌, ◌<◌, ◌≤◌, ◌==◌, Bool, true, false, cond, nat_lt, List, [], ◌∷◌, length, get_or, Some, slice_get, slice_set, sym, ap, ◌∙◌, refl, arith}
+use Rattle.std.proofs.Common.{◌≡◌, ℕ, zero, suc, ◌+◌, ◌<◌, ◌≤◌, ◌==◌, Bool, true, false, cond, nat_lt, List, [], ◌∷◌, length, get_or, slice_get, slice_set, sym, ap, ◌∙◌, refl, arith}
 use Rattle.std.specs.List.{prefix_len, insert}
-use Rattle.std.proofs.lemmas.Bool.{cond-true, cond-false, eq-eqb, ne_eqb, eqb-false, eqb-true}
-use Rattle.std.proofs.lemmas.Option.{get_or_from_slice_get, slice_get_within, slice_get_read}
+use Rattle.std.specs.Option.{option_map_or}
+use Rattle.std.proofs.lemmas.Bool.{cond-true, cond-false, eqb-true}
+use Rattle.std.proofs.lemmas.Option.{get_or_from_slice_get, slice_get_past}
 use Rattle.dom_tree.specs.declared.node_columns.AttrRow.{AttrRow}
 use Rattle.dom_tree.specs.Kept.{put_row}
+use Rattle.dom_tree.proofs.Places.{read_at}
 
 abbrev pub place : ℕ → List AttrRow → ℕ
 place name rows = prefix_len (λ row. nat_lt row.name name) rows
 
--- a write at the place, where the name is there
-pub put_set : (name value i : ℕ) (rows : List AttrRow) (row : AttrRow) → place name rows ≡ i → i < length rows → row ≡ get_or rows i row → row.name ≡ name → slice_set rows i (record { name = row.name; value = value }) ≡ put_row name value rows
-put_set name value i [] row e l is same = absurd (omega arith)
-put_set name value i (first ∷ rows) row e l is same = by_order (λ j e l is. put_set name value j rows row e l is same) (nat_lt first.name name) i refl e l is
-  where
-    by_order : ((j : ℕ) → place name rows ≡ j → j < length rows → row ≡ get_or rows j row → slice_set rows j (record { name = row.name; value = value }) ≡ put_row name value rows) → (b : Bool) (i : ℕ) → nat_lt first.name name ≡ b → cond b (1 + place name rows) 0 ≡ i → i < suc (length rows) → row ≡ get_or (first ∷ rows) i row → slice_set (first ∷ rows) i (record { name = row.name; value = value }) ≡ cond b (first ∷ put_row name value rows) (cond (first.name == name) (record { name = name; value = value } ∷ rows) (record { name = name; value = value } ∷ first ∷ rows))
-    by_order later true zero h e l is = absurd (omega (arith, e))
-    by_order later true (suc i) h e l is = ap (λ l. first ∷ l) (later i (omega (arith, e)) (omega arith) is)
-    by_order later false zero h e l is =
-        let here : first.name ≡ name = ap (λ (r : AttrRow). r.name) (sym is) ∙ same in
-        ap (λ n. record { name = n; value = value } ∷ rows) same ∙ sym (cond-true (first.name == name) (record { name = name; value = value } ∷ rows) (record { name = name; value = value } ∷ first ∷ rows) (eq-eqb first.name name here))
-    by_order later false (suc i) h e l is = absurd (omega (arith, e))
+-- the row at an index is that of the name
+abbrev pub is_there : ℕ → List AttrRow → ℕ → Bool
+is_there name rows i = option_map_or (λ row. row.name == name) (slice_get rows i) false
 
--- a row more at the place, where the name is not there
-pub put_insert : (name value i : ℕ) (rows : List AttrRow) → place name rows ≡ i → ((row : AttrRow) → slice_get rows i ≡ Some row → row.name ≢ name) → insert rows i (record { name = name; value = value }) ≡ put_row name value rows
-put_insert name value i [] e other = none i
-  where
-    none : (i : ℕ) → insert {X = AttrRow} [] i (record { name = name; value = value }) ≡ record { name = name; value = value } ∷ []
-    none zero = refl
-    none (suc i) = refl
-put_insert name value i (first ∷ rows) e other = by_order (λ j e other. put_insert name value j rows e other) (nat_lt first.name name) i refl e other
-  where
-    by_order : ((j : ℕ) → place name rows ≡ j → ((row : AttrRow) → slice_get rows j ≡ Some row → row.name ≢ name) → insert rows j (record { name = name; value = value }) ≡ put_row name value rows) → (b : Bool) (i : ℕ) → nat_lt first.name name ≡ b → cond b (1 + place name rows) 0 ≡ i → ((row : AttrRow) → slice_get (first ∷ rows) i ≡ Some row → row.name ≢ name) → insert (first ∷ rows) i (record { name = name; value = value }) ≡ cond b (first ∷ put_row name value rows) (cond (first.name == name) (record { name = name; value = value } ∷ rows) (record { name = name; value = value } ∷ first ∷ rows))
-    by_order later true zero h e other = absurd (omega (arith, e))
-    by_order later true (suc i) h e other = ap (λ l. first ∷ l) (later i (omega (arith, e)) other)
-    by_order later false zero h e other =
-        sym (cond-false (first.name == name) (record { name = name; value = value } ∷ rows) (record { name = name; value = value } ∷ first ∷ rows) (ne_eqb first.name name (other first refl)))
-    by_order later false (suc i) h e other = absurd (omega (arith, e))
+pub there_read : (name : ℕ) (rows : List AttrRow) {i : ℕ} {row : AttrRow} {b : Bool} → i < length rows → row ≡ get_or rows i row → (row.name == name) ≡ b → is_there name rows i ≡ b
+there_read name rows l is e = ap (λ o. option_map_or (λ (row : AttrRow). row.name == name) o false) (read_at rows l is) ∙ e
 
--- the name is not there
+pub there_past : (name : ℕ) (rows : List AttrRow) (i : ℕ) → length rows ≤ i → is_there name rows i ≡ false
+there_past name rows i h = ap (λ o. option_map_or (λ (row : AttrRow). row.name == name) o false) (slice_get_past rows i h)
 
-pub other_name : (name i : ℕ) (rows : List AttrRow) (row : AttrRow) → row ≡ get_or rows i row → (row.name == name) ≡ false → (here : AttrRow) → slice_get rows i ≡ Some here → here.name ≢ name
-other_name name i rows row is differs here at same =
-    let one : row ≡ here = is ∙ get_or_from_slice_get rows i here row at in
-    eqb-false row.name name differs (ap (λ (r : AttrRow). r.name) one ∙ same)
+module _ (name value : ℕ) where
+  abbrev new : AttrRow
+  new = record { name = name; value = value }
 
-pub past_rows : (name i : ℕ) (rows : List AttrRow) → length rows ≤ i → (here : AttrRow) → slice_get rows i ≡ Some here → here.name ≢ name
-past_rows name i rows h here at same = absurd (omega (arith, slice_get_within rows i here at))
+  -- a write over the row of the name, or else a row more
+  abbrev put_at : List AttrRow → ℕ → List AttrRow
+  put_at rows i = cond (is_there name rows i) (slice_set rows i new) (insert rows i new)
 
--- the name is there
-pub same_row : (name i : ℕ) (rows : List AttrRow) (here row : AttrRow) → i < length rows → here ≡ get_or rows i here → row ≡ get_or rows i row → (here.name == name) ≡ true → row.name ≡ name
-same_row name i rows here row l is also same =
-    let one : row ≡ here = also ∙ get_or_from_slice_get rows i here row (slice_get_read rows (length rows) i here refl l is) in
-    ap (λ (r : AttrRow). r.name) one ∙ eqb-true here.name name same
+  after_one : (row : AttrRow) (b : Bool) (xs ys : List AttrRow) → row ∷ cond b xs ys ≡ cond b (row ∷ xs) (row ∷ ys)
+  after_one row true xs ys = refl
+  after_one row false xs ys = refl
+
+  put_on : (row : AttrRow) (rows : List AttrRow) (b : Bool) (i : ℕ) → cond b (1 + place name rows) 0 ≡ i → ((j : ℕ) → place name rows ≡ j → put_row name value rows ≡ put_at rows j)
+      → cond b (row ∷ put_row name value rows) (cond (row.name == name) (new ∷ rows) (new ∷ row ∷ rows)) ≡ put_at (row ∷ rows) i
+  put_on row rows true zero e rest = absurd (omega (arith, e))
+  put_on row rows true (suc i) e rest = ap (λ l. row ∷ l) (rest i (omega (arith, e))) ∙ after_one row (is_there name rows i) _ _
+  put_on row rows false zero e rest = refl
+  put_on row rows false (suc i) e rest = absurd (omega (arith, e))
+
+  put_is : (rows : List AttrRow) (i : ℕ) → place name rows ≡ i → put_row name value rows ≡ put_at rows i
+  put_is [] zero e = refl
+  put_is [] (suc i) e = refl
+  put_is (row ∷ rows) i e = put_on row rows (nat_lt row.name name) i e (λ j f. put_is rows j f)
+
+  -- the place was found in rows that are these
+  module _ (rows : List AttrRow) {shown : List AttrRow} {i : ℕ} (e : i ≡ place name shown) (s : shown ≡ rows) where
+    put_here : put_row name value rows ≡ put_at rows i
+    put_here = put_is rows i (sym (e ∙ ap (place name) s))
+
+    pub put_set : {here row : AttrRow} → i < length rows → here ≡ get_or rows i here → row ≡ get_or rows i row → (here.name == name) ≡ true
+        → slice_set rows i (record { name = row.name; value = value }) ≡ put_row name value rows
+    put_set {here} {row} l is also same =
+        let named = ap (λ (r : AttrRow). r.name) (also ∙ get_or_from_slice_get rows i here row (read_at rows l is)) ∙ eqb-true here.name name same in
+        ap (λ n. slice_set rows i (record { name = n; value = value })) named ∙ sym (put_here ∙ cond-true _ (slice_set rows i new) (insert rows i new) (there_read name rows l is same))
+
+    pub put_insert : is_there name rows i ≡ false → insert rows i new ≡ put_row name value rows
+    put_insert other = sym (put_here ∙ cond-false _ (slice_set rows i new) (insert rows i new) other)

@@ -18,8 +18,9 @@ after_left x [] = refl
 after_left x (y ∷ xs) = after_step x y xs (y == x) refl (after_left x xs)
 
 -- the children of its parent from its place on
-pub after_place : (doc : List Element) → IsValid doc → (x p place : ℕ) (list : List ℕ) → IsElement doc x → parent_of doc x ≡ Some p → place ≡ place_of doc x → list ≡ children doc p → drop (place + 1) list ≡ right_of x (siblings doc x)
-after_place doc v x p place list there parent e f =
+pub after_place : {doc : List Element} {p place : ℕ} {list : List ℕ} (x : ℕ) → IsValid doc → IsElement doc x → parent_of doc x ≡ Some p → place ≡ place_of doc x → list ≡ children doc p
+    → drop (place + 1) list ≡ right_of x (siblings doc x)
+after_place {doc} {p} {place} {list} x v there parent e f =
     ap (λ n. drop (n + 1) list) e
     ∙ (ap (λ l. drop (place_of doc x + 1) l) (f ∙ sym (siblings-children doc v x p there parent))
     ∙ after_left x (siblings doc x))

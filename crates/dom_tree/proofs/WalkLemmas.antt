@@ -1,5 +1,5 @@
 -- The walk of a list of nodes: the numbers so far, and what is ahead of it, the next one last.
-use Rattle.std.proofs.Common.{◌≡◌, ℕ, ◌+◌, ◌-◌, ◌<◌, ◌≤◌, List, [], ◌∷◌, ◌++◌, flat_map, length, reverse, IfSome, slice_get, sym, ap, ◌∙◌, subst, arith, append_assoc, append-nil, length-append}
+use Rattle.std.proofs.Common.{◌≡◌, ℕ, ◌-◌, ◌<◌, ◌≤◌, List, [], ◌∷◌, ◌++◌, flat_map, length, reverse, IfSome, slice_get, sym, ap, ◌∙◌, subst, arith, append_assoc, append-nil, length-append}
 use Rattle.std.specs.List.{AllByRecursion}
 use Rattle.std.proofs.lemmas.List.{reverse-append, reverse-reverse}
 use Rattle.std.proofs.lemmas.List.Concat.{flat_map-append}
@@ -11,6 +11,7 @@ use Rattle.scene_model.proofs.TreeOrder.{subtree-listed}
 use Rattle.dom_tree.specs.declared.links.NodeLink.{NodeLink}
 use Rattle.dom_tree.specs.Links.{AreLinks}
 use Rattle.base_model.proofs.Lists.{each-append}
+use Rattle.dom_tree.proofs.Places.{at_some}
 
 -- the subtrees of what is ahead
 abbrev pub still : List Node → List ℕ → List ℕ
@@ -23,48 +24,53 @@ pub record IsWalk (list : List Node) (order ahead : List ℕ) : Type 0 where
   pub inside : AreNumbersOf list (reverse ahead)
   pub whole : order ++ still list ahead ≡ tree_order list
 
-pub walk_begins : (list : List Node) (order ahead : List ℕ) → IsNodeList list → order ≡ [] → ahead ≡ 1 ∷ [] → IsWalk list order ahead
+pub walk_begins : {list : List Node} {order ahead : List ℕ} → IsNodeList list → order ≡ [] → ahead ≡ 1 ∷ [] → IsWalk list order ahead
 unfolding tree_order
-walk_begins list order ahead v e f =
+walk_begins {list} {order} {ahead} v e f =
     let one : IsWalk list [] (1 ∷ []) = record { inside = ((omega arith, omega (arith, v.some)), tt); whole = append-nil (subtree (listed list) (length list) 1) } in
     subst (λ o. IsWalk list o ahead) (sym e) (subst (IsWalk list []) (sym f) one)
 
-turned : (rest : List ℕ) (x : ℕ) → reverse (rest ++ x ∷ []) ≡ x ∷ reverse rest
-turned rest x = reverse-append rest (x ∷ [])
+-- the children that the links have
+pub linked_children : (list : List Node) (links : List NodeLink) (x : ℕ) (shown : List ℕ) → AreLinks (listed list) links → (0 < x) × (x ≤ length list)
+    → IfSome (slice_get links (x - 1)) (λ link. shown ≡ link.children) → shown ≡ children (listed list) x
+linked_children list links x shown are inside is =
+    at_some (λ (link : NodeLink). shown ≡ link.children) (are.each x inside.0 (omega (arith, length-listed list, inside.1))) is
 
-module _ (list : List Node) (v : IsNodeList list) (order ahead rest : List ℕ) (x : ℕ) (walk : IsWalk list order ahead) (popped : ahead ≡ rest ++ x ∷ []) where
+module _ {list : List Node} (v : IsNodeList list) {order ahead : List ℕ} (rest : List ℕ) (x : ℕ) (walk : IsWalk list order ahead) (popped : ahead ≡ rest ++ x ∷ []) where
+  turned : reverse ahead ≡ x ∷ reverse rest
+  turned = ap reverse popped ∙ reverse-append rest (x ∷ [])
+
   inside : AreNumbersOf list (x ∷ reverse rest)
-  inside = subst (AreNumbersOf list) (ap reverse popped ∙ turned rest x) walk.inside
+  inside = subst (AreNumbersOf list) turned walk.inside
 
   pub next_inside : (0 < x) × (x ≤ length list)
   next_inside = inside.0
 
-  whole : order ++ ((x ∷ flat_map (subtree (listed list) (length list)) (children (listed list) x)) ++ still list rest) ≡ tree_order list
-  whole =
-      ap (λ s. order ++ (s ++ still list rest)) (sym (subtree-listed list v x next_inside.0 next_inside.1)) ∙ (ap (λ l. order ++ flat_map (subtree (listed list) (length list)) l) (sym (ap reverse popped ∙ turned rest x)) ∙ walk.whole)
+  abbrev kids : List ℕ
+  kids = children (listed list) x
 
-  pub walk_goes_on : (order_next ahead_next numbers : List ℕ) → order_next ≡ order ++ x ∷ [] → ahead_next ≡ rest ++ reverse numbers → numbers ≡ children (listed list) x → IsWalk list order_next ahead_next
-  walk_goes_on order_next ahead_next numbers e f same =
-      let below : reverse ahead_next ≡ children (listed list) x ++ reverse rest =
-      ap reverse f ∙ (reverse-append rest (reverse numbers) ∙ (ap (λ l. l ++ reverse rest) (reverse-reverse numbers) ∙ ap (λ l. l ++ reverse rest) same)) in
-      let each : AreNumbersOf list (children (listed list) x) = each_weaker (λ y. (x < y) × (y ≤ length list)) (λ y. (0 < y) × (y ≤ length list)) (λ y h. (omega arith, h.1)) (children (listed list) x) (each_child list v x) in
-      record {
-        inside = subst (AreNumbersOf list) (sym below) (each-append (λ y. (0 < y) × (y ≤ length list)) (children (listed list) x) (reverse rest) each inside.1);
-        whole = ap (λ o. o ++ still list ahead_next) e ∙ (ap (λ l. (order ++ x ∷ []) ++ flat_map (subtree (listed list) (length list)) l) below ∙ (ap (λ l. (order ++ x ∷ []) ++ l) (flat_map-append (subtree (listed list) (length list)) (children (listed list) x) (reverse rest)) ∙ (append_assoc order (x ∷ []) (flat_map (subtree (listed list) (length list)) (children (listed list) x) ++ still list rest) ∙ whole)));
-      }
+  abbrev below : List ℕ → List ℕ
+  below xs = flat_map (subtree (listed list) (length list)) xs
 
--- the walk has one number fewer ahead with each that it puts down
-pub walk_nears_end : (list : List Node) (order order_next ahead ahead_next : List ℕ) (x : ℕ) → IsWalk list order ahead → IsWalk list order_next ahead_next → order_next ≡ order ++ x ∷ [] → length (still list ahead_next) < length (still list ahead)
-walk_nears_end list order order_next ahead ahead_next x walk next e =
-    let now : length order + length (still list ahead) ≡ length (tree_order list) = sym (length-append order (still list ahead)) ∙ ap length walk.whole in
-    let then : length order_next + length (still list ahead_next) ≡ length (tree_order list) = sym (length-append order_next (still list ahead_next)) ∙ ap length next.whole in
-    omega (arith, ap length e, length-append order (x ∷ []))
+  whole : order ++ ((x ∷ below kids) ++ still list rest) ≡ tree_order list
+  whole = ap (λ s. order ++ (s ++ still list rest)) (sym (subtree-listed list v x next_inside.0 next_inside.1)) ∙ (ap (λ l. order ++ below l) (sym turned) ∙ walk.whole)
 
-pub walk_ends : (list : List Node) (order ahead : List ℕ) → IsWalk list order ahead → ahead ≡ [] → order ≡ tree_order list
-walk_ends list order ahead walk e =
-    sym (append-nil order) ∙ (ap (λ l. order ++ still list l) (sym e) ∙ walk.whole)
+  -- its children are put ahead, and it is put down
+  module _ {links : List NodeLink} (numbers : List ℕ) {later next : List ℕ} (are : AreLinks (listed list) links) (seen : IfSome (slice_get links (x - 1)) (λ link. numbers ≡ link.children)) where
+    pub walk_goes_on : later ≡ order ++ x ∷ [] → next ≡ rest ++ reverse numbers → IsWalk list later next
+    walk_goes_on e f =
+        let same = linked_children list links x numbers are next_inside seen in
+        let ahead_is = ap reverse f ∙ (reverse-append rest (reverse numbers) ∙ ap (λ l. l ++ reverse rest) (reverse-reverse numbers ∙ same)) in
+        let each = each_weaker (λ y. (x < y) × (y ≤ length list)) (λ y. (0 < y) × (y ≤ length list)) (λ y h. (omega arith, h.1)) kids (each_child list v x) in
+        record {
+          inside = subst (AreNumbersOf list) (sym ahead_is) (each-append (λ y. (0 < y) × (y ≤ length list)) kids (reverse rest) each inside.1);
+          whole = (λ i. e i ++ below (ahead_is i)) ∙ (ap (λ l. (order ++ x ∷ []) ++ l) (flat_map-append (subtree (listed list) (length list)) kids (reverse rest))
+              ∙ (append_assoc order (x ∷ []) (below kids ++ still list rest) ∙ whole));
+        }
 
--- the children that the links have
-pub linked_children : (list : List Node) (links : List NodeLink) (x : ℕ) (shown : List ℕ) → AreLinks (listed list) links → (0 < x) × (x ≤ length list) → IfSome (slice_get links (x - 1)) (λ link. shown ≡ link.children) → shown ≡ children (listed list) x
-linked_children list links x shown are inside is =
-    subst (λ o. IfSome o (λ (link : NodeLink). shown ≡ link.children)) (are.each x inside.0 (omega (arith, length-listed list, inside.1))) is
+    -- there is less ahead
+    pub walk_nears_end : later ≡ order ++ x ∷ [] → next ≡ rest ++ reverse numbers → length (still list next) < length (still list ahead)
+    walk_nears_end e f =
+        let now = sym (length-append order (still list ahead)) ∙ ap length walk.whole in
+        let then = sym (length-append later (still list next)) ∙ ap length (walk_goes_on e f).whole in
+        omega (arith, now, then, ap length e, length-append order (x ∷ []))

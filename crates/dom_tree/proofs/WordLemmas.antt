@@ -1,5 +1,6 @@
 -- What a word that comes off the front of a text is among its words.
-use Rattle.std.proofs.Common.{◌≡◌, ℕ, zero, suc, ◌<◌, ◌≤◌, Bool, true, false, cond, not, ◌||◌, List, [], ◌∷◌, ◌++◌, length, get_or, filter, encode_utf8_all, sym, ap, ◌∙◌, subst, refl, arith, append-nil, length-append}
+use Rattle.std.proofs.Common.{◌≡◌, ℕ, zero, suc, ◌<◌, ◌≤◌, Bool, true, false, cond, not, ◌||◌, sym, ap, ◌∙◌, subst, refl, arith, append-nil, length-append}
+use Rattle.std.proofs.Common.{List, [], ◌∷◌, ◌++◌, length, get_or, filter, encode_utf8_all}
 use Rattle.std.specs.List.{AllByRecursion, AllPass, list_any}
 use Rattle.std.specs.Char.{is_ascii_whitespace}
 use Rattle.std.specs.Str.{chars, IsUtf8, IsAscii, IsCharBoundary, NonePass, NoCharPasses}
@@ -8,7 +9,8 @@ use Rattle.std.proofs.Math.Seq.{take-append_seam, drop-append_seam, get_or-appen
 use Rattle.std.proofs.lemmas.Bool.{cond-true, cond-false}
 use Rattle.std.proofs.lemmas.Bool.Decides.{nat_tests}
 use Rattle.std.proofs.lemmas.List.Elements.{recursion_from_All}
-use Rattle.std.proofs.lemmas.Str.{chars-nil, chars-IsAscii, chars-append, chars_from_encodes, encodes-chars, encode_ascii, IsUtf8-from_ascii, IsUtf8-past_char, IsUtf8-take, IsUtf8-drop, IsCharBoundary-before_ascii}
+use Rattle.std.proofs.lemmas.Str.{chars-nil, chars-IsAscii, chars-append, chars_from_encodes, encodes-chars, encode_ascii}
+use Rattle.std.proofs.lemmas.Str.{IsUtf8-from_ascii, IsUtf8-past_char, IsUtf8-take, IsUtf8-drop, IsCharBoundary-before_ascii}
 use Rattle.base_model.specs.Lists.{onto_first}
 use Rattle.base_model.specs.Text.{Characters, is_empty_text}
 use Rattle.scene_model.specs.Words.{pieces, words}
@@ -70,7 +72,8 @@ kept_front : (x : Characters) (rest : List Characters) → 0 < length x → filt
 kept_front [] rest h = absurd (omega arith)
 kept_front (c ∷ x) rest h = refl
 
-words_first : (x sep rest : Characters) → 0 < length x → NonePass is_ascii_whitespace x → AreSpaces sep → length sep ≤ 1 → (length sep ≡ 0 → length rest ≡ 0) → words (x ++ (sep ++ rest)) ≡ x ∷ words rest
+words_first : (x sep rest : Characters) → 0 < length x → NonePass is_ascii_whitespace x → AreSpaces sep → length sep ≤ 1 → (length sep ≡ 0 → length rest ≡ 0)
+    → words (x ++ (sep ++ rest)) ≡ x ∷ words rest
 words_first x [] [] l n s one none =
     rw append-nil (ap (filter (λ piece. not (is_empty_text piece))) (pieces_alone x n) ∙ kept_front x [] l)
 words_first x [] (c ∷ rest) l n s one none = let e : suc (length rest) ≡ 0 = none refl in absurd (omega arith)
@@ -103,35 +106,31 @@ chars_parts gap x sep rest u v w =
 spaces-text : (cs : List ℕ) → AreSpaces cs → IsUtf8 cs
 spaces-text cs h = IsUtf8-from_ascii cs (spaces-ascii cs h)
 
-word_text : (x sep rest : List ℕ) → AreSpaces sep → length sep ≤ 1 → (length sep ≡ 0 → length rest ≡ 0) → IsUtf8 (x ++ (sep ++ rest)) → IsUtf8 x
-word_text x [] [] s one none u = subst IsUtf8 (append-nil x) u
-word_text x [] (c ∷ rest) s one none u = let e : suc (length rest) ≡ 0 = none refl in absurd (omega arith)
-word_text x (c ∷ []) rest s one none u = before_space x rest c s.0 u
-word_text x (c ∷ d ∷ sep) rest s one none u = absurd (omega arith)
-
-rest_text : (x sep rest : List ℕ) → AreSpaces sep → length sep ≤ 1 → (length sep ≡ 0 → length rest ≡ 0) → IsUtf8 (x ++ (sep ++ rest)) → IsUtf8 rest
-rest_text x [] [] s one none u = IsUtf8-from_ascii [] (λ i. omega arith)
-rest_text x [] (c ∷ rest) s one none u = let e : suc (length rest) ≡ 0 = none refl in absurd (omega arith)
-rest_text x (c ∷ []) rest s one none u = after_space x rest c s.0 u
-rest_text x (c ∷ d ∷ sep) rest s one none u = absurd (omega arith)
+texts_apart : (x sep rest : List ℕ) → AreSpaces sep → length sep ≤ 1 → (length sep ≡ 0 → length rest ≡ 0) → IsUtf8 (x ++ (sep ++ rest)) → IsUtf8 x × IsUtf8 rest
+texts_apart x [] [] s one none u = (subst IsUtf8 (append-nil x) u, IsUtf8-from_ascii [] (λ i. omega arith))
+texts_apart x [] (c ∷ rest) s one none u = let e : suc (length rest) ≡ 0 = none refl in absurd (omega arith)
+texts_apart x (c ∷ []) rest s one none u = (before_space x rest c s.0 u, after_space x rest c s.0 u)
+texts_apart x (c ∷ d ∷ sep) rest s one none u = absurd (omega arith)
 
 no_chars : (rest : List ℕ) → length rest ≡ 0 → length (chars rest) ≡ 0
 no_chars [] h = ap (length {A = ℕ}) chars-nil
 no_chars (c ∷ rest) h = absurd (omega arith)
 
-pub word_off : (bs x rest gap sep : List ℕ) → IsUtf8 bs → 0 < length x → NoCharPasses is_ascii_whitespace x → bs ≡ gap ++ (x ++ (sep ++ rest)) → AllPass is_ascii_whitespace gap → IsAsciiSeparator sep rest → IsWordOff bs x rest
+pub word_off : (bs x rest gap sep : List ℕ) → IsUtf8 bs → 0 < length x → NoCharPasses is_ascii_whitespace x → bs ≡ gap ++ (x ++ (sep ++ rest))
+    → AllPass is_ascii_whitespace gap → IsAsciiSeparator sep rest → IsWordOff bs x rest
 word_off bs x rest gap sep u l n e g s =
     let gaps : AreSpaces gap = recursion_from_All (λ c. is_ascii_whitespace c ≡ true) gap g in
     let seps : AreSpaces sep = recursion_from_All (λ c. is_ascii_whitespace c ≡ true) sep s.0 in
     let left : IsUtf8 (x ++ (sep ++ rest)) = after_spaces gap (x ++ (sep ++ rest)) gaps (subst IsUtf8 e u) in
-    let x_text : IsUtf8 x = word_text x sep rest seps s.1 s.2 left in
-    let sep_same : chars sep ≡ sep = chars-IsAscii sep (spaces-ascii sep seps) in
-    let all : chars bs ≡ gap ++ (chars x ++ (sep ++ chars rest)) =
-    ap chars e ∙ (chars_parts gap x sep rest (spaces-text gap gaps) x_text (spaces-text sep seps) ∙ (ap (λ g. g ++ (chars x ++ (chars sep ++ chars rest))) (chars-IsAscii gap (spaces-ascii gap gaps)) ∙ ap (λ s. gap ++ (chars x ++ (s ++ chars rest))) sep_same)) in
+    let (x_text, after) = texts_apart x sep rest seps s.1 s.2 left in
+    let all = chars_parts gap x sep rest (spaces-text gap gaps) x_text (spaces-text sep seps) in
+    let bare : chars gap ++ (chars x ++ (chars sep ++ chars rest)) ≡ gap ++ (chars x ++ (sep ++ chars rest)) =
+    λ i. chars-IsAscii gap (spaces-ascii gap gaps) i ++ (chars x ++ (chars-IsAscii sep (spaces-ascii sep seps) i ++ chars rest)) in
     record {
       word_text = x_text;
-      rest_text = rest_text x sep rest seps s.1 s.2 left;
-      first = ap words all ∙ (words_spaces gap (chars x ++ (sep ++ chars rest)) gaps ∙ words_first (chars x) sep (chars rest) (some_chars x x_text l) (none_of_chars x x_text n) seps s.1 (λ z. no_chars rest (s.2 z)));
+      rest_text = after;
+      first = ap words (ap chars e ∙ (all ∙ bare)) ∙ (words_spaces gap (chars x ++ (sep ++ chars rest)) gaps
+          ∙ words_first (chars x) sep (chars rest) (some_chars x x_text l) (none_of_chars x x_text n) seps s.1 (λ z. no_chars rest (s.2 z)));
     }
 
 -- a text of whitespace alone has no words

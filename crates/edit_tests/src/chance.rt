@@ -1,59 +1,33 @@
 //! Lines by chance, the same in each run.
 
+use crate::changes::cut;
 use rand_core::{Rng, SeedableRng};
 use rand_xoshiro::Xoshiro256PlusPlus;
 use std::alloc::Global;
-use stylo_base::NoMemory;
+use stylo_base::{NoMemory, Text};
 
-const NUMBERS: [&str; 8] = ["1", "2", "3", "4", "5", "6", "7", "8"];
+// Of what one is chosen, with a line between two.
 
-const TAGS: [&str; 3] = ["p", "i", "q"];
+const TAGS: &str = "p|i|q";
 
-const CLASSES: [&str; 10] = [
-    "",
-    "",
-    "class=a",
-    "class=b",
-    "class=c",
-    "class=a_b",
-    "class=b__c",
-    "class=a__b_a",
-    "class=_c",
-    "class=",
-];
+const TYPES: &str = "*|*|*|*|p|i";
 
-const IDS: [&str; 6] = ["", "", "", "id=x", "id=y", "id="];
+const TESTS: &str = "|||.a|.a|.b|.b|.c|#x|#y|[k]|[k=v]|[class=a]|[id]|:hover|:focus|:root|:empty";
 
-const OTHERS: [&str; 6] = ["", "", "k=u", "k=v", "k=", "style=z"];
+const COMBINATORS: &str = " | | > | + | ~ | ~ ";
 
-const STATES: [&str; 3] = ["hover", "active", "focus"];
+/// Where lists begin, and none.
+const LISTS: &str = "|||:is(|:not(|:where(";
 
-const TESTS: [&str; 18] = [
-    "",
-    "",
-    "",
-    ".a",
-    ".a",
-    ".b",
-    ".b",
-    ".c",
-    "#x",
-    "#y",
-    "[k]",
-    "[k=v]",
-    "[class=a]",
-    "[id]",
-    ":hover",
-    ":focus",
-    ":root",
-    ":empty",
-];
+/// How they end, some with lists in them.
+const ENDS: &str = ")|, .a)|:not(.a), .c)|, :is(.b ~ *, #x > i))|:not(.a > .b, p:is(.c + .a)), .a)|\
+    :where(:focus *), :not(:hover .b))";
 
-const LISTS: [&str; 6] = ["", "", "", ":is(", ":not(", ":where("];
-
-const SUBJECTS: [&str; 6] = ["", "", "", "p", "i", "*"];
-
-const COMBINATORS: [&str; 6] = [" ", " ", " > ", " + ", " ~ ", " ~ "];
+/// Edits, without the number of the element.
+const EDITS: &str =
+    "set class=a|set class=b|set class=c|set class=a b|set class=b  c|set class=a  b a|\
+    set class= c|set class=|set id=x|set id=x|set id=y|set id=|set k=u|set k=v|set k=|set style=z|\
+    unset class|unset class|unset id|unset k|unset style|on hover|on hover|on active|on focus|off hover|off focus";
 
 /// Chooses by chance.
 #[derive(Drop)]
@@ -69,128 +43,105 @@ impl Dice {
         }
     }
 
-    /// One of some texts.
-    fn pick<'a>(&mut self, texts: &[&'a str]) -> &'a str {
-        if texts.is_empty() {
-            return "";
-        }
-        let index = self.rng.next_u64() % texts.len() as u64;
-        match texts.get(index as usize) {
-            Some(text) => text,
-            None => "",
-        }
+    /// A number below this one. Below 0: 0.
+    fn below(&mut self, count: u64) -> u64 {
+        self.rng.next_u64().checked_rem(count).unwrap_or(0)
     }
 
-    /// Once in two times.
-    fn falls(&mut self) -> bool {
-        self.rng.next_u64() % 2 == 0
+    /// A number from 1 to this one.
+    fn number(&mut self, last: u64) -> u64 {
+        self.below(last).saturating_add(1)
+    }
+
+    /// One of some texts.
+    fn pick<'a>(&mut self, texts: &'a str) -> &'a str {
+        let mut count = 0u64;
+        for _ in texts.split('|') {
+            count = count.saturating_add(1);
+        }
+        let mut rest = texts;
+        for _ in 0..self.below(count) {
+            rest = cut(rest, '|').1;
+        }
+        cut(rest, '|').0
     }
 }
 
-/// A line without its last part: a document of eight elements at most, selectors and ten edits.
-pub(crate) fn line(alloc: Global, dice: &mut Dice) -> Result<String, NoMemory> {
-    let mut line = String::from_str(alloc, "1 html")?;
-    push_words(&mut line, dice)?;
-    let last = dice.pick(&NUMBERS);
-    let mut above = vec![in alloc; "1"]?;
-    for number in NUMBERS {
-        if last == "1" {
-            break;
-        }
-        if number != "1" {
-            let (tag, parent) = (dice.pick(&TAGS), dice.pick(&above));
-            write!(line, "; {number} {tag} in {parent}")?;
-            push_words(&mut line, dice)?;
-            above.push(number)?;
-        }
-        if number == last {
-            break;
-        }
-    }
-    push_rules(alloc, &mut line, dice)?;
-    push_edit(&mut line, dice, &above)?;
-    for _ in 0..9 {
-        line.push_str("; ")?;
-        push_edit(&mut line, dice, &above)?;
-    }
+/// A line without its last part.
+pub(crate) fn line(alloc: Global, dice: &mut Dice) -> Result<Text, NoMemory> {
+    let mut line = Text::new(alloc);
+    push_line(&mut line, dice)?;
     Ok(line)
 }
 
-/// Appends the attributes and the states of a node.
-fn push_words(line: &mut String, dice: &mut Dice) -> Result<(), NoMemory> {
-    let words = [dice.pick(&CLASSES), dice.pick(&IDS), dice.pick(&OTHERS)];
-    for word in words {
-        write!(line, " {word}")?;
+/// Appends a tree of eight elements at most, three selectors in two lists, and ten edits.
+fn push_line(line: &mut Text, dice: &mut Dice) -> Result<(), NoMemory> {
+    let last = dice.number(8);
+    push_tree(line, dice, last)?;
+    for before in [" / ", ", ", "; "] {
+        line.push_str(before)?;
+        push_selector(line, dice)?;
     }
-    if dice.falls() {
-        write!(line, " {}", dice.pick(&STATES))?;
+    line.push_str(" / ")?;
+    push_edit(line, dice, last)?;
+    for _ in 1..10 {
+        line.push_str("; ")?;
+        push_edit(line, dice, last)?;
+    }
+    Ok(())
+}
+
+/// Appends a tree of so many elements.
+fn push_tree(line: &mut Text, dice: &mut Dice, last: u64) -> Result<(), NoMemory> {
+    line.push_str("1 html")?;
+    for above in 1..last {
+        line.push_str("; ")?;
+        line.push_number(above.saturating_add(1))?;
+        line.push_str(" ")?;
+        line.push_str(dice.pick(TAGS))?;
+        line.push_str(" in ")?;
+        line.push_number(dice.number(above))?;
     }
     Ok(())
 }
 
-/// Appends the lists of two rules.
-fn push_rules(alloc: Global, line: &mut String, dice: &mut Dice) -> Result<(), NoMemory> {
-    let first = selector(alloc, dice)?;
-    let second = selector(alloc, dice)?;
-    let third = selector(alloc, dice)?;
-    write!(line, " / {first}, {second}; {third} / ")?;
-    Ok(())
-}
-
-/// A selector. Lists are nested in it up to three deep.
-fn selector(alloc: Global, dice: &mut Dice) -> Result<String, NoMemory> {
-    let inmost = complex(alloc, dice, 1, "p")?;
-    let inner = complex(alloc, dice, 1, inmost.as_str())?;
-    complex(alloc, dice, 2, inner.as_str())
-}
-
-/// A compound after so many others at most. What stands in lists is `inner`.
-fn complex(alloc: Global, dice: &mut Dice, most: u32, inner: &str) -> Result<String, NoMemory> {
-    let mut text = String::new(alloc);
-    for _ in 0..most {
-        if dice.falls() {
-            push_compound(alloc, &mut text, dice, inner)?;
-            text.push_str(dice.pick(&COMBINATORS))?;
-        }
+/// Appends a selector of one to three compounds.
+fn push_selector(line: &mut Text, dice: &mut Dice) -> Result<(), NoMemory> {
+    for _ in 0..dice.below(3) {
+        push_compound(line, dice)?;
+        line.push_str(dice.pick(COMBINATORS))?;
     }
-    push_compound(alloc, &mut text, dice, inner)?;
-    Ok(text)
+    push_compound(line, dice)
 }
 
-/// Appends a type, two tests and a list, each of which may be left out.
-fn push_compound(
-    alloc: Global,
-    text: &mut String,
-    dice: &mut Dice,
-    inner: &str,
-) -> Result<(), NoMemory> {
-    let mut compound = String::from_str(alloc, dice.pick(&SUBJECTS))?;
-    compound.push_str(dice.pick(&TESTS))?;
-    compound.push_str(dice.pick(&TESTS))?;
-    let list = dice.pick(&LISTS);
-    if !list.is_empty() {
-        write!(compound, "{list}{inner}, .a)")?;
+/// Appends a type with tests and a list, which may be left out.
+fn push_compound(line: &mut Text, dice: &mut Dice) -> Result<(), NoMemory> {
+    push_tests(line, dice)?;
+    let list = dice.pick(LISTS);
+    if list.is_empty() {
+        return Ok(());
     }
-    if compound.is_empty() {
-        compound.push('*')?;
-    }
-    text.push_str(compound.as_str())?;
-    Ok(())
+    line.push_str(list)?;
+    push_tests(line, dice)?;
+    line.push_str(dice.pick(COMBINATORS))?;
+    push_tests(line, dice)?;
+    line.push_str(dice.pick(ENDS))
 }
 
-/// Appends an edit of one of the elements.
-fn push_edit(line: &mut String, dice: &mut Dice, numbers: &[&str]) -> Result<(), NoMemory> {
-    let number = dice.pick(numbers);
-    match dice.pick(&["class", "class", "id", "other", "unset", "on", "off"]) {
-        "class" => write!(line, "set {number} {}", dice.pick(CLASSES.split_at(2).1))?,
-        "id" => write!(line, "set {number} {}", dice.pick(IDS.split_at(3).1))?,
-        "other" => write!(line, "set {number} {}", dice.pick(OTHERS.split_at(2).1))?,
-        "unset" => write!(
-            line,
-            "unset {number} {}",
-            dice.pick(&["class", "id", "k", "style"])
-        )?,
-        verb => write!(line, "{verb} {number} {}", dice.pick(&STATES))?,
+/// Appends a type and two tests, which may be left out.
+fn push_tests(line: &mut Text, dice: &mut Dice) -> Result<(), NoMemory> {
+    for texts in [TYPES, TESTS, TESTS] {
+        line.push_str(dice.pick(texts))?;
     }
     Ok(())
+}
+
+/// Appends an edit of one of so many elements.
+fn push_edit(line: &mut Text, dice: &mut Dice, last: u64) -> Result<(), NoMemory> {
+    let (verb, what) = cut(dice.pick(EDITS), ' ');
+    line.push_str(verb)?;
+    line.push_str(" ")?;
+    line.push_number(dice.number(last))?;
+    line.push_str(" ")?;
+    line.push_str(what)
 }

@@ -1,229 +1,166 @@
-//! Which elements an edit marks, worked out plainly from the nodes before and after it: all elements, all selectors,
-//! all dependencies.
+//! Which elements an edit marks, worked out plainly from the scenes before and after it: all elements, all selectors,
+//! all dependencies. A set of elements has the bit at the number of each.
 
-use crate::scenes::Node;
+use crate::changes::state_name;
+use crate::scene::{LAST, Scene};
 use dependency_map::{Dep, Part, PathStep, deps};
 use selector_types::{Combinator, Key, Selector, Simple, key_of};
 use std::alloc::Global;
-use stylo_base::{NoMemory, State};
+use stylo_base::NoMemory;
 
-/// The nodes before and after an edit. That of an element is at its number less one.
-#[derive(Clone, Copy)]
-pub(crate) struct Edited<'a> {
-    pub before: &'a [Node],
-    pub after: &'a [Node],
+/// The set of one element.
+pub(crate) fn bit(x: u32) -> u64 {
+    1u64.wrapping_shl(x)
 }
 
-/// The value of an attribute of a node, if it has that attribute.
-pub(crate) fn attribute<'a>(node: &'a Node, name: &str) -> Option<&'a str> {
-    for (own, value) in &node.attrs {
-        if own.as_str() == name {
-            return Some(value.as_str());
+/// The elements that the last edit of a scene marks, which is of `x`.
+pub(crate) fn marked(
+    alloc: Global,
+    scene: Scene<'_>,
+    x: u32,
+    rules: &[Vec<Selector>],
+) -> Result<u64, NoMemory> {
+    let mut marked = if differs(scene, x, "style") {
+        bit(x)
+    } else {
+        0
+    };
+    for selectors in rules {
+        for selector in selectors {
+            marked |= marked_by(alloc, scene, x, selector)?;
         }
     }
-    None
+    Ok(marked)
 }
 
-/// Whether a node has a class.
-fn has_class(node: &Node, class: &str) -> bool {
-    if let Some(value) = attribute(node, "class") {
-        for word in value.split_ascii_whitespace() {
-            if word == class {
-                return true;
-            }
+/// The elements that it marks for a selector.
+fn marked_by(
+    alloc: Global,
+    scene: Scene<'_>,
+    x: u32,
+    selector: &Selector,
+) -> Result<u64, NoMemory> {
+    let mut set = 0;
+    for dep in &deps(alloc, selector)? {
+        set |= hit(scene, x, dep);
+    }
+    Ok(bearing(scene, key_of(selector), set))
+}
+
+/// Those of some elements that bear a key before an edit or after it.
+fn bearing(scene: Scene<'_>, key: &Key, set: u64) -> u64 {
+    let mut found = 0;
+    for x in 1..=LAST {
+        if set & bit(x) != 0 && (bears(scene.before(), x, key) || bears(scene, x, key)) {
+            found |= bit(x);
         }
     }
-    false
+    found
 }
 
-/// Whether a node has an id, which is not empty.
-fn has_id(node: &Node, id: &str) -> bool {
-    attribute(node, "id") == Some(id) && !id.is_empty()
-}
-
-/// Whether a node is in a state.
-fn has_state(node: &Node, state: State) -> bool {
-    match state {
-        State::Hover => node.states.hover,
-        State::Active => node.states.active,
-        State::Focus => node.states.focus,
-    }
-}
-
-/// Whether a node bears a key.
-fn bears(node: &Node, key: &Key) -> bool {
+/// Whether an element bears a key.
+fn bears(scene: Scene<'_>, x: u32, key: &Key) -> bool {
     match key {
-        Key::Id(id) => has_id(node, id.as_str()),
-        Key::Class(class) => has_class(node, class.as_str()),
-        Key::Type(tag) => node.tag.as_str() == tag.as_str(),
+        Key::Id(id) => has_id(scene, x, id.as_str()),
+        Key::Class(class) => scene.has_class(x, class.as_str()),
+        Key::Type(tag) => scene.tag(x) == tag.as_str(),
         Key::Any => true,
     }
 }
 
-/// Whether what a part of a selector looks at differs between two nodes.
-fn is_touched(before: &Node, after: &Node, part: &Part) -> bool {
-    let Part::Tested(test) = part else {
-        return false;
+/// Whether an element has an id.
+fn has_id(scene: Scene<'_>, x: u32, id: &str) -> bool {
+    !id.is_empty() && scene.value(x, "id") == Some(id)
+}
+
+/// The elements to which a dependency leads from `x`, if its part is touched there.
+fn hit(scene: Scene<'_>, x: u32, dep: &Dep<'_>) -> u64 {
+    let mut set = match dep.part {
+        Part::Tested(test) if is_touched(scene, x, test) => bit(x),
+        _ => 0,
     };
+    for step in &dep.path {
+        set = led_to(scene, *step, set);
+    }
+    set
+}
+
+/// Whether what a test looks at differs at an element between before an edit and after it.
+fn is_touched(scene: Scene<'_>, x: u32, test: &Simple) -> bool {
+    let before = scene.before();
     match test {
-        Simple::Id(id) => {
-            attribute(before, "id") != attribute(after, "id")
-                && (has_id(before, id.as_str()) || has_id(after, id.as_str()))
-        }
+        Simple::Id(id) => has_id(before, x, id.as_str()) != has_id(scene, x, id.as_str()),
         Simple::Class(class) => {
-            has_class(before, class.as_str()) != has_class(after, class.as_str())
+            before.has_class(x, class.as_str()) != scene.has_class(x, class.as_str())
         }
-        Simple::Attribute(name) => {
-            attribute(before, name.as_str()) != attribute(after, name.as_str())
-        }
-        Simple::AttributeCompares { name, .. } => {
-            attribute(before, name.as_str()) != attribute(after, name.as_str())
-        }
-        Simple::State(state) => has_state(before, *state) != has_state(after, *state),
-        Simple::Type(_) | Simple::Root | Simple::Empty | Simple::Nth(_) | Simple::Only { .. } => {
-            false
-        }
+        Simple::Attribute(name) => differs(scene, x, name.as_str()),
+        Simple::AttributeCompares { name, .. } => differs(scene, x, name.as_str()),
+        Simple::State(state) => differs(scene, x, state_name(*state)),
+        _ => false,
     }
 }
 
-/// The number of the parent of an element. 0: it is the root, or there is no such element.
-fn parent(nodes: &[Node], x: usize) -> usize {
-    match nodes.get(x.wrapping_sub(1)) {
-        Some(node) => node.parent as usize,
-        None => 0,
+/// Whether an attribute of an element, or whether it is in a state, differs between before an edit and after it.
+fn differs(scene: Scene<'_>, x: u32, name: &str) -> bool {
+    scene.before().value(x, name) != scene.value(x, name)
+}
+
+/// The elements to which a step leads from one of some elements.
+fn led_to(scene: Scene<'_>, step: PathStep, from: u64) -> u64 {
+    let mut set = 0;
+    for y in 1..=LAST {
+        if from & bit(y) != 0 {
+            set |= led_from(scene, step, y);
+        }
+    }
+    set
+}
+
+/// The elements to which a step leads from `y`.
+fn led_from(scene: Scene<'_>, step: PathStep, y: u32) -> u64 {
+    let mut set = 0;
+    for x in 1..=LAST {
+        if leads(scene, step, y, x) {
+            set |= bit(x);
+        }
+    }
+    set
+}
+
+/// Whether a step leads from `y` to `x`.
+fn leads(scene: Scene<'_>, step: PathStep, y: u32, x: u32) -> bool {
+    let PathStep::Forwards(combinator) = step;
+    match combinator {
+        Combinator::Descendant => is_above(scene, y, x),
+        Combinator::Child => scene.parent(x) == y,
+        Combinator::NextSibling => is_next(scene, y, x),
+        Combinator::LaterSibling => is_after(scene, y, x),
     }
 }
 
 /// Whether an element is above another.
-fn is_above(nodes: &[Node], y: usize, x: usize) -> bool {
-    let mut above = parent(nodes, x);
-    for _ in nodes {
+fn is_above(scene: Scene<'_>, y: u32, x: u32) -> bool {
+    let mut above = x;
+    for _ in 1..=LAST {
+        above = scene.parent(above);
         if above == y {
             return true;
         }
-        above = parent(nodes, above);
     }
     false
 }
 
 /// Whether an element is a sibling after another: children are in the order of their numbers.
-fn is_after(nodes: &[Node], y: usize, x: usize) -> bool {
-    y < x && parent(nodes, y) == parent(nodes, x) && parent(nodes, x) != 0
+fn is_after(scene: Scene<'_>, y: u32, x: u32) -> bool {
+    y < x && scene.parent(x) != 0 && scene.parent(x) == scene.parent(y)
 }
 
 /// Whether an element is the sibling right after another.
-fn is_next(nodes: &[Node], y: usize, x: usize) -> bool {
-    for index in 0..nodes.len() {
-        if is_after(nodes, y, index) && is_after(nodes, index, x) {
+fn is_next(scene: Scene<'_>, y: u32, x: u32) -> bool {
+    for z in 1..=LAST {
+        if is_after(scene, y, z) && is_after(scene, z, x) {
             return false;
         }
     }
-    is_after(nodes, y, x)
-}
-
-/// Whether a step leads from `y` to `x`.
-fn leads(nodes: &[Node], step: PathStep, y: usize, x: usize) -> bool {
-    let PathStep::Forwards(combinator) = step;
-    match combinator {
-        Combinator::Descendant => is_above(nodes, y, x),
-        Combinator::Child => parent(nodes, x) == y,
-        Combinator::NextSibling => is_next(nodes, y, x),
-        Combinator::LaterSibling => is_after(nodes, y, x),
-    }
-}
-
-/// Whether a step leads from one of some elements to `x`.
-fn is_led_to(nodes: &[Node], step: PathStep, from: &[usize], x: usize) -> bool {
-    for y in from {
-        if leads(nodes, step, *y, x) {
-            return true;
-        }
-    }
-    false
-}
-
-/// The numbers of the elements, by which each is tried.
-fn numbers(alloc: Global, nodes: &[Node]) -> Result<Vec<usize>, NoMemory> {
-    let mut numbers = Vec::new(alloc);
-    for index in 0..nodes.len() {
-        numbers.push(index + 1)?;
-    }
-    Ok(numbers)
-}
-
-/// The elements to which a dependency leads from those where its part is touched.
-fn hit(alloc: Global, edited: Edited<'_>, dep: &Dep) -> Result<Vec<usize>, NoMemory> {
-    let numbers = numbers(alloc, edited.after)?;
-    let mut from = Vec::new(alloc);
-    for (x, (before, after)) in numbers.iter().zip(edited.before.iter().zip(edited.after)) {
-        if is_touched(before, after, &dep.part) {
-            from.push(*x)?;
-        }
-    }
-    for step in &dep.path {
-        let mut next = Vec::new(alloc);
-        for x in &numbers {
-            if is_led_to(edited.after, *step, &from, *x) {
-                next.push(*x)?;
-            }
-        }
-        from = next;
-    }
-    Ok(from)
-}
-
-/// Whether an element bears a key before an edit or after it.
-fn bears_around(edited: Edited<'_>, key: &Key, x: usize) -> bool {
-    let index = x.wrapping_sub(1);
-    match (edited.before.get(index), edited.after.get(index)) {
-        (Some(before), Some(after)) => bears(before, key) || bears(after, key),
-        _ => false,
-    }
-}
-
-/// Whether the `style` attribute of an element differs.
-fn is_styled(edited: Edited<'_>, x: usize) -> bool {
-    let index = x.wrapping_sub(1);
-    match (edited.before.get(index), edited.after.get(index)) {
-        (Some(before), Some(after)) => attribute(before, "style") != attribute(after, "style"),
-        _ => false,
-    }
-}
-
-/// Adds the elements that an edit marks for a selector.
-fn add_marked(
-    alloc: Global,
-    edited: Edited<'_>,
-    selector: &Selector,
-    marked: &mut Vec<usize>,
-) -> Result<(), NoMemory> {
-    for dep in &deps(alloc, selector)? {
-        for x in &hit(alloc, edited, dep)? {
-            if bears_around(edited, key_of(selector), *x) {
-                marked.push(*x)?;
-            }
-        }
-    }
-    Ok(())
-}
-
-/// Tells the numbers of the elements that an edit marks, with a blank after each.
-pub(crate) fn push_marked(
-    alloc: Global,
-    edited: Edited<'_>,
-    rules: &[Vec<Selector>],
-    told: &mut String,
-) -> Result<(), NoMemory> {
-    let mut marked = Vec::new(alloc);
-    for selectors in rules {
-        for selector in selectors {
-            add_marked(alloc, edited, selector, &mut marked)?;
-        }
-    }
-    for x in &numbers(alloc, edited.after)? {
-        if is_styled(edited, *x) || marked.contains(x) {
-            write!(told, "{x} ")?;
-        }
-    }
-    Ok(())
+    is_after(scene, y, x)
 }

@@ -4,18 +4,12 @@
 #[cfg(test)]
 mod applying;
 #[cfg(test)]
-mod by_chance;
-#[cfg(test)]
 mod chance;
+#[cfg(test)]
+mod changes;
 #[cfg(test)]
 mod definition;
 #[cfg(test)]
-mod dependencies;
-#[cfg(test)]
-mod looks;
-#[cfg(test)]
 mod marking;
 #[cfg(test)]
-mod running;
-#[cfg(test)]
-mod scenes;
+mod scene;

@@ -1,6 +1,7 @@
 -- What JSON values say, computed.
-use Rattle.std.specs.Prelude.{◌≡◌, ℕ, zero, suc, List, [], ◌∷◌, Bool, true, false, is_some, Option, Some, None, pos, neg_ℤ, Float, replicate, codes}
+use Rattle.std.specs.Prelude.{◌≡◌, ℕ, zero, suc, List, [], ◌∷◌, Bool, true, false, is_some, Option, Some, None, Ok, is_ok, pos, neg_ℤ, Float, replicate, codes}
 use Rattle.std.specs.List.{list_all, list_any}
+use Rattle.std.specs.Result.{result_err}
 use Rattle.std.specs.Str.{chars}
 use Rattle.std.specs.Fmt.{digits}
 use Rattle.std.proofs.Common.{refl}
@@ -10,13 +11,15 @@ use Rattle.scene_model.specs.Ancestors.{ancestors}
 use Rattle.scene_model.specs.Nodes.{scene_of, tree_order}
 use Rattle.layer_order.specs.declared.origin.Origin.TheVariants.{UserAgent, User}
 use Rattle.layer_order.specs.declared.sheet_input.SheetInput.{SheetInput}
-use Rattle.job_json.specs.Values.{is_name, states_from}
-use Rattle.job_json.specs.Sheets.{sheet_from, sheets_from}
-use Rattle.stylo_base.specs.declared.refusal.Kind.TheVariants.{Attributes, Depth, Sheets}
-use Rattle.job_json.specs.Checked.{first_bad}
-use Rattle.job_json.specs.Shape.{job_in}
-use Rattle.job_json.specs.Limits.{nodes_past, texts_past, sheets_past}
-use Rattle.job_json.specs.Within.{job_within}
+use Rattle.job_json.specs.Words.{is_name}
+use Rattle.stylo_base.specs.declared.refusal.Kind.TheVariants.{Attributes, Depth, Sheets, Batches}
+use Rattle.stylo_base.specs.declared.state.State.TheVariants.{Focus}
+use Rattle.dom_edits.specs.declared.edits.DocEdit.TheVariants.{Set, Unset, State}
+use Rattle.dom_edits.specs.declared.edits.Edit.TheVariants.{Document}
+use Rattle.job_json.specs.Shape.{states_in, sheet_in, sheets_in}
+use Rattle.job_json.specs.Edits.{batches_in}
+use Rattle.job_json.specs.Limits.{nodes_past, texts_past, sheets_past, batches_past}
+use Rattle.job_json.specs.JobOf.{job_in, verdict_on, job_if_good}
 
 -- JSON values as they are read: of members with the same key the last stays
 
@@ -54,7 +57,7 @@ no_names = refl
 -- whole jobs
 
 abbrev is_job : Data → Bool
-is_job value = is_some (job_within value)
+is_job value = is_some (job_if_good (verdict_on value))
 
 abbrev version : Data → List ℕ × Data
 version value = (codes "version", value)
@@ -85,6 +88,7 @@ good_jobs =
     obj (version (n 1) ∷ alone ∷ [])
     ∷ obj (alone ∷ version (n 1) ∷ sheets (list []) ∷ batches (list []) ∷ more null ∷ [])
     ∷ obj (version (n 2) ∷ nodes (n 7) ∷ version (n 1) ∷ alone ∷ [])
+    ∷ obj (version (n 1) ∷ alone ∷ batches (list (list [] ∷ [])) ∷ [])
     ∷ []
 
 jobs : list_all is_job good_jobs ≡ true
@@ -104,7 +108,7 @@ other_values =
     ∷ obj (version (n 1) ∷ nodes (obj []) ∷ [])
     ∷ obj (version (n 1) ∷ alone ∷ sheets null ∷ [])
     ∷ obj (version (n 1) ∷ alone ∷ sheets (list (obj [] ∷ [])) ∷ [])
-    ∷ obj (version (n 1) ∷ alone ∷ batches (list (list [] ∷ [])) ∷ [])
+    ∷ obj (version (n 1) ∷ alone ∷ batches (obj []) ∷ [])
     ∷ []
 
 others : list_any is_job other_values ≡ false
@@ -179,7 +183,7 @@ no_float_parent : (f : Float) → are_nodes (two (number (float f))) ≡ false
 unfolding scene_of tree_order ancestors
 no_float_parent f = refl
 
-node_states : states_from (Some (list (text (codes "focus") ∷ text (codes "hover") ∷ text (codes "focus") ∷ []))) ≡ Some (record { hover = true; active = false; focus = true })
+node_states : states_in (Some (list (text (codes "focus") ∷ text (codes "hover") ∷ text (codes "focus") ∷ []))) ≡ Ok (record { hover = true; active = false; focus = true })
 node_states = refl
 
 -- sheets
@@ -189,7 +193,7 @@ are_sheets value = is_job (obj (version (n 1) ∷ alone ∷ sheets value ∷ [])
 
 -- a sheet, however long its text
 abbrev is_sheet : List (List ℕ × Data) → Bool
-is_sheet entries = is_some (sheet_from (obj entries))
+is_sheet entries = is_ok (sheet_in (obj entries))
 
 abbrev origin : Data → List ℕ × Data
 origin value = (codes "origin", value)
@@ -239,7 +243,7 @@ one = obj (author ∷ css empty ∷ [])
 abbrev two_sheets : List Data
 two_sheets = obj (ua ∷ css rule ∷ []) ∷ obj (enabled (boolean false) ∷ user ∷ css empty ∷ []) ∷ []
 
-sheets_said : sheets_from (Some (list two_sheets)) ≡ Some (record { origin = UserAgent; enabled = true; text = codes "p{}" } ∷ record { origin = User; enabled = false; text = [] } ∷ [])
+sheets_said : sheets_in (Some (list two_sheets)) ≡ Ok (record { origin = UserAgent; enabled = true; text = codes "p{}" } ∷ record { origin = User; enabled = false; text = [] } ∷ [])
 unfolding chars
 sheets_said = refl
 
@@ -284,7 +288,7 @@ no_sheet_members = refl
 -- ---- where a job is bad, and which limit it passes
 
 abbrev bad_at : Data → Option (List ℕ)
-bad_at value = first_bad (job_in value)
+bad_at value = result_err (job_in value)
 
 abbrev at : List ℕ → Option (List ℕ)
 at path = Some path
@@ -309,7 +313,7 @@ sheets_next : bad_at (obj (batches null ∷ sheets null ∷ alone ∷ version (n
 unfolding chars
 sheets_next = refl
 
-batches_last : bad_at (obj (batches (list (list [] ∷ [])) ∷ alone ∷ version (n 1) ∷ [])) ≡ at (codes "/batches")
+batches_last : bad_at (obj (batches (obj []) ∷ alone ∷ version (n 1) ∷ [])) ≡ at (codes "/batches")
 unfolding chars
 batches_last = refl
 
@@ -395,3 +399,102 @@ sheets_first sheet = refl
 
 texts_last : (sheet : SheetInput) → sheets_past (replicate 256 sheet) ≡ texts_past (replicate 256 sheet)
 texts_last sheet = refl
+
+-- ---- batches
+
+abbrev key : List ℕ → Data → List ℕ × Data
+key word value = (word, value)
+
+abbrev op : List ℕ → List ℕ × Data
+op word = key (codes "op") (text word)
+
+abbrev of_node : ℕ → List ℕ × Data
+of_node k = key (codes "node") (n k)
+
+abbrev class : List ℕ × Data
+class = key (codes "name") (text (codes "class"))
+
+abbrev value : Data → List ℕ × Data
+value = key (codes "value")
+
+abbrev state : Data → List ℕ × Data
+state = key (codes "state")
+
+abbrev on : Data → List ℕ × Data
+on = key (codes "on")
+
+abbrev set_b : Data
+set_b = obj (op (codes "set") ∷ of_node 4 ∷ class ∷ value (text (codes "b")) ∷ [])
+
+-- in another order, with members that no edit has, and the last of equal keys; the number is past those of elements
+abbrev unset_far : Data
+unset_far = obj (class ∷ of_node 1 ∷ more null ∷ key (codes "node") (n 4294967297) ∷ value null ∷ op (codes "set") ∷ op (codes "unset") ∷ [])
+
+abbrev focus_off : Data
+focus_off = obj (on (boolean true) ∷ on (boolean false) ∷ state (text (codes "focus")) ∷ of_node 0 ∷ op (codes "state") ∷ [])
+
+batches_said : batches_in (Some (list (list (set_b ∷ unset_far ∷ []) ∷ list [] ∷ list (focus_off ∷ []) ∷ [])))
+    ≡ Ok ((Document (Set 4 (codes "class") (codes "b")) ∷ Document (Unset 4294967297 (codes "class")) ∷ []) ∷ [] ∷ (Document (State 0 Focus false) ∷ []) ∷ [])
+unfolding chars
+batches_said = refl
+
+abbrev batches_bad_at : List Data → Option (List ℕ)
+batches_bad_at values = bad_at (obj (version (n 1) ∷ alone ∷ batches (list values) ∷ []))
+
+abbrev edit_bad_at : List (List ℕ × Data) → Option (List ℕ)
+edit_bad_at entries = batches_bad_at (list (obj entries ∷ []) ∷ [])
+
+no_batch : batches_bad_at (list [] ∷ obj [] ∷ n 3 ∷ []) ≡ at (codes "/batches/1")
+unfolding chars digits
+no_batch = refl
+
+no_edit : batches_bad_at (list (focus_off ∷ n 7 ∷ []) ∷ []) ≡ at (codes "/batches/0/1")
+unfolding chars digits
+no_edit = refl
+
+op_first : edit_bad_at (key (codes "node") null ∷ []) ≡ at (codes "/batches/0/0/op")
+unfolding chars digits
+op_first = refl
+
+-- a word that no edit has, or none that is read yet, is bad before what comes after it
+other_op : edit_bad_at (op (codes "Set") ∷ key (codes "node") null ∷ []) ≡ at (codes "/batches/0/0/op")
+unfolding chars digits
+other_op = refl
+
+later_op : edit_bad_at (op (codes "remove") ∷ of_node 2 ∷ []) ≡ at (codes "/batches/0/0/op")
+unfolding chars digits
+later_op = refl
+
+node_next : edit_bad_at (op (codes "set") ∷ key (codes "node") (text (codes "1")) ∷ value null ∷ []) ≡ at (codes "/batches/0/0/node")
+unfolding chars digits
+node_next = refl
+
+no_float_node : (f : Float) → edit_bad_at (op (codes "unset") ∷ class ∷ key (codes "node") (number (float f)) ∷ []) ≡ at (codes "/batches/0/0/node")
+unfolding chars digits
+no_float_node f = refl
+
+name_next : edit_bad_at (op (codes "set") ∷ of_node 1 ∷ key (codes "name") (text (codes "a b")) ∷ value null ∷ []) ≡ at (codes "/batches/0/0/name")
+unfolding chars digits
+name_next = refl
+
+value_last : edit_bad_at (op (codes "set") ∷ of_node 1 ∷ class ∷ value (n 7) ∷ []) ≡ at (codes "/batches/0/0/value")
+unfolding chars digits
+value_last = refl
+
+state_next : edit_bad_at (op (codes "state") ∷ of_node 1 ∷ state (text (codes "visited")) ∷ []) ≡ at (codes "/batches/0/0/state")
+unfolding chars digits
+state_next = refl
+
+abbrev hover : Data → Data
+hover flag = obj (op (codes "state") ∷ of_node 1 ∷ state (text (codes "hover")) ∷ on flag ∷ [])
+
+on_last : batches_bad_at (list (hover (boolean true) ∷ set_b ∷ hover (n 1) ∷ []) ∷ null ∷ []) ≡ at (codes "/batches/0/2/on")
+unfolding chars digits
+on_last = refl
+
+-- one batch more than there may be, whatever is in them
+batches_over : (batch : List ℕ) → batches_past (replicate 10_001 batch) ≡ Some (Batches, 10_000)
+batches_over batch = refl
+
+batches_within : (batch : List ℕ) → batches_past (replicate 10_000 batch) ≡ None
+batches_within batch = refl

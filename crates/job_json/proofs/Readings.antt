@@ -1,6 +1,6 @@
 -- What is said of bytes that have a reading, and of those that have none.
-use Rattle.std.proofs.Common.{◌≡◌, ℕ, List, [], ◌∷◌, Bool, true, false, cond, Option, Some, None, Err, refl, ap}
-use Rattle.std.specs.Prelude.{is_some}
+use Rattle.std.proofs.Common.{◌≡◌, ℕ, List, [], ◌∷◌, Bool, true, false, cond, Option, Some, None, Result, Ok, Err, refl, sym, ap}
+use Rattle.std.specs.Prelude.{is_some, IfOk}
 use Rattle.std.specs.Str.{IsUtf8, is_utf8}
 use Rattle.std.proofs.lemmas.Str.{IsUtf8-from_is_utf8, is_utf8-from_IsUtf8}
 use Rattle.json.specs.Token as spec
@@ -11,6 +11,8 @@ use Rattle.serde_json.specs.Read.{read}
 use Rattle.job_json.specs.JobOf.{Verdict, reading, verdict_of, verdict_from, verdict_on, not_json, bad_shape, over, good, answer_to}
 use Rattle.scene_model.specs.Element.{Characters}
 use Rattle.stylo_base.specs.declared.refusal.Kind.{Kind}
+use Rattle.job_json.specs.declared.Job.{Job}
+use Rattle.job_json.specs.declared.JobFault.{JobFault}
 use Rattle.job_json.specs.declared.JobFault.TheVariants.{NotJson, Shape, Limit}
 
 reading_of : (bytes : List ℕ) (value : Option Data) → IsUtf8 bytes → read bytes ≡ value → reading bytes ≡ value
@@ -63,3 +65,13 @@ answer_limit not_json kind number e = absurd (cc)
 answer_limit (bad_shape path) kind number e = absurd (cc)
 answer_limit (over k n) kind number e = cc
 answer_limit (good job) kind number e = absurd (cc)
+
+pub answer_good : (v : Verdict) (job : Job) → Ok job ≡ answer_to v → v ≡ good job
+answer_good not_json job e = absurd (cc)
+answer_good (bad_shape path) job e = absurd (cc)
+answer_good (over kind number) job e = absurd (cc)
+answer_good (good j) job e = cc
+
+pub good_if : (v : Verdict) (answer : Result Job JobFault) → answer_to v ≡ answer → IfOk answer (λ job. v ≡ good job)
+good_if v (Ok job) e = answer_good v job (sym e)
+good_if v (Err fault) e = tt

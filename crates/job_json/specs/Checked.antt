@@ -1,31 +1,30 @@
 -- A part of a job as its JSON says it, or the first place in it where something is absent or of another shape.
-use Rattle.std.specs.Prelude.{⊤, ℕ, ◌==◌, Bool, true, false, if◌then◌else◌, List, [], ◌∷◌, ◌++◌, Option, Some, None, codes, decimal}
+use Rattle.std.specs.Prelude.{⊤, ℕ, ◌==◌, Bool, true, false, if◌then◌else◌, List, [], ◌∷◌, ◌++◌, Option, Some, None, Result, Ok, Err, codes, decimal}
 use Rattle.std.specs.Str.{chars}
 use Rattle.base_model.specs.Text.{Characters}
 
-pub data Checked (A : Type 0) : Type 0 where
-  got : A → Checked A
-  -- the JSON pointer (RFC 6901) that leads from the part to the place
-  bad : Characters → Checked A
+-- The place is told by the JSON pointer (RFC 6901) that leads to it from the part.
+abbrev pub Checked : Type 0 → Type 0
+Checked A = Result A Characters
 
 -- one after another, up to the first bad one
 infixl 10 ◌>>=◌
 abbrev pub ◌>>=◌ : {A B : Type 0} → Checked A → (A → Checked B) → Checked B
-got a >>= next = next a
-bad path >>= next = bad path
+Ok a >>= next = next a
+Err path >>= next = Err path
 
-abbrev pub first_bad : {A : Type 0} → Checked A → Option Characters
-first_bad (got a) = None
-first_bad (bad path) = Some path
+abbrev pub map_ok : {A B E : Type 0} → (A → B) → Result A E → Result B E
+map_ok f (Ok a) = Ok (f a)
+map_ok f (Err e) = Err e
 
 -- nothing means that the part itself is bad
 abbrev pub wanted : {A : Type 0} → Option A → Checked A
-wanted None = bad []
-wanted (Some a) = got a
+wanted None = Err []
+wanted (Some a) = Ok a
 
 abbrev pub right : Bool → Checked ⊤
-right false = bad []
-right true = got tt
+right false = Err []
+right true = Ok tt
 
 -- in a pointer `~0` stands for `~`, and `~1` for `/` (RFC 6901, section 3)
 abbrev pub escaped_one : ℕ → Characters
@@ -40,8 +39,8 @@ abbrev pub below : Characters → Characters → Characters
 below step path = codes "/" ++ (step ++ path)
 
 abbrev pub step_to : {A : Type 0} → Characters → Checked A → Checked A
-step_to step (got a) = got a
-step_to step (bad path) = bad (below step path)
+step_to step (Ok a) = Ok a
+step_to step (Err path) = Err (below step path)
 
 -- the member with this key
 abbrev pub at_member : {A : Type 0} → List ℕ → Checked A → Checked A

@@ -1,15 +1,17 @@
 -- What the bytes of an input say.
-use Rattle.std.specs.Prelude.{ℕ, List, ◌≡◌, ◌⊎◌, if◌then◌else◌, Option, Some, None, Result, Ok, Err}
+use Rattle.std.specs.Prelude.{⊤, ℕ, List, ◌≡◌, ◌⊎◌, if◌then◌else◌, Option, Some, None, Result, Ok, Err, option_and_then, codes}
 use Rattle.std.specs.Str.{is_utf8}
-use Rattle.serde_json.specs.Data.{Data}
+use Rattle.serde_json.specs.Data.{Data, Members}
 use Rattle.serde_json.specs.Read.{read as read_json}
 use Rattle.scene_model.specs.Element.{Characters}
 use Rattle.stylo_base.specs.declared.refusal.Kind.{Kind}
 use Rattle.job_json.specs.declared.Job.{Job}
 use Rattle.job_json.specs.declared.JobFault.{JobFault}
 use Rattle.job_json.specs.declared.JobFault.TheVariants.{NotJson, Shape, Limit, NoMemory}
-use Rattle.job_json.specs.Checked.{Checked, got, bad}
-use Rattle.job_json.specs.Shape.{job_in}
+use Rattle.job_json.specs.Checked.{Checked, ◌>>=◌, right}
+use Rattle.job_json.specs.Words.{whole, is_one}
+use Rattle.job_json.specs.Shape.{object_in, member_in, nodes_in, sheets_in}
+use Rattle.job_json.specs.Edits.{batches_in}
 use Rattle.job_json.specs.Limits.{Passed, first_passed}
 
 pub data Verdict : Type 0 where
@@ -25,14 +27,31 @@ pub data Verdict : Type 0 where
 abbrev pub reading : List ℕ → Option Data
 reading bytes = if is_utf8 bytes then read_json bytes else None
 
+abbrev pub version_in : Option Data → Checked ⊤
+version_in value = right (is_one (option_and_then whole value))
+
+-- the job with these members, in reading order
+abbrev pub job_of : Members → Checked Job
+job_of members = do
+  version ← member_in (codes "version") version_in members
+  nodes ← member_in (codes "nodes") nodes_in members
+  sheets ← member_in (codes "sheets") sheets_in members
+  batches ← member_in (codes "batches") batches_in members
+  Ok (record { nodes = nodes; sheets = sheets; batches = batches })
+
+abbrev pub job_in : Data → Checked Job
+job_in value = do
+  members ← object_in value
+  job_of members
+
 abbrev pub verdict_within : Option Passed → Job → Verdict
 verdict_within None job = good job
 verdict_within (Some passed) job = over passed.0 passed.1
 
 -- the shape first, whole, and then the limits
 abbrev pub verdict_by : Data → Checked Job → Verdict
-verdict_by value (bad path) = bad_shape path
-verdict_by value (got job) = verdict_within (first_passed value job) job
+verdict_by value (Err path) = bad_shape path
+verdict_by value (Ok job) = verdict_within (first_passed value job) job
 
 abbrev pub verdict_on : Data → Verdict
 verdict_on value = verdict_by value (job_in value)

@@ -1,58 +1,116 @@
 -- What is kept of a job's objects and arrays while they are read.
-use Rattle.std.specs.Prelude.{◌≡◌, ℕ, ◌<◌, ◌≤◌, ◌++◌, List, [], ◌∷◌, length, Bool, true, false, if◌then◌else◌, map, Option, Some, None, option_map, codes}
+use Rattle.std.specs.Prelude.{◌≡◌, ℕ, ◌+◌, ◌<◌, ◌≤◌, ◌++◌, List, [], ◌∷◌, length, T, true, false, not, ◌&&◌, ◌||◌, nat_lt, if◌then◌else◌, map, MatchBool}
+use Rattle.std.specs.Prelude.{Option, Some, None, option_map, option_and_then, Result, Ok, Err, codes}
+use Rattle.std.specs.List.{list_all}
+use Rattle.std.specs.Ordering.{nat_cmp}
+use Rattle.std.specs.Cmp.Lexicographic.{slice_cmp}
+use Rattle.std.specs.FinMap.{find, is_sorted}
 use Rattle.std.specs.Str.{chars}
-use Rattle.serde_json.specs.Data.{Data, array, Members}
+use Rattle.serde_json.specs.Data.{Data, Members}
 use Rattle.serde_json.specs.Find.{get_member, as_str}
 use Rattle.serde_json.specs.View.{items_of}
-use Rattle.base_model.specs.Limits.{element_limit, attribute_limit}
-use Rattle.base_model.specs.Options.{◌>>=◌}
-use Rattle.scene_model.specs.Element.{Attributes}
+use Rattle.base_model.specs.Limits.{attribute_limit, sheet_limit}
+use Rattle.base_model.specs.Text.{Characters}
+use Rattle.scene_model.specs.Element.{Attributes, State}
 use Rattle.scene_model.specs.Nodes.{Node}
-use Rattle.dom_tree.specs.View.{states_of, attributes_of}
-use Rattle.job_json.specs.declared.attributes.Slots.{Slots}
+use Rattle.dom_tree.specs.View.{states_of, pair_of, attributes_of, node_of}
+use Rattle.dom_tree.specs.declared.nodes.Attr.{Attr}
+use Rattle.layer_order.specs.declared.sheet_input.SheetInput.{SheetInput}
+use Rattle.dom_edits.specs.declared.edits.Edit.{Edit}
+use Rattle.job_json.specs.declared.slots.Slot.{Slot}
+use Rattle.job_json.specs.declared.slots.Slots.{Slots}
 use Rattle.job_json.specs.declared.attributes.AttrList.{AttrList}
 use Rattle.job_json.specs.declared.states.StateWords.{StateWords}
+use Rattle.job_json.specs.declared.node.JudgedNode.{JudgedNode}
 use Rattle.job_json.specs.declared.node.NodeParts.{NodeParts}
+use Rattle.job_json.specs.declared.node_list.KeptNodes.{KeptNodes}
 use Rattle.job_json.specs.declared.node_list.Nodes.{Nodes}
+use Rattle.job_json.specs.declared.sheet.LentSheet.{LentSheet}
 use Rattle.job_json.specs.declared.sheet.SheetParts.{SheetParts}
 use Rattle.job_json.specs.declared.sheet_items.SheetItems.{SheetItems}
-use Rattle.job_json.specs.declared.outline.Nothing.{Nothing}
 use Rattle.job_json.specs.declared.document.JobParts.{JobParts}
-use Rattle.job_json.specs.Sheets.{origin_from, enabled_from, sheets_from_items}
-use Rattle.job_json.specs.Values.{whole, name_of, no_states, states_with, states_from, nodes_from, is_one, has_no_items, is_empty_list}
-use Rattle.job_json.specs.Fits.{count_of, are_items_within, are_depths_within, are_sheets_within}
-use Rattle.job_json.specs.Within.{nodes_within, sheets_within}
-use Rattle.job_json.specs.Within.{named_parent, parent_at, attrs_within, node_list_within}
-use Rattle.job_json.specs.Slots.{slot_pair, slots_of}
+use Rattle.job_json.specs.declared.Job.{Job}
+use Rattle.job_json.specs.declared.JobFault.{JobFault}
+use Rattle.job_json.specs.declared.JobFault.TheVariants.{Shape, Limit}
+use Rattle.job_json.specs.Checked.{Checked, ◌>>=◌, map_ok, wanted, right, at_member}
+use Rattle.job_json.specs.Words.{whole, name_of, all_states, is_one, origin_from, enabled_from, named_parent, parent_at}
+use Rattle.job_json.specs.Shape.{items_in, state_in, states_in, node_in, sheet_in}
+use Rattle.job_json.specs.Limits.{Passed, Within, within, count_of, is_short_text}
+use Rattle.job_json.specs.Parts.{attrs_read, nodes_read, sheets_read, batches_read}
+use Rattle.job_json.specs.Held.{Held, IsHeld}
+use Rattle.job_json.specs.Slots.{Pair, slot_pair, put_slot, slots_of, said_by, passed_by, last_at}
+
+-- The items of a list as far as they are read: the first bad place, or as many as they are, and what else holds of
+-- them.
+abbrev pub AreRead : {A : Type 0} → (ℕ → Data → Checked A) → Option Characters → (List A → Type 0) → List Data → Type 0
+AreRead {A} read None Holds ds = (list : List A) × (items_in read 0 (items_of ds) ≡ Ok list) × Holds list
+AreRead read (Some path) Holds ds = items_in read 0 (items_of ds) ≡ Err path
 
 -- the members of an object of attributes
 pub record AreSlotsOf (s : Slots) (ms : Members) : Type 0 where
-  pub listed : s.is_full ≡ false → (map slot_pair s.list.items ≡ slots_of ms) × (length s.list.items ≤ attribute_limit)
-  pub many : s.is_full ≡ true → attribute_limit < count_of ms
+  pub rise : T (is_sorted (slice_cmp nat_cmp) (slots_of ms))
+  pub few : s.are_many ≡ false → (map slot_pair s.list.items ≡ slots_of ms) × (length s.list.items ≤ attribute_limit)
+  pub many : s.are_many ≡ true → (attribute_limit < count_of ms)
+      × ((key : List ℕ) → last_at key (map slot_pair s.list.items) ≡ find (slice_cmp nat_cmp) key (slots_of ms))
 
-abbrev pub attrs_kept : AttrList → Option Attributes
-attrs_kept attrs = if attrs.is_good then Some (attributes_of attrs.list.items) else None
+-- one more member
+abbrev pub AddsSlot : Slots → Slot → Slots → Type 0
+AddsSlot old slot new =
+    MatchBool old.are_many
+    ((new.are_many ≡ true) × (new.list.items ≡ old.list.items ++ slot ∷ []))
+    (MatchBool new.are_many
+    ((attribute_limit < length (put_slot slot old.list.items)) × (new.list.items ≡ old.list.items ++ slot ∷ []))
+    ((new.list.items ≡ put_slot slot old.list.items)
+    × (length old.list.items ≤ attribute_limit → length new.list.items ≤ attribute_limit)))
+
+abbrev pub slots_read : List Pair → Checked (Within (List (Characters × Characters)))
+slots_read pairs = do
+  said ← said_by pairs
+  Ok (within (passed_by pairs) said)
+
+-- attributes as they are made of these
+abbrev pub filled : Checked (Option Passed) → List Attr → Checked (Within (List (Characters × Characters)))
+filled passed list = do
+  limit ← passed
+  Ok (within limit (map pair_of list))
+
+abbrev pub bad_or : {A : Type 0} → Option Characters → A → Checked A
+bad_or None a = Ok a
+bad_or (Some path) a = Err path
+
+abbrev pub attrs_kept : AttrList → Checked (Within Attributes)
+attrs_kept attrs = bad_or attrs.bad (within attrs.passed (attributes_of attrs.list.items))
+
+-- states of which so many are counted
+pub record HasStates (s : StateWords) (named : List State) : Type 0 where
+  pub count : length named ≡ s.count
+  pub states : all_states named ≡ states_of s.states
 
 -- the words of a list of states
 abbrev pub AreStatesOf : StateWords → List Data → Type 0
-AreStatesOf s ds = option_map states_of s.states ≡ states_with no_states (items_of ds)
+AreStatesOf s ds = AreRead (λ k. state_in) s.bad (HasStates s) ds
 
 -- the members of a node
 pub record IsNodeOf (s : NodeParts) (ms : Members) : Type 0 where
-  pub tag : option_map (λ t. chars t.now) s.tag ≡ (get_member (codes "tag") ms >>= name_of)
+  pub tag : option_map (λ t. chars t.now) s.tag ≡ option_and_then name_of (get_member (codes "tag") ms)
   pub parent : s.parent ≡ named_parent (get_member (codes "parent") ms)
-  pub states : option_map states_of s.states ≡ states_from (get_member (codes "states") ms)
-  pub attrs : attrs_kept s.attrs ≡ attrs_within (get_member (codes "attrs") ms)
+  pub attrs : attrs_kept s.attrs ≡ attrs_read (get_member (codes "attrs") ms)
+  pub states : map_ok states_of s.states ≡ states_in (get_member (codes "states") ms)
 
 -- the node at an index
-abbrev pub node_kept : ℕ → NodeParts → Option Node
+abbrev pub node_kept : ℕ → NodeParts → Checked (Within Node)
 node_kept k s = do
-  named ← s.parent
-  parent ← parent_at k named
-  tag ← option_map (λ t. chars t.now) s.tag
-  attrs ← attrs_kept s.attrs
-  states ← option_map states_of s.states
-  Some (record { parent = parent; tag = tag; attrs = attrs; states = states })
+  tag ← at_member (codes "tag") (wanted (option_map (λ t. chars t.now) s.tag))
+  parent ← at_member (codes "parent") (wanted (option_and_then (parent_at k) s.parent))
+  attrs ← at_member (codes "attrs") (attrs_kept s.attrs)
+  states ← at_member (codes "states") (map_ok states_of s.states)
+  Ok (map_ok (λ a. record { parent = parent; tag = tag; attrs = a; states = states }) attrs)
+
+abbrev pub read_kept : ℕ → NodeParts → Checked (Within Node)
+read_kept k s = if s.is_object then node_kept k s else Err []
+
+abbrev pub judged_seen : JudgedNode → Within Node
+judged_seen node = map_ok (node_of node.parent) node.input
 
 abbrev pub nodes_or_none : Option (List Node) → List Node
 nodes_or_none None = []
@@ -62,46 +120,74 @@ abbrev pub HasNodes : Option (List Node) → Type 0
 HasNodes None = Unit {0}
 HasNodes (Some nodes) = 0 < length nodes
 
--- The node, if there is one, was appended exactly where the answer is true.
-abbrev pub IsAppended : Option (List Node) → Option (List Node) → Option Node → Bool → Type 0
-IsAppended old new None is = is ≡ false
-IsAppended old new (Some node) is = (is ≡ true) × (new ≡ Some (nodes_or_none old ++ node ∷ []))
-
--- nodes of which none is too deep
-abbrev pub flat_nodes : List Node → Option (List Node)
-flat_nodes nodes = if are_depths_within nodes then Some nodes else None
-
--- nodes within their limits
-pub record AreGoodNodes (nodes : List Node) (ds : List Data) : Type 0 where
-  pub said : nodes_from 0 (items_of ds) ≡ Some nodes
-  pub within : are_items_within (items_of ds) ≡ true
-  pub count : length nodes ≡ length ds
-  pub few : length ds ≤ element_limit
+abbrev pub held_of : KeptNodes → Held
+held_of kept = record {
+  passed = kept.passed;
+  nodes = nodes_or_none kept.list;
+  depths = kept.depths.items;
+  more = kept.more;
+}
 
 -- the items of a list of nodes
-pub record AreNodesOf (s : Nodes) (ds : List Data) : Type 0 where
-  pub good : s.is_good ≡ true → AreGoodNodes (nodes_or_none s.list) ds × HasNodes s.list
-  pub bad : s.is_good ≡ false → (more : List Data) → nodes_within (items_of (ds ++ more)) ≡ None
+abbrev pub AreNodesOf : Nodes → List Data → Type 0
+AreNodesOf s ds = AreRead node_in s.bad (λ list. IsHeld ds list (held_of s.kept)) ds
+
+abbrev pub sheet_seen : LentSheet → SheetInput
+sheet_seen sheet = record { origin = sheet.origin; enabled = sheet.enabled; text = chars sheet.text.now }
 
 -- the members of a sheet
 pub record IsSheetOf (s : SheetParts) (ms : Members) : Type 0 where
   pub origin : s.origin ≡ origin_from (get_member (codes "origin") ms)
   pub enabled : s.enabled ≡ enabled_from (get_member (codes "enabled") ms)
-  pub text : option_map (λ t. t.now) s.text ≡ (get_member (codes "text") ms >>= as_str)
+  pub text : option_map (λ t. t.now) s.text ≡ option_and_then as_str (get_member (codes "text") ms)
+
+abbrev pub sheet_kept : SheetParts → Checked SheetInput
+sheet_kept s = do
+  origin ← at_member (codes "origin") (wanted s.origin)
+  enabled ← at_member (codes "enabled") (wanted s.enabled)
+  text ← at_member (codes "text") (wanted (option_map chars (option_map (λ t. t.now) s.text)))
+  Ok (record { origin = origin; enabled = enabled; text = text })
+
+-- sheets of which so many are counted, and kept as long as they pass no limit
+pub record HasSheets (s : SheetItems) (sheets : List SheetInput) : Type 0 where
+  pub count : length sheets ≡ s.count
+  pub short : list_all is_short_text sheets ≡ not s.is_long
+  pub kept : s.is_long ≡ false → length sheets ≤ sheet_limit → s.list.items ≡ sheets
 
 -- the items of a list of sheets
-pub record AreSheetsOf (s : SheetItems) (ds : List Data) : Type 0 where
-  pub good : s.is_good ≡ true
-      → (sheets_from_items (items_of ds) ≡ Some s.list.items) × (are_sheets_within s.list.items ≡ true)
-  pub bad : s.is_good ≡ false → (more : List Data) → sheets_within (Some (array (items_of (ds ++ more)))) ≡ None
+abbrev pub AreSheetsOf : SheetItems → List Data → Type 0
+AreSheetsOf s ds = AreRead (λ k. sheet_in) s.bad (HasSheets s) ds
 
--- the items of a list
-abbrev pub IsNothingOf : Nothing → List Data → Type 0
-IsNothingOf s ds = s.is_empty ≡ has_no_items (Some (items_of ds))
+-- one more sheet
+pub record KeepsSheet (old : SheetItems) (sheet : SheetInput) (new : SheetItems) : Type 0 where
+  pub bad : new.bad ≡ old.bad
+  pub count : new.count ≡ old.count + 1
+  pub long : new.is_long ≡ (old.is_long || not (is_short_text sheet))
+  pub list : new.list.items
+      ≡ (if not new.is_long && nat_lt old.count sheet_limit then old.list.items ++ sheet ∷ [] else old.list.items)
 
 -- the members of a job
 pub record IsJobOf (s : JobParts) (ms : Members) : Type 0 where
-  pub version : s.is_version ≡ is_one (get_member (codes "version") ms >>= whole)
-  pub batches : s.has_no_batches ≡ is_empty_list (get_member (codes "batches") ms)
-  pub nodes : s.nodes ≡ (get_member (codes "nodes") ms >>= node_list_within)
-  pub sheets : s.sheets ≡ sheets_within (get_member (codes "sheets") ms)
+  pub version : s.is_version ≡ is_one (option_and_then whole (get_member (codes "version") ms))
+  pub nodes : s.nodes ≡ nodes_read (get_member (codes "nodes") ms)
+  pub sheets : s.sheets ≡ sheets_read (get_member (codes "sheets") ms)
+  pub batches : s.batches ≡ batches_read (get_member (codes "batches") ms)
+
+-- the job of these parts, or the limit that they pass first
+abbrev pub whole_job : Within (List Node) → Within (List SheetInput) → Within (List (List Edit)) → Result Job JobFault
+whole_job (Err passed) sheets batches = Err (Limit passed.0 passed.1)
+whole_job (Ok nodes) (Err passed) batches = Err (Limit passed.0 passed.1)
+whole_job (Ok nodes) (Ok sheets) (Err passed) = Err (Limit passed.0 passed.1)
+whole_job (Ok nodes) (Ok sheets) (Ok batches) = Ok (record { nodes = nodes; sheets = sheets; batches = batches })
+
+abbrev pub shaped : Checked (Result Job JobFault) → Result Job JobFault
+shaped (Ok answer) = answer
+shaped (Err path) = Err (Shape path)
+
+abbrev pub job_kept : JobParts → Result Job JobFault
+job_kept s = shaped (do
+  version ← at_member (codes "version") (right s.is_version)
+  nodes ← at_member (codes "nodes") s.nodes
+  sheets ← at_member (codes "sheets") s.sheets
+  batches ← at_member (codes "batches") s.batches
+  Ok (whole_job nodes sheets batches))

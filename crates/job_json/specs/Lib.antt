@@ -1,10 +1,11 @@
 pub mod Checked
-pub mod Sheets
-pub mod Values
+pub mod Words
 pub mod Shape
-pub mod Fits
+pub mod Edits
 pub mod Limits
 pub mod JobOf
-pub mod Within
+pub mod Parts
+pub mod Held
 pub mod Slots
 pub mod Kept
+pub mod KeptEdits

@@ -1,17 +1,16 @@
 -- The members of the object of attributes, as they are kept until it ends.
-use Rattle.std.specs.Prelude.{ℕ, nat_le, ◌&&◌, if◌then◌else◌, List, [], ◌∷◌, length, Bool, map, Option, Some, None, option_map}
-use Rattle.std.specs.Ordering.{nat_cmp, match_ordering}
+use Rattle.std.specs.Prelude.{ℕ, if◌then◌else◌, List, [], ◌∷◌, Bool, false, is_some, Option, Some, None, Ok, option_map}
+use Rattle.std.specs.Option.{option_or}
+use Rattle.std.specs.Ordering.{nat_cmp, match_ordering, eq_by_cmp}
 use Rattle.std.specs.Cmp.Lexicographic.{slice_cmp}
-use Rattle.std.specs.Str.{chars}
+use Rattle.std.specs.Str.{bytes_eq}
 use Rattle.serde_json.specs.Data.{Members, no_members, member}
 use Rattle.serde_json.specs.Find.{as_str}
-use Rattle.base_model.specs.Limits.{value_limit}
-use Rattle.base_model.specs.Options.{◌>>=◌}
 use Rattle.scene_model.specs.Element.{Characters}
-use Rattle.dom_tree.specs.declared.nodes.Attr.{Attr}
-use Rattle.dom_tree.specs.View.{pair_of}
-use Rattle.job_json.specs.declared.attributes.Slot.{Slot}
-use Rattle.job_json.specs.Values.{is_name}
+use Rattle.job_json.specs.declared.slots.Slot.{Slot}
+use Rattle.job_json.specs.Checked.{Checked, ◌>>=◌, wanted, at_member}
+use Rattle.job_json.specs.Words.{pair_from}
+use Rattle.job_json.specs.Limits.{Passed, value_past}
 
 -- a key, and its text where the value is one
 abbrev pub Pair : Type 0
@@ -33,18 +32,35 @@ abbrev pub slots_of : Members → List Pair
 slots_of no_members = []
 slots_of (member key value rest) = (key, as_str value) ∷ slots_of rest
 
--- the attribute of a pair: a name, with a text that is not too long
-abbrev pub pair_within : Pair → Option (Characters × Characters)
-pair_within pair = do
-  text ← pair.1
-  if is_name pair.0 && nat_le (length text) value_limit then Some (chars pair.0, chars text) else None
+-- what pairs in the order of their keys say
+abbrev pub said_by : List Pair → Checked (List (Characters × Characters))
+said_by [] = Ok []
+said_by (pair ∷ pairs) = do
+  first ← at_member pair.0 (wanted (pair_from pair.0 pair.1))
+  rest ← said_by pairs
+  Ok (first ∷ rest)
 
-abbrev pub pairs_within : List Pair → Option (List (Characters × Characters))
-pairs_within [] = Some []
-pairs_within (pair ∷ pairs) = do
-  first ← pair_within pair
-  rest ← pairs_within pairs
-  Some (first ∷ rest)
+-- the limit of a value that they pass
+abbrev pub passed_by : List Pair → Option Passed
+passed_by [] = None
+passed_by (pair ∷ pairs) = option_or (value_past pair.1) (passed_by pairs)
 
-abbrev pub attrs_said : Bool → List Attr → Option (List (Characters × Characters))
-attrs_said is_good list = if is_good then Some (map pair_of list) else None
+-- of pairs with the same key, one after another, the last
+abbrev pub begins_with : List ℕ → List Pair → Bool
+begins_with key [] = false
+begins_with key (pair ∷ pairs) = bytes_eq pair.0 key
+
+abbrev pub latest : List Pair → List Pair
+latest [] = []
+latest (pair ∷ pairs) = if begins_with pair.0 pairs then latest pairs else pair ∷ latest pairs
+
+-- the last value with this key
+abbrev pub last_at : List ℕ → List Pair → Option (Option (List ℕ))
+last_at key [] = None
+last_at key (pair ∷ pairs) =
+    option_or (last_at key pairs) (if eq_by_cmp (slice_cmp nat_cmp) key pair.0 then Some pair.1 else None)
+
+-- the first key that is no attribute with its value
+abbrev pub first_bad_key : List Pair → Option (List ℕ)
+first_bad_key [] = None
+first_bad_key (pair ∷ pairs) = if is_some (pair_from pair.0 pair.1) then first_bad_key pairs else Some pair.0

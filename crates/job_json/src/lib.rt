@@ -1,39 +1,39 @@
-//! Reads a job: the document and the style sheets that its JSON says.
+//! Reads a job: the document, the style sheets and the batches of edits that its JSON says.
 #![tactic(auto)]
 
 mod attributes;
+mod batch_items;
+mod batch_list;
+mod checked;
 mod document;
-mod fault;
+mod edit;
+mod edit_items;
 mod limits;
 mod name;
 mod node;
-mod node_limits;
 mod node_list;
-mod node_walk;
-mod outline;
 mod pointer;
 mod sheet;
 mod sheet_items;
 mod sheet_list;
+mod slots;
 mod states;
-mod walk;
 
 ghost use Rattle.std.specs.Prelude.{◌≡◌, ◌≤◌, List, ℕ, Ok, Err, IfOk, length};
 ghost use Rattle.serde_json.specs.Data.{Data};
 ghost use Rattle.serde_json.specs.Read.{read as read_json};
 ghost use Rattle.stylo_base.specs.declared.refusal.Kind.{Kind};
 ghost use Rattle.base_model.specs.Limits.{input_limit, element_limit, sheet_limit};
-ghost use Rattle.job_json.specs.JobOf.{verdict_of, not_json, bad_shape, over, good, IsDue};
-ghost use Rattle.job_json.specs.Within.{job_within};
+ghost use Rattle.job_json.specs.JobOf.{verdict_of, verdict_on, not_json, bad_shape, over, good, answer_to, IsDue};
 
 use crate::document::take_job;
-use crate::fault::fault_in;
+pub use batch_list::BatchList;
 use dom_tree::NodeList;
 use json::{Reader, Scratch};
 use json_reader::Stop;
 pub use sheet_list::SheetList;
 use std::alloc::Global;
-use stylo_base::{Kind, NoMemory, PathText};
+use stylo_base::{Kind, PathText};
 use thiserror::Error;
 
 /// How deep arrays and objects may nest in a job, as in every value that `serde_json` reads.
@@ -46,6 +46,8 @@ pub struct Job {
     pub nodes: NodeList,
     /// Its style sheets before any edit.
     pub sheets: SheetList,
+    /// Its batches of edits.
+    pub batches: BatchList,
 }
 
 /// Why there is no job.
@@ -82,28 +84,24 @@ pub fn read(alloc: Global, bytes: &[u8]) -> Result<Job, JobFault>
     let Ok(text) = str::from_utf8(bytes) else {
         return Err(JobFault::NotJson);
     };
-    match job_of_text(alloc, text) {
-        Ok(Some(job)) => Ok(job),
-        Ok(None) => match fault_in(alloc, text) {
-            Ok(fault) => Err(fault),
-            Err(NoMemory) => Err(JobFault::NoMemory),
-        },
+    match read_text(alloc, text) {
+        Ok(answer) => answer,
         Err(Stop::NotJson) => Err(JobFault::NotJson),
         Err(Stop::NoMemory) => Err(JobFault::NoMemory),
     }
 }
 
-/// The job that a text says. None: its value says none.
-fn job_of_text(alloc: Global, text: &str) -> Result<Option<Job>, Stop>
-    ensures ok { IfOk result (λ job. (d : Data) × (read_json text.now ≡ Some d)
-        × (job_within d ≡ job)) }
+/// The job that a text says, or what is wrong with its value.
+fn read_text(alloc: Global, text: &str) -> Result<Result<Job, JobFault>, Stop>
+    ensures ok { IfOk result (λ answer. (d : Data) × (read_json text.now ≡ Some d)
+        × (answer_to (verdict_on d) ≡ answer)) }
     ensures err { result ≡ Err Stop.NotJson → read_json text.now ≡ None }
 {
     let mut scratch = Scratch::new(alloc);
     let mut reader = Reader::new(text, &mut scratch)?;
-    let job = take_job(alloc, &mut reader, MAX_DEPTH)?;
+    let answer = take_job(alloc, &mut reader, MAX_DEPTH)?;
     if reader.next().is_some() {
         return Err(Stop::NotJson);
     }
-    Ok(job)
+    Ok(answer)
 }

@@ -3,8 +3,7 @@
 ghost use Rattle.std.specs.Prelude.{◌≡◌, option_map, option_and_then};
 ghost use Rattle.std.specs.List.{list_all};
 ghost use Rattle.std.specs.Str.{chars};
-ghost use Rattle.job_json.specs.Values.{is_visible, is_name};
-ghost use Rattle.job_json.specs.Within.{name_said};
+ghost use Rattle.job_json.specs.Words.{is_visible, is_name, name_said};
 
 use stylo_base::limits::NAME_LIMIT;
 

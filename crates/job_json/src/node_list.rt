@@ -1,32 +1,48 @@
 //! The list of nodes.
 
-ghost use Rattle.std.specs.Prelude.{◌≡◌, ◌<◌, ◌++◌, ◌∷◌, [], length, Some, None, option_and_then, IfOk, OnOk};
+ghost use Rattle.std.specs.Prelude.{◌≡◌, ◌<◌, ◌++◌, ◌∷◌, [], length, Some, None, IfOk, OnOk};
 ghost use Rattle.json_reader.specs.Taken.{taken, Says};
+ghost use Rattle.base_model.specs.Limits.{element_limit};
 ghost use Rattle.scene_model.specs.Nodes.{IsParentAt};
 ghost use Rattle.dom_tree.specs.View.{node_of};
-ghost use Rattle.job_json.specs.Within.{node_list_within};
-ghost use Rattle.base_model.specs.Limits.{element_limit};
-ghost use Rattle.job_json.specs.Kept.{nodes_or_none, node_kept, flat_nodes, IsAppended};
+ghost use Rattle.job_json.specs.Parts.{nodes_read};
+ghost use Rattle.job_json.specs.Held.{count_held, held_next, held_at_end, depth_below, node_within};
+ghost use Rattle.job_json.specs.Kept.{judged_seen, nodes_or_none, HasNodes, held_of};
 
-use crate::limits::are_depths_within;
-use crate::node::{NodeParts, parent_at};
+use crate::checked::{Checked, one_more};
+use crate::limits::{Passed, Within, past};
+use crate::node::{JudgedNode, NodeParts};
+use crate::pointer::in_item;
 use dom_tree::{NodeInput, NodeList};
 use json::Reader;
 use json_reader::{KeepItems, Stop, array, pass};
 use std::alloc::Global;
-use stylo_base::NoMemory;
-use stylo_base::limits::ELEMENT_LIMIT;
+use stylo_base::limits::{DEPTH_LIMIT, ELEMENT_LIMIT};
+use stylo_base::{Kind, NoMemory, Text};
 
 /// What is kept of the items of a list of nodes.
 #[derive(Drop)]
-pub(crate) struct Nodes<'a> {
+struct Nodes<'a> {
     alloc: Global,
-    /// Whether each item so far is a node within its limits, and there are not too many.
-    is_good: bool,
-    /// None: there is none yet.
-    list: Option<NodeList>,
+    /// The first bad place. What comes after it is passed over.
+    bad: Option<Text>,
+    /// The nodes before that place.
+    kept: KeptNodes,
     /// The node that is read.
     node: NodeParts<'a>,
+}
+
+/// The nodes of a list, as long as they pass no limit.
+#[derive(Drop)]
+struct KeptNodes {
+    /// The limit that a node passes first.
+    passed: Option<Passed>,
+    /// The nodes before that one, and before there are too many. None: there is none yet.
+    list: Option<NodeList>,
+    /// The depth of each of these.
+    depths: Vec<usize>,
+    /// How many nodes come after these.
+    more: usize,
 }
 
 impl<'a> KeepItems<'a> for Nodes<'a> {
@@ -35,113 +51,161 @@ impl<'a> KeepItems<'a> for Nodes<'a> {
     ghost keeps = { AreNodesOf };
 
     fn item(&mut self, reader: &mut Reader<'a>, depth: usize) -> Result<(), Stop> {
-        if !self.is_good || count_of(&self.list) >= ELEMENT_LIMIT {
-            self.is_good = false;
+        if self.bad.is_some() {
             pass(reader, depth)?;
             return Ok(());
         }
         self.node.read(reader, depth)?;
-        self.is_good = append_node(self.alloc, &mut self.list, &self.node)?;
+        let index = self.kept.count()?;
+        match self.node.judge(index)? {
+            Ok(node) => self.kept.push(self.alloc, index, node)?,
+            Err(path) => self.bad = Some(in_item(self.alloc, index, &path)?),
+        }
         Ok(())
     }
 }
 
-/// Takes a list of nodes within their limits. None: it is none.
-pub(crate) fn take_nodes(
-    alloc: Global,
-    reader: &mut Reader<'_>,
-    depth: usize,
-) -> Result<Option<NodeList>, Stop>
-    ensures ok { IfOk result (λ list. Says node_list_within list (taken depth reader.old) reader.new) }
-    ensures shorter { OnOk result (length reader.new < length reader.old) }
-    ensures err { result ≡ Err Stop.NotJson → taken depth reader.old ≡ None }
-{
-    let mut nodes = Nodes {
-        alloc,
-        is_good: true,
-        list: None,
-        node: NodeParts::new(alloc),
-    };
-    if !array(reader, depth, &mut nodes)? {
-        return Ok(None);
+impl KeptNodes {
+    /// How many nodes there are.
+    fn count(&self) -> Result<usize, NoMemory>
+        ensures count { IfOk result (λ count. count ≡ count_held (held_of self.now)) }
+        ensures some { HasNodes self.now.list }
+    {
+        let kept = match &self.list {
+            Some(list) => list.len(),
+            None => 0,
+        };
+        match kept.checked_add(self.more) {
+            Some(count) => Ok(count),
+            None => Err(NoMemory),
+        }
     }
-    let Nodes { is_good, list, .. } = nodes;
-    if !is_good {
-        return Ok(None);
+
+    /// Counts one more node, the one at this index, and keeps it where no limit is passed.
+    fn push(&mut self, alloc: Global, index: usize, node: JudgedNode<'_>) -> Result<(), NoMemory>
+        requires index { index ≡ count_held (held_of self.old) }
+        requires parent { IsParentAt index node.parent }
+        ensures { OnOk result
+            (held_of self.new ≡ held_next (held_of self.old) node.entry.parent (judged_seen node.entry)) }
+    {
+        if self.more > 0 || index >= ELEMENT_LIMIT {
+            self.more = one_more(self.more)?;
+            return Ok(());
+        }
+        let depth = self.depth_below(node.parent);
+        match within(node.input, depth) {
+            Ok(input) => {
+                append(alloc, &mut self.list, node.parent, input)?;
+                self.depths.push(depth)?;
+            }
+            Err(passed) => {
+                self.passed = Some(passed);
+                self.more = 1;
+            }
+        }
+        Ok(())
     }
-    Ok(with_depths_within(alloc, list)?)
+
+    /// The whole list, which is not to be empty.
+    fn finish(self, alloc: Global) -> Result<Checked<Within<NodeList>>, NoMemory>
+        ensures { IfOk result (λ nodes. nodes ≡ held_at_end (held_of self)) }
+    {
+        let count = self.count()?;
+        let KeptNodes { passed, list, .. } = self;
+        if let Some(passed) = past(Kind::Elements, ELEMENT_LIMIT, count).or(passed) {
+            return Ok(Ok(Err(passed)));
+        }
+        match list {
+            Some(list) => Ok(Ok(Ok(list))),
+            None => Ok(Err(Text::new(alloc))),
+        }
+    }
+
+    /// The depth of a node with this parent. The root has 1.
+    fn depth_below(&self, parent: Option<usize>) -> usize
+        ensures { result ≡ depth_below self.now.depths.items parent }
+    {
+        let Some(parent) = parent else {
+            return 1;
+        };
+        if parent < self.depths.len() {
+            self.depths[parent].saturating_add(1)
+        } else {
+            1
+        }
+    }
 }
 
-/// The list, where no node is too deep.
-fn with_depths_within(alloc: Global, list: Option<NodeList>) -> Result<Option<NodeList>, NoMemory>
-    ensures { IfOk result (λ kept. kept ≡ option_and_then flat_nodes list) }
+/// The node, where it is not too deep.
+fn within(input: Within<NodeInput<'_>>, depth: usize) -> Within<NodeInput<'_>>
+    ensures { result ≡ node_within input.entry depth }
 {
-    let Some(list) = list else {
-        return Ok(None);
-    };
-    if are_depths_within(alloc, &list)? {
-        Ok(Some(list))
-    } else {
-        Ok(None)
+    let input = input?;
+    match past(Kind::Depth, DEPTH_LIMIT as usize, depth) {
+        None => Ok(input),
+        Some(passed) => Err(passed),
     }
-}
-
-fn count_of(list: &Option<NodeList>) -> usize
-    ensures { result ≡ length (nodes_or_none list.now) }
-{
-    match list {
-        Some(list) => list.len(),
-        None => 0,
-    }
-}
-
-/// Appends the node that was read. False: it is none.
-fn append_node(
-    alloc: Global,
-    list: &mut Option<NodeList>,
-    node: &NodeParts<'_>,
-) -> Result<bool, NoMemory>
-    requires { length (nodes_or_none list.old) < element_limit }
-    ensures { IfOk result (λ is. IsAppended list.old list.new
-        (node_kept (length (nodes_or_none list.old)) node.now) is) }
-{
-    let Some(named) = node.parent else {
-        return Ok(false);
-    };
-    let Some(parent) = parent_at(count_of(list) as u32, named) else {
-        return Ok(false);
-    };
-    let Some(tag) = node.tag else {
-        return Ok(false);
-    };
-    let Some(attrs) = node.attrs.as_slice() else {
-        return Ok(false);
-    };
-    let Some(states) = node.states else {
-        return Ok(false);
-    };
-    append(alloc, list, parent, NodeInput { tag, attrs, states })?;
-    Ok(true)
 }
 
 /// Appends a node, as a child of the node at the index `parent`.
 fn append(
     alloc: Global,
     list: &mut Option<NodeList>,
-    parent: Option<u32>,
-    node: NodeInput,
+    parent: Option<usize>,
+    node: NodeInput<'_>,
 ) -> Result<(), NoMemory>
-    requires { IsParentAt (length (nodes_or_none list.old)) parent }
+    requires few { length (nodes_or_none list.old) < element_limit }
+    requires parent { IsParentAt (length (nodes_or_none list.old)) parent }
     ensures { OnOk result
-        (list.new ≡ Some (nodes_or_none list.old ++ node_of parent node.entry ∷ [])) }
+        (nodes_or_none list.new ≡ nodes_or_none list.old ++ node_of parent node.entry ∷ []) }
 {
     match parent {
-        None => *list = Some(NodeList::of_root(alloc, node)?),
+        None => begin(alloc, list, node)?,
         Some(parent) => {
             if let Some(list) = list {
-                list.push(parent, node)?;
+                list.push(parent as u32, node)?;
             }
         }
     }
     Ok(())
+}
+
+/// Makes a list of the root alone.
+fn begin(alloc: Global, list: &mut Option<NodeList>, root: NodeInput<'_>) -> Result<(), NoMemory>
+    ensures { OnOk result (nodes_or_none list.new ≡ node_of None root.entry ∷ []) }
+{
+    *list = Some(NodeList::of_root(alloc, root)?);
+    Ok(())
+}
+
+/// Takes a list of nodes.
+pub(crate) fn take_nodes(
+    alloc: Global,
+    reader: &mut Reader<'_>,
+    depth: usize,
+) -> Result<Checked<Within<NodeList>>, Stop>
+    ensures ok { IfOk result (λ nodes. Says (λ d. nodes_read (Some d)) nodes
+        (taken depth reader.old) reader.new) }
+    ensures shorter { OnOk result (length reader.new < length reader.old) }
+    ensures err { result ≡ Err Stop.NotJson → taken depth reader.old ≡ None }
+{
+    let mut nodes = Nodes {
+        alloc,
+        bad: None,
+        kept: KeptNodes {
+            passed: None,
+            list: None,
+            depths: Vec::new(alloc),
+            more: 0,
+        },
+        node: NodeParts::new(alloc),
+    };
+    if !array(reader, depth, &mut nodes)? {
+        return Ok(Err(Text::new(alloc)));
+    }
+    let Nodes { bad, kept, .. } = nodes;
+    match bad {
+        None => Ok(kept.finish(alloc)?),
+        Some(path) => Ok(Err(path)),
+    }
 }

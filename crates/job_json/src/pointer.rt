@@ -1,55 +1,37 @@
 //! JSON pointers, made from their ends: only where a job is at fault.
 
-ghost use Rattle.std.specs.Prelude.{◌≡◌, ◌++◌, IfOk, OnOk, decimal, option_map};
+ghost use Rattle.std.specs.Prelude.{◌≡◌, ◌++◌, [], IfOk, OnOk, decimal};
 ghost use Rattle.std.specs.Str.{chars};
-ghost use Rattle.job_json.specs.Checked.{below, escaped, escaped_one, first_bad, right};
+ghost use Rattle.job_json.specs.Checked.{below, escaped, escaped_one};
 
 use std::alloc::Global;
 use stylo_base::{NoMemory, Text};
 
-/// The bad place of a part that is right or bad itself.
-pub(crate) fn here(alloc: Global, is_right: bool) -> Option<Text>
-    ensures { result ≡ first_bad (right is_right) }
+/// The pointer to the member `key`, from its object.
+pub(crate) fn to_member(alloc: Global, key: &str) -> Result<Text, NoMemory>
+    ensures { IfOk result (λ path. path ≡ below (escaped (chars key.now)) []) }
 {
-    if is_right {
-        None
-    } else {
-        Some(Text::new(alloc))
-    }
+    in_member(alloc, key, &Text::new(alloc))
 }
 
-/// The bad place in the member `key`, as that of the object.
-pub(crate) fn at_member(
-    alloc: Global,
-    key: &str,
-    path: Option<Text>,
-) -> Result<Option<Text>, NoMemory>
-    ensures { IfOk result (λ found. found ≡ option_map (below (escaped (chars key.now))) path) }
+/// The pointer to a place in the member `key`, from its object.
+pub(crate) fn in_member(alloc: Global, key: &str, place: &Text) -> Result<Text, NoMemory>
+    ensures { IfOk result (λ path. path ≡ below (escaped (chars key.now)) place.now) }
 {
-    let Some(path) = path else {
-        return Ok(None);
-    };
-    let mut found = Text::of_str(alloc, "/")?;
-    push_escaped(&mut found, key)?;
-    found.push_text(&path)?;
-    Ok(Some(found))
+    let mut path = Text::of_str(alloc, "/")?;
+    push_escaped(&mut path, key)?;
+    path.push_text(place)?;
+    Ok(path)
 }
 
-/// The bad place in the item `index`, as that of the array.
-pub(crate) fn at_index(
-    alloc: Global,
-    index: usize,
-    path: Option<Text>,
-) -> Result<Option<Text>, NoMemory>
-    ensures { IfOk result (λ found. found ≡ option_map (below (decimal index)) path) }
+/// The pointer to a place in the item `index`, from its array.
+pub(crate) fn in_item(alloc: Global, index: usize, place: &Text) -> Result<Text, NoMemory>
+    ensures { IfOk result (λ path. path ≡ below (decimal index) place.now) }
 {
-    let Some(path) = path else {
-        return Ok(None);
-    };
-    let mut found = Text::of_str(alloc, "/")?;
-    found.push_number(index as u64)?;
-    found.push_text(&path)?;
-    Ok(Some(found))
+    let mut path = Text::of_str(alloc, "/")?;
+    path.push_number(index as u64)?;
+    path.push_text(place)?;
+    Ok(path)
 }
 
 /// Appends the key of a step, in which `~0` stands for `~` and `~1` for `/`.

@@ -1,14 +1,27 @@
 //! One style sheet of a job.
 
-ghost use Rattle.std.specs.Prelude.{◌≡◌, ◌<◌, length, Some, None, option_map, option_and_then, IfOk, OnOk};
+ghost use Rattle.std.specs.Prelude.{◌≡◌, ◌<◌, length, None, option_map, option_and_then, IfOk, OnOk};
 ghost use Rattle.json_reader.specs.Taken.{taken, Says};
-ghost use Rattle.job_json.specs.Sheets.{origin_named, sheet_from};
+ghost use Rattle.job_json.specs.Checked.{map_ok};
+ghost use Rattle.job_json.specs.Words.{origin_named};
+ghost use Rattle.job_json.specs.Shape.{sheet_in};
+ghost use Rattle.job_json.specs.Kept.{sheet_seen, sheet_kept};
 
+use crate::checked::Checked;
+use crate::pointer::to_member;
 use json::Reader;
 use json_reader::{KeepMembers, Stop, boolean, object, pass, text};
-use layer_order::{Origin, SheetInput};
+use layer_order::Origin;
 use std::alloc::Global;
-use stylo_base::Text;
+use stylo_base::{NoMemory, Text};
+
+/// A sheet of the right shape, its text still in the input.
+#[derive(Clone, Copy)]
+pub(crate) struct LentSheet<'a> {
+    pub origin: Origin,
+    pub enabled: bool,
+    pub text: &'a str,
+}
 
 /// What is kept of the members of a sheet. None: it is not what it must be.
 #[derive(Drop)]
@@ -34,13 +47,14 @@ impl<'a> KeepMembers<'a> for SheetParts<'a> {
     }
 }
 
-/// Takes a sheet. None: the value is none.
-pub(crate) fn take_sheet(
+/// Takes a sheet.
+pub(crate) fn take_sheet<'a>(
     alloc: Global,
-    reader: &mut Reader<'_>,
+    reader: &mut Reader<'a>,
     depth: usize,
-) -> Result<Option<SheetInput>, Stop>
-    ensures ok { IfOk result (λ sheet. Says sheet_from sheet (taken depth reader.old) reader.new) }
+) -> Result<Checked<LentSheet<'a>>, Stop>
+    ensures ok { IfOk result (λ sheet. Says sheet_in (map_ok sheet_seen sheet)
+        (taken depth reader.old) reader.new) }
     ensures shorter { OnOk result (length reader.new < length reader.old) }
     ensures err { result ≡ Err Stop.NotJson → taken depth reader.old ≡ None }
 {
@@ -50,35 +64,38 @@ pub(crate) fn take_sheet(
         text: None,
     };
     if !object(reader, depth, &mut parts)? {
-        return Ok(None);
+        return Ok(Err(Text::new(alloc)));
     }
-    let Some(origin) = parts.origin else {
-        return Ok(None);
-    };
-    let Some(enabled) = parts.enabled else {
-        return Ok(None);
-    };
-    let Some(text) = parts.text else {
-        return Ok(None);
-    };
-    Ok(Some(SheetInput {
-        origin,
-        enabled,
-        text: Text::of_str(alloc, text)?,
-    }))
+    Ok(parts.judge(alloc)?)
+}
+
+impl<'a> SheetParts<'a> {
+    /// The sheet of the members.
+    fn judge(&self, alloc: Global) -> Result<Checked<LentSheet<'a>>, NoMemory>
+        ensures { IfOk result (λ sheet. map_ok sheet_seen sheet ≡ sheet_kept self.now) }
+    {
+        let Some(origin) = self.origin else {
+            return Ok(Err(to_member(alloc, "origin")?));
+        };
+        let Some(enabled) = self.enabled else {
+            return Ok(Err(to_member(alloc, "enabled")?));
+        };
+        let Some(text) = self.text else {
+            return Ok(Err(to_member(alloc, "text")?));
+        };
+        Ok(Ok(LentSheet {
+            origin,
+            enabled,
+            text,
+        }))
+    }
 }
 
 /// The origin that a word names.
-pub(crate) fn origin_in(word: Option<&str>) -> Option<Origin>
+fn origin_in(word: Option<&str>) -> Option<Origin>
     ensures { result ≡ option_and_then origin_named (option_map (λ t. t.now) word.entry) }
 {
-    origin_named(word?)
-}
-
-fn origin_named(word: &str) -> Option<Origin>
-    ensures { result ≡ origin_named word.now }
-{
-    match word {
+    match word? {
         "ua" => Some(Origin::UserAgent),
         "user" => Some(Origin::User),
         "author" => Some(Origin::Author),

@@ -1,5 +1,5 @@
 -- The lines computed, but for the digits of the number.
-use Rattle.std.proofs.Common.{◌≡◌, ℕ, Bool, List, [], ◌∷◌, ◌++◌, map, false, true, refl, ap, ◌∙◌, lit<}
+use Rattle.std.proofs.Common.{◌≡◌, ℕ, Bool, List, [], ◌∷◌, ◌++◌, map, false, true, refl, ap, ◌∙◌}
 use Rattle.std.specs.Prelude.{codes, neg_ℤ, pos}
 use Rattle.std.specs.Ordering.{nat_cmp}
 use Rattle.std.specs.Cmp.Lexicographic.{slice_cmp}
@@ -16,7 +16,9 @@ use Rattle.custom_model.specs.Printed.{custom_text, custom_texts, joined}
 use Rattle.custom_model.proofs.Maps.{texts-empty}
 use Rattle.value_model.specs.Printed.{declaration_texts}
 use Rattle.value_model.specs.Style.{Style, adjusted, initial_style, with_changed}
-use Rattle.report_text.specs.Lines.{element_line}
+use Rattle.stylo_base.specs.declared.refusal.Kind.TheVariants.{Attributes}
+use Rattle.stylo_base.specs.declared.refusal.EditRefused.TheVariants.{UnknownNode, UnknownSheet, BadPlace, Limit}
+use Rattle.report_text.specs.Lines.{element_line, refused_line}
 use Rattle.base_model.proofs.Digits.{digit_1}
 
 -- a line by the texts of the properties and those of the custom ones
@@ -68,3 +70,21 @@ custom_behind : (n : ℕ) → element_line n (codes "a") (record { values = valu
 unfolding element_line table custom_texts written
 custom_behind n =
     ap (λ entries. line_with n (codes "a") (codes "display: block" ∷ []) (map custom_text entries)) (finmap.entries-from_sorted (slice_cmp nat_cmp) some_entries tt)
+
+-- refused edits
+
+an_unknown_node : (place n : ℕ) → refused_line place (UnknownNode n) ≡ codes "refused " ++ (decimal place ++ (codes ": unknown node " ++ (decimal n ++ codes "\n")))
+unfolding refused_line
+an_unknown_node place n = refl
+
+an_unknown_sheet : (place n : ℕ) → refused_line place (UnknownSheet n) ≡ codes "refused " ++ (decimal place ++ (codes ": unknown sheet " ++ (decimal n ++ codes "\n")))
+unfolding refused_line
+an_unknown_sheet place n = refl
+
+a_bad_place : refused_line 1 BadPlace ≡ codes "refused 1: bad place\n"
+unfolding refused_line
+a_bad_place = ap (λ place. codes "refused " ++ (place ++ codes ": bad place\n")) digit_1
+
+a_limit : (place most : ℕ) → refused_line place (Limit Attributes most) ≡ codes "refused " ++ (decimal place ++ (codes ": limit attributes " ++ (decimal most ++ codes "\n")))
+unfolding refused_line
+a_limit place most = refl

@@ -1,14 +1,15 @@
-//! What is printed for a batch and for an element, each line with its line feed.
+//! What is printed for a batch, for a refused edit and for an element, each line with its line feed.
 
-ghost use Rattle.std.specs.Prelude.{◌≡◌, ◌++◌, IfOk, OnOk, decimal, true};
+ghost use Rattle.std.specs.Prelude.{◌≡◌, ◌≢◌, ◌++◌, IfOk, OnOk, codes, decimal, true};
 ghost use Rattle.std.specs.Str.{chars};
 ghost use Rattle.stylo_base.specs.Ascii.{is_all_ascii};
+ghost use Rattle.stylo_base.specs.KindName.{name_of};
 ghost use Rattle.value_model.specs.Printed.{printed_declarations};
-ghost use Rattle.report_text.specs.Lines.{batch_line, element_line, separator};
+ghost use Rattle.report_text.specs.Lines.{batch_line, element_line, refusal_text, refused_line, separator};
 
 use std::alloc::Global;
 use style_value::Style;
-use stylo_base::{NoMemory, Text};
+use stylo_base::{EditRefused, Kind, NoMemory, Text};
 
 /// The line of a batch: how many of its edits were accepted and refused, and how many elements were
 /// matched and cascaded in its restyle.
@@ -30,6 +31,50 @@ pub fn batch_line(
     push_count(&mut line, " matched, ", cascaded)?;
     line.push_str(" cascaded\n")?;
     Ok(line)
+}
+
+/// The line of a refused edit: its place in its batch, from 1, and why it is refused.
+pub fn refused_line(alloc: Global, place: u64, why: &EditRefused) -> Result<Text, NoMemory>
+    requires { why.now ≢ EditRefused.NoMemory }
+    ensures { IfOk result (λ t. t ≡ refused_line place why.now) }
+{
+    let mut line = Text::new(alloc);
+    push_refused_line(&mut line, place, why)?;
+    Ok(line)
+}
+
+/// Appends the line of a refused edit to `line`. Out of memory, it may hold a part of the line.
+pub fn push_refused_line(line: &mut Text, place: u64, why: &EditRefused) -> Result<(), NoMemory>
+    requires { why.now ≢ EditRefused.NoMemory }
+    ensures { OnOk result (line.new ≡ line.old ++ refused_line place why.now) }
+{
+    push_count(line, "refused ", place)?;
+    line.push_str(": ")?;
+    push_refusal(line, why)?;
+    line.push_str("\n")
+}
+
+/// Appends why an edit is refused.
+fn push_refusal(line: &mut Text, why: &EditRefused) -> Result<(), NoMemory>
+    requires { why.now ≢ EditRefused.NoMemory }
+    ensures { OnOk result (line.new ≡ line.old ++ refusal_text why.now) }
+{
+    match why {
+        EditRefused::UnknownNode(number) => push_count(line, "unknown node ", *number),
+        EditRefused::UnknownSheet(number) => push_count(line, "unknown sheet ", *number),
+        EditRefused::BadPlace => line.push_str("bad place"),
+        EditRefused::Limit(kind, most) => push_limit(line, *kind, *most),
+        EditRefused::NoMemory => unreachable!(),
+    }
+}
+
+/// Appends the kind of a limit and its number.
+fn push_limit(line: &mut Text, kind: Kind, most: u64) -> Result<(), NoMemory>
+    ensures { OnOk result (line.new ≡ line.old ++ (codes "limit " ++ (name_of kind ++ (codes " " ++ decimal most)))) }
+{
+    line.push_str("limit ")?;
+    line.push_str(kind.name())?;
+    push_count(line, " ", most)
 }
 
 /// The line of an element: its number, its tag, each property whose value is not the standing one,

@@ -129,7 +129,7 @@ block_writable block h = declared_in_writable (declarations_in block) (block_dec
 -- of the text of a `style` attribute
 pub style_declared_writable : (text : Characters) → AllByRecursion DeclaredWritable (style_declared text)
 unfolding style_declared
-style_declared_writable text = block_writable (tokens_in (preprocessed text)) (of_text (preprocessed text))
+style_declared_writable text = block_writable (tokens_in (preprocessed text)) (of_text text)
 
 -- and of the rules of a sheet's text
 

@@ -131,4 +131,4 @@ rules_of_text edition tokens h =
 
 -- and of the rules of a sheet's text
 pub sheet_rules_of_text : (edition : SheetEdition) (text : Characters) → AllByRecursion RuleOfText (sheet_rules_in edition text)
-sheet_rules_of_text edition text = rules_of_text edition (tokens_in (preprocessed text)) (of_text (preprocessed text))
+sheet_rules_of_text edition text = rules_of_text edition (tokens_in (preprocessed text)) (of_text text)

@@ -1,5 +1,5 @@
 -- How examples of whole jobs are computed: the declarations that apply to an element, its style, and its line.
-use Rattle.std.proofs.Common.{◌≡◌, ℕ, ℤ, Bool, false, true, List, [], ◌∷◌, ◌++◌, Option, Some, is_none, map, if◌then◌else◌, append-nil, refl, ap, ◌∙◌, lit<}
+use Rattle.std.proofs.Common.{◌≡◌, ℕ, ℤ, Bool, false, true, List, [], ◌∷◌, ◌++◌, Option, Some, is_none, map, if◌then◌else◌, append-nil, refl, ap, ◌∙◌}
 use Rattle.std.specs.Prelude.{codes, decimal, encode_utf8_all, length, slice_get}
 use Rattle.std.specs.List.{concat}
 use Rattle.std.specs.FinMap as finmap
@@ -21,17 +21,20 @@ use Rattle.value_model.specs.Table.{table}
 use Rattle.value_model.specs.Style.{Style, initial_style, initial_size, font_size_of}
 use Rattle.value_model.specs.Printed.{declaration_texts}
 use Rattle.sheet_model.specs.Declared.{Declared}
-use Rattle.sheet_model.specs.Sources.{PlacedRule, Sources}
+use Rattle.sheet_model.specs.Sources.{PlacedRule, Sources, sources_of}
 use Rattle.cascade_model.specs.Key.{Matched}
 use Rattle.cascade_model.specs.Matching.{all_matched, matching}
 use Rattle.cascade_model.specs.Custom.{declared_values}
 use Rattle.cascade_model.specs.Cascade.{cascaded, cascaded_over}
 use Rattle.cascade_model.specs.StyleOf.{root_of, root_size_at, root_size_of, style_along, style_of}
 use Rattle.cascade_model.proofs.ExampleCases.{cascaded_alone, styled, values_with}
+use Rattle.session_model.specs.Standing.{elements_of}
+use Rattle.session_model.specs.Batches.{Report}
 use Rattle.layer_order.specs.declared.origin.Origin.TheVariants.{Author}
 use Rattle.layer_order.specs.declared.sheet_input.SheetInput.{SheetInput}
 use Rattle.report_text.specs.Lines.{batch_line, element_line}
-use Rattle.style_cli.specs.Text.{line_at, lines_of, text_by}
+use Rattle.style_cli.specs.Text.{batch_text, element_lines, line_at, refused_lines, report_lines}
+use Rattle.style_cli.proofs.BatchText.{lines_of, text_by}
 use Rattle.style_cli.proofs.Printed.{encoded_lines}
 use Rattle.base_model.proofs.Digits.{digit_0}
 
@@ -147,3 +150,13 @@ text_is doc sources order count lines is many made =
     ∙ (ap (λ l. encode_utf8_all (concat (batch_line 0 0 0 (length doc) (length doc) ∷ map (line_at doc sources) l))) is
     ∙ (ap (λ l. encode_utf8_all (concat (batch_line 0 0 0 (length doc) (length doc) ∷ l))) (lines_made (line_at doc sources) order lines made)
     ∙ ap (λ b. encode_utf8_all (concat (b ∷ lines))) (batch_is (length doc) count many)))
+
+-- the text of a batch whose lines were computed
+pub report_is : (n : ℕ) (report : Report) (order : List ℕ) (first : Characters) (told lines : List Characters) → batch_line n report.accepted (length report.refusals) report.matched report.cascaded ≡ first → refused_lines report.refusals ≡ told → numbers (elements_of report.scene) ≡ order → AreLines (line_at (elements_of report.scene) (sources_of report.scene.sheets)) order lines → batch_text n report ≡ encode_utf8_all (concat (first ∷ (told ++ lines)))
+unfolding batch_text
+report_is n report order first told lines counted refused is made =
+    let line = line_at (elements_of report.scene) (sources_of report.scene.sheets) in
+    encoded_lines (report_lines n report)
+    ∙ (ap (λ b. encode_utf8_all (concat (b ∷ (refused_lines report.refusals ++ element_lines report.scene)))) counted
+    ∙ (ap (λ r. encode_utf8_all (concat (first ∷ (r ++ element_lines report.scene)))) refused
+    ∙ ap (λ l. encode_utf8_all (concat (first ∷ (told ++ l)))) (ap (map line) is ∙ lines_made line order lines made)))

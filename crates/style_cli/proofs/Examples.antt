@@ -28,11 +28,16 @@ use Rattle.cascade_model.specs.Ending.{ending_of}
 use Rattle.cascade_model.specs.Custom.{declared_values}
 use Rattle.cascade_model.specs.StyleOf.{root_size_of, style_along}
 use Rattle.cascade_model.proofs.ExampleCases.{no_borders, px, styled, word}
+use Rattle.edit_model.specs.Refusal.{unknown_node}
+use Rattle.session_model.specs.Batches.{Report}
+use Rattle.stylo_base.specs.declared.refusal.EditRefused.TheVariants.{UnknownNode}
+use Rattle.report_text.specs.Lines.{batch_line, refused_line}
 use Rattle.layer_order.specs.View.{sheets_of}
 use Rattle.job_json.specs.declared.Job.{Job}
-use Rattle.style_cli.specs.Text.{line_at, text_by, text_of}
-use Rattle.style_cli.proofs.ExampleCases.{IsBy, applied, child_along, line_along, node, over, root_along, root_size_is, rule, sheet, text_is}
-use Rattle.base_model.proofs.Digits.{digit_1}
+use Rattle.style_cli.specs.Text.{batch_text, first_scene, line_at, text_of}
+use Rattle.style_cli.proofs.BatchText.{text_by, text_of-none}
+use Rattle.style_cli.proofs.ExampleCases.{IsBy, applied, child_along, line_along, node, over, report_is, root_along, root_size_is, rule, sheet, text_is}
+use Rattle.base_model.proofs.Digits.{digit_0, digit_1}
 
 digit_2 : decimal 2 ≡ codes "2"
 digit_2 = decimal_digit 2 (lit< tt)
@@ -48,6 +53,9 @@ digit_6 = decimal_digit 6 (lit< tt)
 
 digit_8 : decimal 8 ≡ codes "8"
 digit_8 = decimal_digit 8 (lit< tt)
+
+digit_9 : decimal 9 ≡ codes "9"
+digit_9 = decimal_digit 9 (lit< tt)
 
 -- the values of the root, of an element below it, and of one below that, where nothing is declared
 abbrev bare_root : List (ℕ × Value)
@@ -73,6 +81,7 @@ bare_job = record {
       node None (codes "html") [] ∷ node (Some 0) (codes "p") [] ∷ node (Some 0) (233 ∷ []) [] ∷ node (Some 1) (codes "i") []
       ∷ [];
   sheets = [];
+  batches = [];
 }
 
 abbrev bare_doc : List Element
@@ -144,7 +153,32 @@ bare_line_4 =
 bare_text : text_of bare_job ≡ encode_utf8_all (codes "batch 0: 0 accepted, 0 refused, 4 matched, 4 cascaded\n1 html{display: block}\n2 p{}\n4 i{}\n3 " ++ ((233 ∷ []) ++ codes "{}\n"))
 unfolding scene_of tree_order
 bare_text =
-    text_is bare_doc no_sources (1 ∷ 2 ∷ 4 ∷ 3 ∷ []) (codes "4") (codes "1 html{display: block}\n" ∷ codes "2 p{}\n" ∷ codes "4 i{}\n" ∷ (codes "3 " ++ ((233 ∷ []) ++ codes "{}\n")) ∷ []) refl digit_4 (bare_line_1, (bare_line_2, (bare_line_4, (bare_line_3, tt))))
+    text_of-none bare_job refl
+    ∙ text_is bare_doc no_sources (1 ∷ 2 ∷ 4 ∷ 3 ∷ []) (codes "4") (codes "1 html{display: block}\n" ∷ codes "2 p{}\n" ∷ codes "4 i{}\n" ∷ (codes "3 " ++ ((233 ∷ []) ++ codes "{}\n")) ∷ []) refl digit_4 (bare_line_1, (bare_line_2, (bare_line_4, (bare_line_3, tt))))
+
+-- A batch of two edits behind it, of which one is refused.
+
+abbrev edited : Report
+edited = record {
+  accepted = 1;
+  refusals = record { place = 2; why = unknown_node 9 } ∷ [];
+  matched = 0;
+  cascaded = 0;
+  scene = first_scene bare_job;
+}
+
+edited_counts : batch_line 1 1 1 0 0 ≡ codes "batch 1: 1 accepted, 1 refused, 0 matched, 0 cascaded\n"
+unfolding batch_line
+edited_counts = simp (digit_0, digit_1)
+
+edited_refusal : refused_line 2 (UnknownNode 9) ≡ codes "refused 2: unknown node 9\n"
+unfolding refused_line
+edited_refusal = simp (digit_2, digit_9)
+
+edited_text : batch_text 1 edited ≡ encode_utf8_all (codes "batch 1: 1 accepted, 1 refused, 0 matched, 0 cascaded\nrefused 2: unknown node 9\n1 html{display: block}\n2 p{}\n4 i{}\n3 " ++ ((233 ∷ []) ++ codes "{}\n"))
+unfolding scene_of tree_order
+edited_text =
+    report_is 1 edited (1 ∷ 2 ∷ 4 ∷ 3 ∷ []) (codes "batch 1: 1 accepted, 1 refused, 0 matched, 0 cascaded\n") (codes "refused 2: unknown node 9\n" ∷ []) (codes "1 html{display: block}\n" ∷ codes "2 p{}\n" ∷ codes "4 i{}\n" ∷ (codes "3 " ++ ((233 ∷ []) ++ codes "{}\n")) ∷ []) edited_counts (ap (λ line. line ∷ []) edited_refusal) refl (bare_line_1, (bare_line_2, (bare_line_4, (bare_line_3, tt))))
 
 -- A sheet of rules for types and a class, with a shorthand, lengths, a rule that is dropped for its selectors, a declaration
 -- of no property, and a block that the end of the text closes.
@@ -157,6 +191,7 @@ job = record {
   sheets =
       sheet (codes "p{color:red;display:block} .note{color:#00f;margin:1px 2px} html{font-size:8px} i{width:1rem;padding-left:1.5em;font-size:50%;colour:lime} p,{clear:both} b{clear:left")
       ∷ [];
+  batches = [];
 }
 
 abbrev testing : Simple → List Selector
@@ -283,5 +318,6 @@ line_4 =
 text : text_of job ≡ encode_utf8_all (codes "batch 0: 0 accepted, 0 refused, 4 matched, 4 cascaded\n1 html{display: block; font-size: 8px}\n2 p{color: #0000ff; display: block; margin-top: 1px; margin-right: 2px; margin-bottom: 1px; margin-left: 2px; font-size: 8px}\n4 i{color: #0000ff; width: 8px; padding-left: 6px; font-size: 4px}\n3 p{color: #ff0000; display: block; font-size: 8px}\n")
 unfolding scene_of tree_order
 text =
-    ap (text_by doc) rules_read
-    ∙ text_is doc (over rules) (1 ∷ 2 ∷ 4 ∷ 3 ∷ []) (codes "4") (codes "1 html{display: block; font-size: 8px}\n" ∷ codes "2 p{color: #0000ff; display: block; margin-top: 1px; margin-right: 2px; margin-bottom: 1px; margin-left: 2px; font-size: 8px}\n" ∷ codes "4 i{color: #0000ff; width: 8px; padding-left: 6px; font-size: 4px}\n" ∷ codes "3 p{color: #ff0000; display: block; font-size: 8px}\n" ∷ []) refl digit_4 (line_1, (line_2, (line_4, (line_3, tt))))
+    text_of-none job refl
+    ∙ (ap (text_by doc) rules_read
+    ∙ text_is doc (over rules) (1 ∷ 2 ∷ 4 ∷ 3 ∷ []) (codes "4") (codes "1 html{display: block; font-size: 8px}\n" ∷ codes "2 p{color: #0000ff; display: block; margin-top: 1px; margin-right: 2px; margin-bottom: 1px; margin-left: 2px; font-size: 8px}\n" ∷ codes "4 i{color: #0000ff; width: 8px; padding-left: 6px; font-size: 4px}\n" ∷ codes "3 p{color: #ff0000; display: block; font-size: 8px}\n" ∷ []) refl digit_4 (line_1, (line_2, (line_4, (line_3, tt)))))

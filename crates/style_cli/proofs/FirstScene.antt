@@ -11,7 +11,7 @@ use Rattle.session_model.specs.StandingInvariant.{IsReached, at_start}
 use Rattle.layer_order.specs.View.{sheets_from}
 use Rattle.layer_order.specs.declared.sheet_input.SheetInput.{SheetInput}
 use Rattle.job_json.specs.declared.Job.{Job}
-use Rattle.style_cli.specs.Batches.{first_scene}
+use Rattle.style_cli.specs.Text.{first_scene}
 
 pub first-reached : (job : Job) → IsNodeList job.nodes → IsReached (started (first_scene job))
 first-reached job w = at_start (first_scene job) (IsSound-document_of job.nodes w)

@@ -1,7 +1,12 @@
 pub mod Told
 pub mod Fronts
+pub mod Written
 pub mod Printed
-mod Examples
-mod ExampleCases
+pub mod KeptLemmas
+pub mod EditedLemmas
+pub mod SettledLemmas
+pub mod ServeLemmas
 pub mod BatchText
 pub mod FirstScene
+mod Examples
+mod ExampleCases

@@ -1,56 +1,86 @@
--- The lines of a job, one after another.
-use Rattle.std.proofs.Common.{◌≡◌, ℕ, ◌<◌, zero, suc, List, [], ◌∷◌, ◌++◌, map, length, get_or, Option, Result, Ok, Err, OnOk, OnErr, refl, sym, ap, ◌∙◌, subst, arith, append-nil, append_assoc, encode_utf8}
+-- The text of a batch: its line, those of its refused edits, and those of the elements.
+use Rattle.std.proofs.Common.{◌≡◌, ℕ, List, [], ◌∷◌, ◌++◌, map, length, Option, Vec, Result, Ok, Err, OnOk, OnErr, refl, sym, ap, ap₂, ◌∙◌, subst, append-nil, append_assoc, encode_utf8}
 use Rattle.std.specs.Prelude.{encode_utf8_all}
 use Rattle.std.specs.List.{flat_map, concat}
+use Rattle.std.specs.declared.alloc.Global.{Global}
 use Rattle.std.specs.Io.KnownBytes.{Appends}
-use Rattle.std.proofs.lemmas.List.{length-map}
-use Rattle.scene_model.specs.Element.{Element}
-use Rattle.scene_model.specs.Lookups.{numbers, tag_of}
-use Rattle.value_model.specs.Style.{Style}
-use Rattle.sheet_model.specs.Sources.{Sources}
-use Rattle.cascade_model.specs.StyleOf.{style_of}
-use Rattle.report_text.specs.Lines.{batch_line, element_line}
-use Rattle.style_cli.specs.Loops.{GrewByFront}
-use Rattle.style_cli.specs.Text.{line_at, text_by}
 use Rattle.std.proofs.KnownBytes.{Appends-nil, Appends-trans}
+use Rattle.std.proofs.lemmas.Grind.{flat_map-append}
+use Rattle.std.proofs.lemmas.List.{length-map}
+use Rattle.base_model.specs.Text.{Characters}
+use Rattle.scene_model.specs.Lookups.{numbers}
+use Rattle.sheet_model.specs.Sources.{sources_of}
+use Rattle.edit_model.specs.Edit.{Edit}
+use Rattle.session_model.specs.Standing.{Standing, cascaded_count, elements_of, matched_count, restyled}
+use Rattle.session_model.specs.Batches as model
+use Rattle.session_model.specs.Batches.{accepted_among, edited_all, refused_from, report_of, reports_from}
+use Rattle.dom_edits.specs.declared.edits.Edit.{Edit as CodeEdit}
+use Rattle.dom_edits.specs.EditView.{edit_seen, refusal_answered}
+use Rattle.style_session.specs.Answers.{counts_of}
+use Rattle.style_session.specs.declared.counts.Counts.{Counts}
+use Rattle.report_text.specs.Lines.{batch_line, refused_line}
+use Rattle.style_cli.specs.Loops.{GrewByFront}
+use Rattle.style_cli.specs.Text.{batch_text, element_lines, line_at, refused_lines, text_from}
+use Rattle.style_cli.specs.Printing.{answered, batches_seen, edits_seen, elements_bytes, heading_bytes, refused_bytes}
+use Rattle.style_cli.specs.declared.batch.Heading.{Heading}
+use Rattle.style_cli.specs.declared.batch.RefusedEdit.{RefusedEdit}
 use Rattle.style_cli.proofs.Fronts.{front_after}
-
--- an element's line in UTF-8
-abbrev pub line_bytes : List Element → Sources → ℕ → List ℕ
-line_bytes doc sources x = encode_utf8_all (line_at doc sources x)
-
--- two lists that are alike by place
-pub alike_at : {A : Type 0} (value : A → Style) (style : ℕ → Style) (items : List A) (order : List ℕ) (k : ℕ) (item : A) → map value items ≡ map style order → k < length order → item ≡ get_or items k item → value item ≡ style (get_or order k 0)
-alike_at value style [] [] k item e below is = absurd (omega arith)
-alike_at value style [] (x ∷ order) k item e below is = cc
-alike_at value style (s ∷ items) [] k item e below is = cc
-alike_at value style (s ∷ items) (x ∷ order) zero item e below is = let first : value s ≡ style x = cc in ap value is ∙ first
-alike_at value style (s ∷ items) (x ∷ order) (suc k) item e below is =
-    let rest : map value items ≡ map style order = cc in alike_at value style items order k item rest (omega arith) is
-
--- the line of the element at an index of the order, in the style at that index
-pub line_in_order : {A : Type 0} (value : A → Style) (doc : List Element) (sources : Sources) (items : List A) (order : List ℕ) (k : ℕ) (item : A) (style : Style)
-    → map value items ≡ map (style_of doc sources) order → k < length order → item ≡ get_or items k item → style ≡ value item
-    → encode_utf8_all (element_line (get_or order k 0) (tag_of doc (get_or order k 0)) style) ≡ line_bytes doc sources (get_or order k 0)
-line_in_order value doc sources items order k item style styled below is own =
-    let x : ℕ = get_or order k 0 in
-    let line : Style → List ℕ = λ s. encode_utf8_all (element_line x (tag_of doc x) s) in
-    ap line (own ∙ alike_at value (style_of doc sources) items order k item styled below is)
+use Rattle.style_cli.proofs.Written.{IsWritten}
 
 flat_map-map : {X Y : Type 0} (f : Y → List ℕ) (g : X → Y) (xs : List X) → flat_map f (map g xs) ≡ flat_map (λ x. f (g x)) xs
 flat_map-map f g [] = refl
 flat_map-map f g (x ∷ xs) = ap (λ l. f (g x) ++ l) (flat_map-map f g xs)
 
-text_as : (doc : List Element) (sources : Sources) → text_by doc sources ≡ encode_utf8_all (batch_line 0 0 0 (length doc) (length doc)) ++ flat_map (line_bytes doc sources) (numbers doc)
-unfolding text_by
-text_as doc sources =
-    ap (λ l. encode_utf8_all (batch_line 0 0 0 (length doc) (length doc)) ++ l) (flat_map-map encode_utf8_all (line_at doc sources) (numbers doc))
+module _ (n : ℕ) (st now : Standing) (edits : List Edit) (heading : Heading) (accepted : heading.accepted ≡ accepted_among st edits) (refused : heading.refused.items ≡ map answered (refused_from 1 st edits)) (counts : heading.counts ≡ counts_of (edited_all st edits)) (is : now ≡ restyled (edited_all st edits)) where
+  abbrev after : Standing
+  after = edited_all st edits
 
--- the text is the line of the batch and the lines of the elements
-pub text_is : (doc : List Element) (sources : Sources) (order line : List ℕ) (count : ℕ) → order ≡ numbers doc → count ≡ length order → line ≡ batch_line 0 0 0 count count → text_by doc sources ≡ encode_utf8_all line ++ flat_map (line_bytes doc sources) order
-text_is doc sources order line count is many made =
-    let size : count ≡ length doc = many ∙ ap length is ∙ simp length-map in
-    text_as doc sources ∙ ap (λ n. encode_utf8_all (batch_line 0 0 0 n n) ++ flat_map (line_bytes doc sources) (numbers doc)) (sym size) ∙ ap (λ l. encode_utf8_all l ++ flat_map (line_bytes doc sources) (numbers doc)) (sym made) ∙ ap (λ l. encode_utf8_all line ++ flat_map (line_bytes doc sources) l) (sym is)
+  abbrev list : List model.RefusedEdit
+  list = refused_from 1 st edits
+
+  counted_line : batch_line n (accepted_among st edits) (length list) (matched_count after) (cascaded_count after) ≡ batch_line n heading.accepted (length heading.refused.items) heading.counts.matched heading.counts.cascaded
+  counted_line =
+      ap (λ a. batch_line n a (length list) (matched_count after) (cascaded_count after)) (sym accepted)
+      ∙ (ap (λ r. batch_line n heading.accepted r (matched_count after) (cascaded_count after)) (sym (ap length refused ∙ length-map list answered))
+      ∙ ap (λ (c : Counts). batch_line n heading.accepted (length heading.refused.items) c.matched c.cascaded) (sym counts))
+
+  refused_text : flat_map encode_utf8_all (refused_lines list) ≡ flat_map refused_bytes heading.refused.items
+  refused_text =
+      flat_map-map encode_utf8_all (λ (one : model.RefusedEdit). refused_line one.place (refusal_answered one.why)) list
+      ∙ (sym (flat_map-map refused_bytes answered list) ∙ ap (flat_map refused_bytes) (sym refused))
+
+  elements_text : flat_map encode_utf8_all (element_lines after.scene) ≡ elements_bytes now.scene
+  elements_text =
+      flat_map-map encode_utf8_all (line_at (elements_of after.scene) (sources_of after.scene.sheets)) (numbers (elements_of after.scene))
+      ∙ ap (λ (s : Standing). elements_bytes s.scene) (sym is)
+
+  pub batch_parts : batch_text n (report_of st edits) ≡ heading_bytes n heading ++ elements_bytes now.scene
+  unfolding batch_text
+  batch_parts =
+      let first = encode_utf8_all (batch_line n (accepted_among st edits) (length list) (matched_count after) (cascaded_count after)) in
+      ap (λ l. first ++ l) (flat_map-append encode_utf8_all (refused_lines list) (element_lines after.scene) ∙ (ap (λ l. l ++ flat_map encode_utf8_all (element_lines after.scene)) refused_text ∙ ap (λ l. flat_map refused_bytes heading.refused.items ++ l) elements_text))
+      ∙ (sym (append_assoc first (flat_map refused_bytes heading.refused.items) (elements_bytes now.scene))
+      ∙ ap (λ l. (encode_utf8_all l ++ flat_map refused_bytes heading.refused.items) ++ elements_bytes now.scene) counted_line)
+
+-- the line that was made, and the refused edits that were listed
+pub heading_is : (n count : ℕ) (heading : Heading) (line : Characters) (list : List RefusedEdit) → count ≡ length heading.refused.items → list ≡ heading.refused.items → line ≡ batch_line n heading.accepted count heading.counts.matched heading.counts.cascaded → heading_bytes n heading ≡ encode_utf8_all line ++ flat_map refused_bytes list
+heading_is n count heading line list many same made =
+    sym (ap (λ l. encode_utf8_all l ++ flat_map refused_bytes list) (made ∙ ap (λ k. batch_line n heading.accepted k heading.counts.matched heading.counts.cascaded) many) ∙ ap (λ l. encode_utf8_all (batch_line n heading.accepted (length heading.refused.items) heading.counts.matched heading.counts.cascaded) ++ flat_map refused_bytes l) same)
+
+-- the batches of a job, as the printer has them
+pub batches-seen : (list : List (Vec CodeEdit Global)) → batches_seen list ≡ map (map edit_seen) (map (λ (batch : Vec CodeEdit Global). batch.items) list)
+batches-seen [] = refl
+batches-seen (batch ∷ list) = ap (λ l. map edit_seen batch.items ∷ l) (batches-seen list)
+
+-- the text of the same batches after the same beginning
+pub same_text : {st now : Standing} {seen batches : List (List Edit)} → st ≡ now → seen ≡ batches → text_from 0 (reports_from st ([] ∷ seen)) ≡ text_from 0 (reports_from now ([] ∷ batches))
+same_text st seen = ap₂ (λ s bs. text_from 0 (reports_from s ([] ∷ bs))) st seen
+
+-- the batches behind one: the first of them is the next
+pub next_batch : (a b : Option (List ℕ)) (n : ℕ) (done now : Standing) (edits : List CodeEdit) (next : Vec CodeEdit Global) (others rest : List (Vec CodeEdit Global)) (whole : List ℕ) → now ≡ done → rest ≡ next ∷ others → edits ≡ next.items → IsWritten a b (text_from n (reports_from done (batches_seen rest))) whole → IsWritten a b (text_from n (reports_from now (edits_seen edits ∷ batches_seen others))) whole
+next_batch a b n done now edits next others rest whole same split items is =
+    subst (λ (s : Standing). IsWritten a b (text_from n (reports_from s (edits_seen edits ∷ batches_seen others))) whole) (sym same)
+    (subst (λ bs. IsWritten a b (text_from n (reports_from done bs)) whole) (ap batches_seen split ∙ ap (λ es. edits_seen es ∷ batches_seen others) (sym items)) is)
 
 -- a front of the first piece is a front of the whole
 pub front_first : (a b : Option (List ℕ)) (first rest whole : List ℕ) → whole ≡ first ++ rest → GrewByFront a b first → GrewByFront a b whole

@@ -2,7 +2,11 @@
 //! element to standard output.
 #![tactic(auto)]
 
+mod batch;
+mod elements;
+mod heading;
 mod input;
+mod lines;
 mod printing;
 mod status;
 #[cfg(test)]

@@ -74,3 +74,53 @@ fn nothing_is_read_past_the_limit(rt: HostRuntime) -> Result<(), Fail> {
     assert!(rt; refused);
     Ok(())
 }
+
+/// `html` over `p` over `i`, with a rule for what is in a hovered `p`.
+const HOVERED: &[u8] = b"{\"version\":1,\"nodes\":[{\"tag\":\"html\"},{\"tag\":\"p\",\"parent\":0},\
+    {\"tag\":\"i\",\"parent\":1}],\
+    \"sheets\":[{\"origin\":\"author\",\"text\":\"p:hover i{color:red}\"}],\
+    \"batches\":[[{\"op\":\"state\",\"node\":2,\"state\":\"hover\",\"on\":true}],\
+    [{\"on\":true,\"state\":\"hover\",\"node\":2,\"op\":\"state\"},\
+    {\"op\":\"set\",\"node\":7,\"name\":\"k\",\"value\":\"x\"}],\
+    [{\"op\":\"state\",\"node\":2,\"state\":\"hover\",\"on\":false}],[]]}";
+
+const HOVERED_TEXT: &str = "batch 0: 0 accepted, 0 refused, 3 matched, 3 cascaded\n\
+    1 html{display: block}\n2 p{}\n3 i{}\n\
+    batch 1: 1 accepted, 0 refused, 1 matched, 1 cascaded\n\
+    1 html{display: block}\n2 p{}\n3 i{color: #ff0000}\n\
+    batch 2: 1 accepted, 1 refused, 0 matched, 0 cascaded\n\
+    refused 2: unknown node 7\n\
+    1 html{display: block}\n2 p{}\n3 i{color: #ff0000}\n\
+    batch 3: 1 accepted, 0 refused, 1 matched, 1 cascaded\n\
+    1 html{display: block}\n2 p{}\n3 i{}\n\
+    batch 4: 0 accepted, 0 refused, 0 matched, 0 cascaded\n\
+    1 html{display: block}\n2 p{}\n3 i{}\n";
+
+#[test]
+fn batches(rt: HostRuntime) -> Result<(), Fail> {
+    let done = gives(&rt, &LINE, HOVERED, (&[], &[]), (0, HOVERED_TEXT))?;
+    assert!(rt; done);
+    Ok(())
+}
+
+/// Whether the sink holds what comes before each line of the batches where the write of that line fails.
+fn ends_before_each_line<R: Threads + Sync + AllocGlobal>(rt: &R) -> Result<bool, Fail> {
+    let mut front = String::new(rt.alloc());
+    let mut write = 1u64;
+    for line in HOVERED_TEXT.lines() {
+        if !gives(rt, &LINE, HOVERED, (&[], &[write]), (6, front.as_str()))? {
+            return Ok(false);
+        }
+        front.push_str(line)?;
+        front.push('\n')?;
+        write = write.wrapping_add(1);
+    }
+    Ok(true)
+}
+
+#[test]
+fn each_line_of_batches_fails(rt: HostRuntime) -> Result<(), Fail> {
+    let ended = ends_before_each_line(&rt)?;
+    assert!(rt; ended);
+    Ok(())
+}

@@ -20,7 +20,8 @@ use std::thread::Threads;
 use stylo_base::Kind;
 use stylo_base::limits::INPUT_LIMIT;
 
-/// Reads the job that `source` has left, and writes each element's style to `sink`.
+/// Reads the job that `source` has left, and writes each element's style to `sink`, before any edit and
+/// after each batch of edits.
 ///
 /// The words are tested first, of which the first is the program's name. Then the source is read to
 /// its end, or to one byte past 67,108,864, and then each line is written as soon as it is made, in
@@ -79,8 +80,6 @@ pub fn run<R: Threads + Sync, S: Source, K: Sink>(
         → ¬ Rose (S.faults source.old) (S.faults source.new) → ¬ Rose (K.faults sink.old) (K.faults sink.new)
         → (result ≡ Status.Done) ⊎ (result ≡ Status.NoMemory) }
 {
-    // The runtime is not used yet.
-    let _ = rt;
     if read_line(&words).is_none() {
         return Status::Usage;
     }
@@ -88,7 +87,7 @@ pub fn run<R: Threads + Sync, S: Source, K: Sink>(
         Ok(job) => job,
         Err(status) => return status,
     };
-    match print_job(alloc, job, sink) {
+    match print_job(rt, alloc, job, sink) {
         Ok(()) => Status::Done,
         Err(SinkRefused::Failed) => Status::WriteFault,
         Err(SinkRefused::NoMemory) => Status::NoMemory,

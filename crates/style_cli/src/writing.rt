@@ -1,11 +1,12 @@
-//! Writes a whole piece, in as many writes as the sink takes.
+//! Writes a whole piece or line, in as many writes as the sink takes.
 
-ghost use Rattle.std.specs.Prelude.{OnOk, OnErr, IsErrOf};
+ghost use Rattle.std.specs.Prelude.{OnOk, OnErr, IsErrOf, encode_utf8_all};
 ghost use Rattle.std.specs.Io.KnownBytes.{Appends};
 ghost use Rattle.io_edges.specs.Cause.{HasCause};
 ghost use Rattle.style_cli.specs.Loops.{GrewByFront};
 
 use io_edges::{Sink, SinkRefused};
+use stylo_base::Text;
 
 /// Writes all of the piece. At an error the sink has taken a front of it.
 pub(crate) fn write_all<K: Sink>(sink: &mut K, piece: &[u8]) -> Result<(), SinkRefused>
@@ -19,4 +20,13 @@ pub(crate) fn write_all<K: Sink>(sink: &mut K, piece: &[u8]) -> Result<(), SinkR
         at += sink.write(rest)?;
     }
     Ok(())
+}
+
+/// Writes a line.
+pub(crate) fn write_line<K: Sink>(sink: &mut K, line: &Text) -> Result<(), SinkRefused>
+    ensures ok { OnOk result (Appends (K.held sink.old) (K.held sink.new) (encode_utf8_all line.now)) }
+    ensures err { OnErr result (GrewByFront (K.held sink.old) (K.held sink.new) (encode_utf8_all line.now)) }
+    ensures cause { HasCause (K.faults sink.old) (K.faults sink.new) (IsErrOf result SinkRefused.Failed) }
+{
+    write_all(sink, line.as_str().as_bytes())
 }

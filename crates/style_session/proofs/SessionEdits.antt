@@ -95,7 +95,7 @@ session-edited (Ok x) old new sheets prepared marking later marks now fresh kept
   texts = was.texts;
   can_mark = can;
   unmarked = none;
-  places = λ x there. was.places x (was-element old new edit h x there);
+  places = λ calm x there. was.places calm x (was-element old new edit h x there);
   keeps = keeps-edited (scene_seen old sheets) new (doc_edit_seen edit) (in-one edit) h marks.items now.items fresh (slot_at kept) recent was.sound (marked-now old new sheets marks.items now.items was.texts k) was.keeps;
   once = was.once;
   fits = was.fits;

@@ -20,7 +20,7 @@ use Rattle.edit_model.specs.Refusal.{Refusal, accepted, outcome_of}
 use Rattle.edit_model.specs.Apply.{after, applied, is_fresh, refusal}
 use Rattle.edit_model.specs.Marked.{is_marked}
 use Rattle.session_model.specs.Marking.{marking_selectors}
-use Rattle.session_model.specs.Standing.{Scene, Standing, elements_of, style_in, rising, kept_at, is_matched, is_cascaded, is_open, matched_count, cascaded_count, started, restyled, change_of, changed, scene_applied, with_document, edited_by, edited}
+use Rattle.session_model.specs.Standing.{Scene, Standing, elements_of, style_in, rising, kept_at, is_matched, is_cascaded, is_open, parent_differs, root_size_differs, matched_count, cascaded_count, started, restyled, change_of, changed, scene_applied, with_document, edited_by, edited}
 use Rattle.session_model.specs.StandingInvariant.{AllKeep}
 use Rattle.session_model.specs.Walk.{Styled, results, result_at, placed_styles}
 use Rattle.session_model.proofs.EditLemmas.{covered-edit, sound-edit}
@@ -133,6 +133,43 @@ module _ (scene : Scene) (slot : ℕ → Option Style) (recent : List ℕ) (soun
   idle-matched =
       ap length (filter_nothing (is_matched calm) (numbers (elements_of scene)) (each_element (elements_of scene) (λ x. is_matched calm x ≡ false) (λ x there. ap (λ l. is_in x l || false) (elements_none scene.document))))
 
+-- a test that all pass leaves all
+every : {X : Type 0} (xs : List X) → filter (λ x. true) xs ≡ xs
+every [] = refl
+every (x ∷ xs) = ap (λ l. x ∷ l) (every xs)
+
+-- after a restyle each element has its style, and those that it cascaded are listed
+pub restyled-of : (scene : Scene) (marks : List ℕ) (fresh : Bool) (slot : ℕ → Option Style) (recent : List ℕ) (now : ℕ → Option Style) (list : List ℕ) → ((x : ℕ) → IsElement (elements_of scene) x → now x ≡ Some (style_in scene x)) → ((x : ℕ) → IsElement (elements_of scene) x → is_in x list ≡ is_cascaded (standing_with scene marks fresh slot recent) x) → standing_with scene [] false now list ≡ restyled (standing_with scene marks fresh slot recent)
+restyled-of scene marks fresh slot recent now list h k =
+    let st = standing_with scene marks fresh slot recent in
+    same_parts scene _ _ _ _ _ _ _ _ (elements_none scene.document) refl (placed-styles now scene h)
+    (filter_same (λ x. is_in x list) (is_cascaded st) (numbers (elements_of scene)) (each_element (elements_of scene) (λ x. is_in x list ≡ is_cascaded st x) k))
+
+-- a restyle where all elements are fresh
+
+module _ (scene : Scene) (marks : List ℕ) (slot : ℕ → Option Style) (recent : List ℕ) where
+  abbrev anew : Standing
+  anew = standing_with scene marks true slot recent
+
+  all_cascaded : (x : ℕ) → IsElement (elements_of scene) x → is_cascaded anew x ≡ true
+  all_cascaded x there =
+      ap (λ b. b || (parent_differs anew x || root_size_differs anew)) (all_fresh scene marks slot recent x there)
+
+  pub first-with : (now : ℕ → Option Style) (list : List ℕ) → ((x : ℕ) → IsElement (elements_of scene) x → now x ≡ Some (style_in scene x)) → list ≡ numbers (elements_of scene) → standing_with scene [] false now list ≡ restyled anew
+  first-with now list h e =
+      restyled-of scene marks true slot recent now list h
+      (λ x there. ap (is_in x) e ∙ (sym (is_element-numbers (elements_of scene) x) ∙ (there ∙ sym (all_cascaded x there))))
+
+  all_pass : (p : ℕ → Bool) → ((x : ℕ) → IsElement (elements_of scene) x → p x ≡ true) → filter p (numbers (elements_of scene)) ≡ numbers (elements_of scene)
+  all_pass p h =
+      filter_same p (λ x. true) (numbers (elements_of scene)) (each_element (elements_of scene) (λ x. p x ≡ true) h) ∙ every (numbers (elements_of scene))
+
+  pub first-matched : length (numbers (elements_of scene)) ≡ matched_count anew
+  first-matched = sym (ap length (all_pass (is_matched anew) (all_fresh scene marks slot recent)))
+
+  pub first-cascaded : length (numbers (elements_of scene)) ≡ cascaded_count anew
+  first-cascaded = sym (ap length (all_pass (is_cascaded anew) all_cascaded))
+
 -- a restyle of what its walk hands on
 
 abbrev pub number_of : Styled → ℕ
@@ -183,14 +220,10 @@ module _ (scene : Scene) (marks : List ℕ) (fresh : Bool) (slot : ℕ → Optio
       ∙ (ap (option_or (result_at (results st) x)) (sym (listed-placed slot scene.document sound x there))
       ∙ committed-now st sound.valid all x there))
 
-  recent_now : (list : List ℕ) → list ≡ map number_of found → elements_in scene.document list ≡ those
-  recent_now list e =
-      filter_same (λ x. is_in x list) (is_cascaded st) (numbers (elements_of scene))
-      (each_element (elements_of scene) (λ x. is_in x list ≡ is_cascaded st x) (λ x there. ap (is_in x) (e ∙ found-numbers) ∙ among-numbers (elements_of scene) (is_cascaded st) x there))
-
   pub restyled-with : (now : ℕ → Option Style) (list : List ℕ) → ((x : ℕ) → now x ≡ option_or (result_at found x) (slot x)) → list ≡ map number_of found → standing_with scene [] false now list ≡ restyled st
   restyled-with now list h e =
-      same_parts scene _ _ _ _ _ _ _ _ (elements_none scene.document) refl (placed-styles now scene (placed_now now h)) (recent_now list e)
+      restyled-of scene marks fresh slot recent now list (placed_now now h)
+      (λ x there. ap (is_in x) (e ∙ found-numbers) ∙ among-numbers (elements_of scene) (is_cascaded st) x there)
 
 -- what a restyle leaves keeps its style, and what it did not cascade keeps the style that it had
 
@@ -254,11 +287,6 @@ keeps-numbers old new edit w = by (refusal old edit)
     by : (o : Option Refusal) → outcome_of o (after old edit) ≡ accepted new → KeepsNumbers old new
     by None h = let same : after old edit ≡ new = cc in subst (KeepsNumbers old) same (numbers_after old edit w)
     by (Some why) h = absurd (cc)
-
--- a test that all pass leaves all
-every : {X : Type 0} (xs : List X) → filter (λ x. true) xs ≡ xs
-every [] = refl
-every (x ∷ xs) = ap (λ l. x ∷ l) (every xs)
 
 -- styles that stand for numbers that pass pass
 pairs_pass : (slot : ℕ → Option Style) (p : ℕ → Bool) (xs : List ℕ) → AllByRecursion (λ x. p x ≡ true) xs → AllByRecursion (λ (e : ℕ × Style). p e.0 ≡ true) (filter_map (pair slot) xs)

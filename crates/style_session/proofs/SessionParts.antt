@@ -12,14 +12,7 @@ use Rattle.scene_model.specs.Valid.{IsValid}
 use Rattle.scene_model.proofs.Climbing.{ancestors-child, ancestors-root}
 use Rattle.value_model.specs.Style.{Style}
 use Rattle.dom_tree.proofs.Places.{get_set_same, get_set_other}
-use Rattle.style_session.specs.SessionView.{AreEmpty, slot_at}
-
--- places without styles
-
-pub empty-slot : {A : Type 0} (kept : List (Option (Arc Style A))) → AreEmpty kept → (x : ℕ) → slot_at kept x ≡ None
-empty-slot [] h x = refl
-empty-slot (o ∷ kept) h zero = ap (option_map arc_value) h.0
-empty-slot (o ∷ kept) h (suc x) = empty-slot kept h.1 x
+use Rattle.style_session.specs.SessionView.{slot_at}
 
 -- what is read at a place
 pub slot-read : {A : Type 0} (kept : List (Option (Arc Style A))) (n : ℕ) (o : Option (Arc Style A)) → n < length kept → o ≡ get_or kept n o → slot_at kept n ≡ option_map arc_value o

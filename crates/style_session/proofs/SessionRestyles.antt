@@ -1,5 +1,5 @@
 -- Restyles of a session.
-use Rattle.std.proofs.Common.{◌≡◌, ℕ, ◌<◌, nat_eq, List, [], ◌∷◌, map, filter, length, Bool, false, Option, refl, sym, ap, subst, ◌∙◌}
+use Rattle.std.proofs.Common.{◌≡◌, ℕ, ◌<◌, nat_eq, List, [], ◌∷◌, map, filter, length, Bool, true, false, Option, refl, sym, ap, subst, ◌∙◌}
 use Rattle.std.specs.List.{AllByRecursion, IsDistinct, count_by}
 use Rattle.std.specs.Option.{option_or}
 use Rattle.std.specs.declared.sync.Arc.{Arc}
@@ -14,6 +14,7 @@ use Rattle.scene_model.proofs.Lists.{filter-map}
 use Rattle.change_model.specs.Sound.{IsSound}
 use Rattle.value_model.specs.Style.{Style}
 use Rattle.invalidation_map.specs.Members.{Members}
+use Rattle.invalidation_map.specs.Steps.{HasRoom}
 use Rattle.sheet_set.specs.View.{sources_seen}
 use Rattle.sheet_set.specs.declared.sheets.Sheets.{Sheets}
 use Rattle.plain_style.specs.Fits.{Fits}
@@ -23,14 +24,16 @@ use Rattle.session_model.specs.StandingInvariant.{AllKeep}
 use Rattle.session_model.specs.Walk as walk
 use Rattle.session_model.specs.Walk.{result_at, results}
 use Rattle.style_session.specs.Answers.{counts_of, styled_seen}
+use Rattle.style_session.specs.FirstWalking.{AreAll}
 use Rattle.style_session.specs.SessionView.{scene_seen, slot_at, standing_seen}
 use Rattle.style_session.specs.Sessions.{IsSession}
 use Rattle.style_session.specs.declared.counts.Counts.{Counts}
+use Rattle.style_session.specs.declared.first_walk.FirstStyles.{FirstStyles}
 use Rattle.style_session.specs.declared.marking.Marking.{Marking}
 use Rattle.style_session.specs.declared.style_cache.StyleCache.{StyleCache}
 use Rattle.style_session.specs.declared.styled.Styled.{Styled}
 use Rattle.style_session.proofs.SessionStarts.{none_twice}
-use Rattle.style_session.proofs.SessionLemmas.{found-cascaded, found-elements, found-matched, found-once, idle-cascaded, idle-matched, idle-with, keeps-lent, keeps-restyled, number_of, others-restyled, restyled-with, standing_with}
+use Rattle.style_session.proofs.SessionLemmas.{first-cascaded, first-matched, first-with, found-cascaded, found-elements, found-matched, found-once, idle-cascaded, idle-matched, idle-with, keeps-lent, keeps-restyled, number_of, others-restyled, restyled-with, standing_with}
 
 -- with nothing marked or fresh
 
@@ -91,14 +94,53 @@ module _ {A : Type 0} (document : Document) (sheets : Sheets) (prepared : Prepar
   pub keeps-seen : AllKeep (standing_seen document sheets marks.items fresh kept [])
   keeps-seen = keeps-lent (scene_seen document sheets) marks.items fresh (slot_at kept) recent [] was.keeps
 
+  -- what a restyle leaves, once each element has its style
+  module _ {B : Type 0} (later : List (Option (Arc Style B))) (numbers : List ℕ) (done : standing_seen document sheets [] false later numbers ≡ restyled st) where
+    pub session-anew : (now : Members) (known : StyleCache) → now ≡ record { items = []; room = marks.room } → HasRoom document.elements (length later) → IsDistinct nat_eq numbers → Fits (sources_seen sheets) known.size prepared known.styler → IsSession document sheets prepared marking now false later numbers known
+    session-anew now known cleared places once fits =
+        subst (λ (m : Members). IsSession document sheets prepared marking m false later numbers known) (sym cleared)
+        (record {
+          sound = was.sound;
+          texts = was.texts;
+          can_mark = IfSome_then marking was.can_mark (λ made can. record { rows = can.rows; room = can.room; marks_room = can.marks_room });
+          unmarked = λ _. refl;
+          places = λ _. places;
+          keeps = keeps-restyled st (standing_seen document sheets [] false later numbers) was.sound done;
+          once = once;
+          fits = fits;
+        })
+
+    pub others-anew : (x : ℕ) → IsElement document.elements x → is_in x (standing_seen document sheets [] false later numbers).recent ≡ false → kept_at (standing_seen document sheets [] false later numbers) x ≡ kept_at st x
+    others-anew = others-restyled st (standing_seen document sheets [] false later numbers) was.sound was.keeps done
+
+  -- the first one
+  module _ (all : fresh ≡ true) (made : FirstStyles) (is : AreAll (scene_seen document sheets) made) where
+    abbrev fresh_st : Bool → Standing
+    fresh_st b = standing_seen document sheets marks.items b kept recent
+
+    pub first-seen : standing_seen document sheets [] false made.kept.items made.numbers.items ≡ restyled st
+    first-seen =
+        subst (λ (b : Bool). standing_seen document sheets [] false made.kept.items made.numbers.items ≡ restyled (fresh_st b)) (sym all)
+        (first-with (scene_seen document sheets) marks.items (slot_at kept) recent (slot_at made.kept.items) made.numbers.items is.styles is.order)
+
+    pub first-once : IsDistinct nat_eq made.numbers.items
+    first-once = subst (IsDistinct nat_eq) (sym is.order) was.sound.valid.distinct
+
+    pub first-counts : (counts : Counts) → counts.matched ≡ length made.numbers.items → counts.cascaded ≡ length made.numbers.items → counts ≡ counts_of st
+    first-counts counts m l =
+        subst (λ (b : Bool). counts ≡ counts_of (fresh_st b)) (sym all)
+        (same_counts counts (counts_of (fresh_st true))
+        (m ∙ (ap length is.order ∙ first-matched (scene_seen document sheets) marks.items (slot_at kept) recent))
+        (l ∙ (ap length is.order ∙ first-cascaded (scene_seen document sheets) marks.items (slot_at kept) recent)))
+
   -- once its walk has handed a list on
   module _ (lent : List (Option (Arc Style A))) (same : lent ≡ kept) (styled : List Styled) (found : map styled_seen styled ≡ results (standing_seen document sheets marks.items fresh lent [])) where
     is : map styled_seen styled ≡ results (standing_seen document sheets marks.items fresh kept [])
     is = found ∙ ap (λ (l : List (Option (Arc Style A))). results (standing_seen document sheets marks.items fresh l [])) same
 
-    pub styled-places : AllByRecursion (λ (one : Styled). one.number < length kept) styled
-    styled-places =
-        each_weaker (λ (one : Styled). IsElement document.elements one.number) (λ (one : Styled). one.number < length kept) (λ one there. was.places one.number there) styled
+    pub styled-places : fresh ≡ false → AllByRecursion (λ (one : Styled). one.number < length kept) styled
+    styled-places calm =
+        each_weaker (λ (one : Styled). IsElement document.elements one.number) (λ (one : Styled). one.number < length kept) (λ one there. was.places calm one.number there) styled
         (each_seen (λ one. IsElement document.elements (number_of one)) styled_seen styled (found-elements (scene_seen document sheets) marks.items fresh (slot_at kept) [] was.sound keeps-seen (map styled_seen styled) is))
 
     pub counts-seen : (counts : Counts) → counts.matched ≡ count_by (λ (one : Styled). one.matched) styled → counts.cascaded ≡ length styled → counts ≡ counts_of st
@@ -122,19 +164,9 @@ module _ {A : Type 0} (document : Document) (sheets : Sheets) (prepared : Prepar
       restyled-seen =
           restyled-with (scene_seen document sheets) marks.items fresh (slot_at kept) [] was.sound keeps-seen (map styled_seen styled) is (slot_at later) numbers placed named_seen
 
-      pub session-restyled : (now : Members) (known : StyleCache) → now ≡ record { items = []; room = marks.room } → length later ≡ length kept → Fits (sources_seen sheets) known.size prepared known.styler → IsSession document sheets prepared marking now false later numbers known
-      session-restyled now known cleared long fits =
-          subst (λ (m : Members). IsSession document sheets prepared marking m false later numbers known) (sym cleared)
-          (record {
-            sound = was.sound;
-            texts = was.texts;
-            can_mark = IfSome_then marking was.can_mark (λ made can. record { rows = can.rows; room = can.room; marks_room = can.marks_room });
-            unmarked = λ _. refl;
-            places = λ x there. subst (λ n. x < n) (sym long) (was.places x there);
-            keeps = keeps-restyled st (standing_seen document sheets [] false later numbers) was.sound restyled-seen;
-            once = subst (IsDistinct nat_eq) (sym named_seen) (found-once (scene_seen document sheets) marks.items fresh (slot_at kept) [] was.sound keeps-seen (map styled_seen styled) is);
-            fits = fits;
-          })
-
-      pub others-seen : (x : ℕ) → IsElement document.elements x → is_in x (standing_seen document sheets [] false later numbers).recent ≡ false → kept_at (standing_seen document sheets [] false later numbers) x ≡ kept_at st x
-      others-seen = others-restyled st (standing_seen document sheets [] false later numbers) was.sound was.keeps restyled-seen
+      pub session-restyled : fresh ≡ false → (now : Members) (known : StyleCache) → now ≡ record { items = []; room = marks.room } → length later ≡ length kept → Fits (sources_seen sheets) known.size prepared known.styler → IsSession document sheets prepared marking now false later numbers known
+      session-restyled calm now known cleared long fits =
+          session-anew later numbers restyled-seen now known cleared
+          (λ x there. subst (λ n. x < n) (sym long) (was.places calm x there))
+          (subst (IsDistinct nat_eq) (sym named_seen) (found-once (scene_seen document sheets) marks.items fresh (slot_at kept) [] was.sound keeps-seen (map styled_seen styled) is))
+          fits

@@ -2,12 +2,12 @@
 use Rattle.std.proofs.Common.{◌≡◌, ℕ, ◌+◌, nat_eq, List, [], ◌∷◌, map, length, true, Option, None, refl, sym, ap, subst, ◌∙◌, suc}
 use Rattle.std.specs.List.{IsDistinct}
 use Rattle.std.specs.declared.sync.Arc.{Arc}
+use Rattle.std.proofs.lemmas.Bool.{false≢true}
 use Rattle.std.proofs.lemmas.List.{length-map}
 use Rattle.scene_model.specs.Document.{Document}
 use Rattle.change_model.specs.Sound.{IsSound}
 use Rattle.value_model.specs.Style.{Style}
 use Rattle.invalidation_map.specs.Members.{Members}
-use Rattle.invalidation_map.specs.Steps.{HasRoom}
 use Rattle.layer_order.specs.View.{sheets_from, sheets_of}
 use Rattle.layer_order.specs.declared.sheet_input.SheetInput.{SheetInput}
 use Rattle.sheet_set.specs.View.{kept_seen, sources_seen}
@@ -32,13 +32,13 @@ pub none_twice : (xs : List ℕ) → xs ≡ [] → IsDistinct nat_eq xs
 unfolding IsDistinct
 none_twice xs e = subst (IsDistinct nat_eq) (sym e) tt
 
-pub session-started : {A : Type 0} (document : Document) (sheets : Sheets) (prepared : Prepared) (marks : Members) (kept : List (Option (Arc Style A))) (recent : List ℕ) (cache : StyleCache) → IsSound document → AreOfTexts sheets → marks.items ≡ [] → recent ≡ [] → HasRoom document.elements (length kept) → ((x : ℕ) → slot_at kept x ≡ None) → Fits (sources_seen sheets) cache.size prepared cache.styler → IsSession document sheets prepared None marks true kept recent cache
-session-started document sheets prepared marks kept recent cache sound texts m r places empty fits = record {
+pub session-started : {A : Type 0} (document : Document) (sheets : Sheets) (prepared : Prepared) (marks : Members) (kept : List (Option (Arc Style A))) (recent : List ℕ) (cache : StyleCache) → IsSound document → AreOfTexts sheets → marks.items ≡ [] → recent ≡ [] → ((x : ℕ) → slot_at kept x ≡ None) → Fits (sources_seen sheets) cache.size prepared cache.styler → IsSession document sheets prepared None marks true kept recent cache
+session-started document sheets prepared marks kept recent cache sound texts m r empty fits = record {
   sound = sound;
   texts = texts;
   can_mark = tt;
   unmarked = λ _. m;
-  places = places;
+  places = λ calm. absurd (false≢true (sym calm));
   keeps = subst (λ l. AllKeep (standing_with (scene_seen document sheets) l true (slot_at kept) recent)) (sym m) (subst (λ l. AllKeep (standing_with (scene_seen document sheets) [] true (slot_at kept) l)) (sym r) (keeps-started (scene_seen document sheets) (slot_at kept) empty));
   once = none_twice recent r;
   fits = fits;

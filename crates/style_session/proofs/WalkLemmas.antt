@@ -49,11 +49,6 @@ has_parent doc v first front x after order there = by (parent_of doc x) refl
     by None is =
         absurd (not_first (first == x) (index_in (front ++ x ∷ after) x) apart (sym (position_of-numbers doc x ∙ ap (λ l. index_in l x) order) ∙ v.root x there is))
 
--- what is after those that were met has its parent among them
-parent_met : (st : Standing) (walk : Walk) (front : List ℕ) (x : ℕ) (after : List ℕ) → IsValid (elements_of st.scene) → numbers (elements_of st.scene) ≡ front ++ x ∷ after → HasMet st front walk → IsParentMet st walk x
-parent_met st walk front x after v order has p is =
-    has.met p (parent_before (elements_of st.scene) front x after p v order is)
-
 -- whether its parent's style is another one than the kept one is known
 
 implied : (d n : Bool) → (n ≡ true → d ≡ true) → (d && n) ≡ n
@@ -160,14 +155,14 @@ met-handed st one was now handed y met none = met (sym (ap (λ v. known_at v.ite
 
 -- one more was met
 
-in_last : (st : Standing) (walk : Walk) (x y : ℕ) (a b : Bool) → (x == y) ≡ b → (a || (b || false)) ≡ true → IsMet st walk x → (a ≡ true → IsMet st walk y) → IsMet st walk y
-in_last st walk x y true b e h own others = others refl
-in_last st walk x y false true e h own others = subst (IsMet st walk) (eqb-true x y e) own
-in_last st walk x y false false e h own others = cc
+pub in_last : (P : ℕ → Type 0) (x y : ℕ) (a b : Bool) → (x == y) ≡ b → (a || (b || false)) ≡ true → P x → (a ≡ true → P y) → P y
+in_last P x y true b e h own others = others refl
+in_last P x y false true e h own others = subst P (eqb-true x y e) own
+in_last P x y false false e h own others = cc
 
 met-more : (st : Standing) (front : List ℕ) (x : ℕ) (was now : Walk) → IsMet st now x → ((y : ℕ) → IsMet st was y → IsMet st now y) → map styled_seen now.styled.items ≡ map styled_seen was.styled.items ++ map (styled_now st) (filter (is_cascaded st) (x ∷ [])) → HasMet st front was → HasMet st (front ++ x ∷ []) now
 met-more st front x was now own others styled has = record {
-  met = λ y h. in_last st now x y (is_in y front) (x == y) refl (sym (list_any-append (λ z. z == y) front (x ∷ [])) ∙ h) own (λ before. others y (has.met y before));
+  met = λ y h. in_last (IsMet st now) x y (is_in y front) (x == y) refl (sym (list_any-append (λ z. z == y) front (x ∷ [])) ∙ h) own (λ before. others y (has.met y before));
   styled = styled
       ∙ (ap (λ l. l ++ map (styled_now st) (filter (is_cascaded st) (x ∷ []))) has.styled
       ∙ (sym (map-append (styled_now st) (filter (is_cascaded st) front) (filter (is_cascaded st) (x ∷ [])))
@@ -270,18 +265,23 @@ module _ (doc : List Element) (first : ℕ) (rest : List ℕ) (k : ℕ) (is : nu
     pub next-child : IsValid doc → IsSome (parent_of doc (get_or rest k 0))
     next-child v = has_parent doc v first (take k rest) (get_or rest k 0) (drop (k + 1) rest) split_order next-there
 
+    -- its parent is among those before it
+    pub next-below : IsValid doc → (p : ℕ) → parent_of doc (get_or rest k 0) ≡ Some p → is_in p (take (k + 1) (numbers doc)) ≡ true
+    next-below v p at =
+        ap (is_in p) (front_is k) ∙ parent_before doc (first ∷ take k rest) (get_or rest k 0) (drop (k + 1) rest) p v split_order at
+
+    pub next-front : take (k + 1) (numbers doc) ++ get_or rest k 0 ∷ [] ≡ take (k + 1 + 1) (numbers doc)
+    next-front =
+        ap (λ l. l ++ get_or rest k 0 ∷ []) (front_is k)
+        ∙ (ap (λ l. first ∷ l) (sym (take_more rest k 0 below)) ∙ sym (front_is (k + 1)))
+
 pub next-parent : (st : Standing) (walk : Walk) (first : ℕ) (rest : List ℕ) (k : ℕ) → IsValid (elements_of st.scene) → numbers (elements_of st.scene) ≡ first ∷ rest → k < length rest → HasMet st (take (k + 1) (numbers (elements_of st.scene))) walk → IsParentMet st walk (get_or rest k 0)
-next-parent st walk first rest k v is below has =
-    let doc = elements_of st.scene in
-    parent_met st walk (first ∷ take k rest) (get_or rest k 0) (drop (k + 1) rest) v (split_order doc first rest k is below) (subst (λ l. HasMet st l walk) (front_is doc first rest k is k) has)
+next-parent st walk first rest k v is below has p at =
+    has.met p (next-below (elements_of st.scene) first rest k is below v p at)
 
 pub next-met : (st : Standing) (walk : Walk) (first : ℕ) (rest : List ℕ) (k : ℕ) → numbers (elements_of st.scene) ≡ first ∷ rest → k < length rest → HasMet st (take (k + 1) (numbers (elements_of st.scene)) ++ get_or rest k 0 ∷ []) walk → HasMet st (take (k + 1 + 1) (numbers (elements_of st.scene))) walk
 next-met st walk first rest k is below has =
-    let doc = elements_of st.scene in
-    subst (λ l. HasMet st l walk)
-    (ap (λ l. l ++ get_or rest k 0 ∷ []) (front_is doc first rest k is k)
-    ∙ (ap (λ l. first ∷ l) (sym (take_more rest k 0 below)) ∙ sym (front_is doc first rest k is (k + 1))))
-    has
+    subst (λ l. HasMet st l walk) (next-front (elements_of st.scene) first rest k is below) has
 
 -- at the end
 

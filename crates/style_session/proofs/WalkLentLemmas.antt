@@ -1,5 +1,5 @@
 -- What a session lends to a restyle is what its standing tells.
-use Rattle.std.proofs.Common.{◌≡◌, ℕ, ℤ, List, [], filter, map, Bool, true, false, cond, not, ◌||◌, Option, Some, None, option_map, refl, sym, ap, ◌∙◌}
+use Rattle.std.proofs.Common.{◌≡◌, ℕ, ℤ, List, [], filter, map, Bool, true, false, cond, not, ◌||◌, Option, Some, None, option_map, refl, sym, ap, subst, ◌∙◌}
 use Rattle.std.specs.Prelude.{◌↔◌, IsSome, IsTrue}
 use Rattle.std.specs.Arc.{arc_value}
 use Rattle.std.specs.Borrow.{Bor}
@@ -73,6 +73,10 @@ sources-texts sheets texts =
 pub kept-found : {A : Type 0} (o : Option (Bor (Arc Style A))) (slot : Option Style) (style : Style) → option_map (λ (kept : Bor (Arc Style A)). arc_value kept.now) o ≡ slot → slot ≡ Some style → IsSome o
 kept-found None slot style e h = absurd (none-some style (e ∙ h))
 kept-found (Some kept) slot style e h = refl
+
+pub kept-there : {A : Type 0} (o : Option (Bor (Arc Style A))) (slot : Option Style) → option_map (λ (kept : Bor (Arc Style A)). arc_value kept.now) o ≡ slot → IsSome slot → IsSome o
+kept-there None slot e h = subst IsSome (sym e) h
+kept-there (Some kept) slot e h = refl
 
 pub kept-is : {A : Type 0} (o : Option (Bor (Arc Style A))) (kept : Bor (Arc Style A)) (slot : Option Style) (style : Style) → o ≡ Some kept → option_map (λ (kept : Bor (Arc Style A)). arc_value kept.now) o ≡ slot → slot ≡ Some style → arc_value kept.now ≡ style
 kept-is {A = A} o kept slot style is e h =

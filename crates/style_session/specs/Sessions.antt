@@ -1,5 +1,5 @@
 -- What holds of a session.
-use Rattle.std.specs.Prelude.{◌≡◌, ℕ, nat_eq, [], List, length, map, Bool, Option, None, IfSome}
+use Rattle.std.specs.Prelude.{◌≡◌, ℕ, nat_eq, [], List, length, map, Bool, false, Option, None, IfSome}
 use Rattle.std.specs.List.{IsDistinct}
 use Rattle.std.specs.List.Sorted.{IsPermutation}
 use Rattle.std.specs.declared.sync.Arc.{Arc}
@@ -33,8 +33,9 @@ pub record CanMark (document : Document) (sources : Sources) (marks : Members) (
   pub marks_room : HasRoom document.elements marks.room
 
 -- The document is sound, and the sheets are of their texts. Before an edit was accepted nothing is marked, and then
--- what marks is there. There is a place for the style of each element, and an element that is neither marked nor fresh
--- keeps its style. What the styler knows is right for the sheets and the font size that it is kept with.
+-- what marks is there. After a restyle there is a place for the style of each element. An element that is neither
+-- marked nor fresh keeps its style. What the styler knows is right for the sheets and the font size that it is kept
+-- with.
 pub record IsSession {A : Type 0} (document : Document) (sheets : Sheets) (prepared : Prepared)
     (marking : Option Marking) (marks : Members) (is_fresh : Bool) (kept : List (Option (Arc Style A)))
     (recent : List ℕ) (cache : StyleCache) : Type 0 where
@@ -42,7 +43,7 @@ pub record IsSession {A : Type 0} (document : Document) (sheets : Sheets) (prepa
   pub texts : AreOfTexts sheets
   pub can_mark : IfSome marking (CanMark document (sources_seen sheets) marks)
   pub unmarked : marking ≡ None → marks.items ≡ []
-  pub places : HasRoom document.elements (length kept)
+  pub places : is_fresh ≡ false → HasRoom document.elements (length kept)
   pub keeps : AllKeep (standing_seen document sheets marks.items is_fresh kept recent)
   pub once : IsDistinct nat_eq recent
   pub fits : Fits (sources_seen sheets) cache.size prepared cache.styler

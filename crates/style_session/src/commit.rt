@@ -84,7 +84,7 @@ pub(crate) fn keep_all(list: Vec<Styled>, kept: &mut Vec<Option<Arc<Style>>>)
 }
 
 /// Puts a style at a place.
-fn keep(place: &mut Option<Arc<Style>>, style: Arc<Style>)
+pub(crate) fn keep(place: &mut Option<Arc<Style>>, style: Arc<Style>)
     ensures { place.new ≡ Some style }
 {
     *place = Some(style);

@@ -16,6 +16,18 @@ pub struct Counts {
 }
 
 impl Counts {
+    /// Those of the first restyle, which goes to all elements.
+    pub(crate) fn of_all(numbers: &[u32]) -> Counts
+        ensures matched { result.matched ≡ length numbers.now }
+        ensures cascaded { result.cascaded ≡ length numbers.now }
+    {
+        let all = numbers.len() as u64;
+        Counts {
+            matched: all,
+            cascaded: all,
+        }
+    }
+
     /// Those of a list of cascaded elements.
     pub(crate) fn of(list: &[Styled]) -> Counts
         ensures matched { result.matched ≡ count_by (λ one. one.matched) list.now }

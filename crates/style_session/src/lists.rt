@@ -38,7 +38,7 @@ impl Lists<'_> {
     pub(crate) fn kept_style(&self, x: u32) -> Option<&Arc<Style>>
         ensures { option_map (λ style. arc_value style.now) result ≡ slot_at self.now.kept.now x }
     {
-        self.kept.get(x as usize)?.as_ref()
+        kept_style(self.kept, x)
     }
 
     /// Whether no style is kept of an element, or one that is not equal to this.
@@ -60,4 +60,11 @@ impl Lists<'_> {
             None => true,
         }
     }
+}
+
+/// The style that is kept at the place of a number.
+pub(crate) fn kept_style(kept: &[Option<Arc<Style>>], x: u32) -> Option<&Arc<Style>>
+    ensures { option_map (λ style. arc_value style.now) result ≡ slot_at kept.now x }
+{
+    kept.get(x as usize)?.as_ref()
 }

@@ -1,13 +1,12 @@
 //! A document with its style sheets, which takes edits and keeps the styles of its elements.
 
-ghost use Rattle.std.specs.Prelude.{◌≡◌, ◌≤◌, ℕ, false, nat_eq, IfErr, IfOk, OnErr, OnOk, length, option_map, unwrap_or};
+ghost use Rattle.std.specs.Prelude.{◌≡◌, ◌≤◌, ℕ, false, nat_eq, IfErr, IfOk, OnErr, OnOk, length};
 ghost use Rattle.std.specs.List.{IsDistinct};
 ghost use Rattle.base_model.specs.Limits.{element_limit, sheet_limit};
 ghost use Rattle.scene_model.specs.Document.{document_of};
 ghost use Rattle.scene_model.specs.Lookups.{IsElement};
 ghost use Rattle.scene_model.specs.Numbers.{is_in};
 ghost use Rattle.layer_order.specs.View.{sheets_of};
-ghost use Rattle.stylo_base.specs.declared.refusal.EditRefused.TheVariants.{NoMemory as out_of_memory};
 ghost use Rattle.edit_model.specs.Edit.{of_document};
 ghost use Rattle.edit_model.specs.Refusal.{accepted};
 ghost use Rattle.dom_edits.specs.EditView.{doc_edit_seen, edit_seen};
@@ -20,6 +19,7 @@ use crate::answer::{StyleAnswer, is_open};
 use crate::beginning::Beginning;
 use crate::commit::{Anew, cascade_none, keep_all, settle};
 use crate::counts::Counts;
+use crate::first_walk::{FirstStyles, first_styles};
 use crate::lists::Lists;
 use crate::marking::{Marking, edit_marked};
 use crate::style_cache::StyleCache;
@@ -50,7 +50,7 @@ pub struct Session {
     marks: ElementSet,
     /// Whether there was no restyle yet, so that all elements are fresh.
     is_fresh: bool,
-    /// By number: the style that the element had at the last restyle, if it was there.
+    /// By number: the style that the element had at the last restyle, if it was there. Empty before the first.
     kept: Vec<Option<Arc<Style>>>,
     /// The elements that the last restyle cascaded.
     recent: Vec<u32>,
@@ -116,7 +116,6 @@ impl Session {
         let Beginning {
             prepared,
             marks,
-            kept,
             cache,
         } = begun;
         Ok(Session {
@@ -126,7 +125,7 @@ impl Session {
             marking: None,
             marks,
             is_fresh: true,
-            kept,
+            kept: Vec::new(alloc),
             recent: Vec::new(alloc),
             cache,
         })
@@ -176,6 +175,16 @@ impl Session {
             sheets: &self.sheets,
             prepared: &self.prepared,
         };
+        if self.is_fresh {
+            let made = first_styles(&inputs, &mut self.cache, gate)?;
+            let FirstStyles { kept, numbers } = made;
+            let counts = Counts::of_all(&numbers);
+            // From here on nothing takes memory.
+            self.kept = kept;
+            self.recent = numbers;
+            settle(&mut self.marks, &mut self.is_fresh);
+            return Ok(counts);
+        }
         let lists = Lists {
             marks: &self.marks,
             is_fresh: self.is_fresh,

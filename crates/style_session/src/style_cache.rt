@@ -1,13 +1,20 @@
 //! What is known of styles from one restyle to the next.
 
-ghost use Rattle.std.specs.Prelude.{◌≡◌, IfOk};
+ghost use Rattle.std.specs.Prelude.{◌≡◌, IfOk, OnOk, Some, slice_get};
+ghost use Rattle.change_model.specs.Sound.{IsSound};
 ghost use Rattle.sheet_model.specs.Sources.{Sources};
+ghost use Rattle.cascade_model.specs.StyleOf.{root_of};
+ghost use Rattle.sheet_set.specs.View.{sources_seen};
 ghost use Rattle.plain_style.specs.Fits.{Fits};
 ghost use Rattle.plain_style.specs.Prepared.{IsPrepared};
 ghost use Rattle.plain_style.specs.declared.prepared.Prepared.{Prepared};
+ghost use Rattle.session_model.specs.Standing.{root_size_in, style_in};
+ghost use Rattle.style_session.specs.Lent.{scene_lent};
+ghost use Rattle.style_session.specs.Sessions.{AreOfTexts};
 
-use plain_style::Styler;
+use plain_style::{Inputs, RootStyle, Styler};
 use std::alloc::Global;
+use std::sync::Arc;
 use stylo_base::{Fixed, NoMemory};
 
 /// So many styles are kept from one restyle to the next, at most.
@@ -42,6 +49,26 @@ impl StyleCache {
         if self.styler.len() > MOST_STYLES {
             self.styler.clear();
         }
+    }
+
+    /// Styles the root, and makes all right for its font size, which `rem` stands for. It gives the style by
+    /// its number in the table.
+    pub(crate) fn root(&mut self, inputs: &Inputs<'_>, root: u32) -> Result<usize, NoMemory>
+        requires texts { AreOfTexts inputs.now.sheets.now }
+        requires sound { IsSound inputs.now.doc.now }
+        requires root { root_of inputs.now.doc.now.elements ≡ Some root }
+        requires fits { Fits (sources_seen inputs.now.sheets.now) self.old.size inputs.now.prepared.now
+            self.old.styler }
+        ensures style { IfOk result (λ style. slice_get self.new.styler.table style
+            ≡ Some (style_in (scene_lent inputs.now) root)) }
+        ensures size { OnOk result (self.new.size ≡ root_size_in (scene_lent inputs.now)) }
+        ensures fits { Fits (sources_seen inputs.now.sheets.now) self.new.size inputs.now.prepared.now
+            self.new.styler }
+    {
+        let RootStyle { style, size } = self.styler.root(inputs, root)?;
+        let made = Arc::try_clone(self.styler.style(style))?;
+        self.fit(size);
+        self.styler.adopt(&made)
     }
 
     /// Makes it right for this font size of the root: what is known for another one is forgotten.

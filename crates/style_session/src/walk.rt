@@ -22,7 +22,7 @@ use crate::style_cache::StyleCache;
 use crate::styled::Styled;
 use dom_tree::Doc;
 use io_edges::Gate;
-use plain_style::{Inputs, RootStyle};
+use plain_style::Inputs;
 use std::sync::Arc;
 use stylo_base::NoMemory;
 
@@ -120,11 +120,8 @@ impl Walk {
             cache.fit(lists.kept_style(root).unwrap().font_size());
             return Ok(());
         }
-        let RootStyle { style, size } = cache.styler.root(inputs, root)?;
-        let made = Arc::try_clone(cache.styler.style(style))?;
-        cache.fit(size);
-        let style = cache.styler.adopt(&made)?;
-        self.size_differs = lists.is_other_size(root, size);
+        let style = cache.root(inputs, root)?;
+        self.size_differs = lists.is_other_size(root, cache.size);
         self.meet(lists, cache, root, style);
         self.hand_on(cache, root, style, true)
     }

@@ -51,7 +51,7 @@ fn width_of_p(alloc: Global, doc: &Doc) -> Result<Option<Value>, NoMemory> {
 
 #[test]
 fn width(rt: HostRuntime) -> Result<(), Fail> {
-    let doc = document(rt.alloc())?;
+    let doc = Box::new(rt.alloc(), document(rt.alloc())?)?;
     let found = width_of_p(rt.alloc(), &doc)?;
     assert_eq!(rt; found, Some(Value::Pixels(Fixed::clamp(30_000))));
     Ok(())

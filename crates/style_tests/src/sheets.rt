@@ -9,13 +9,13 @@ use std::test::Fail;
 use stylo_base::{NoMemory, Text};
 
 /// The sheets of a document with one author sheet.
-fn author(alloc: Global, text: &str) -> Result<Sheets, NoMemory> {
+fn author(alloc: Global, text: &str) -> Result<Box<Sheets>, NoMemory> {
     let sheet = SheetInput {
         origin: Origin::Author,
         enabled: true,
         text: Text::of_str(alloc, text)?,
     };
-    Sheets::start(alloc, &[sheet])
+    Ok(Box::new(alloc, Sheets::start(alloc, &[sheet])?)?)
 }
 
 /// How many selectors and declarations the only rule has.
@@ -50,7 +50,7 @@ fn last_place(sheets: &Sheets) -> (u32, u32, u64) {
 }
 
 /// A disabled sheet, and an enabled one of two rules.
-fn two_sheets(alloc: Global) -> Result<Sheets, NoMemory> {
+fn two_sheets(alloc: Global) -> Result<Box<Sheets>, NoMemory> {
     let disabled = SheetInput {
         origin: Origin::User,
         enabled: false,
@@ -61,7 +61,8 @@ fn two_sheets(alloc: Global) -> Result<Sheets, NoMemory> {
         enabled: true,
         text: Text::of_str(alloc, "p{margin:inherit}p{}")?,
     };
-    Sheets::start(alloc, &[disabled, enabled])
+    let sheets = Sheets::start(alloc, &[disabled, enabled])?;
+    Ok(Box::new(alloc, sheets)?)
 }
 
 #[test]

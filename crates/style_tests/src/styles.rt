@@ -11,7 +11,7 @@ use style_value::Style;
 use stylo_base::{NoMemory, Text};
 
 /// `html` over `p` with a `style` attribute.
-fn pair(alloc: Global) -> Result<Doc, NoMemory> {
+fn pair(alloc: Global) -> Result<Box<Doc>, NoMemory> {
     let html = NodeInput {
         tag: "html",
         attrs: &[],
@@ -30,17 +30,17 @@ fn pair(alloc: Global) -> Result<Doc, NoMemory> {
             states: States::default(),
         },
     )?;
-    Doc::of_list(alloc, list)
+    Ok(Box::new(alloc, Doc::of_list(alloc, list)?)?)
 }
 
 /// The rules of one author sheet.
-fn rules(alloc: Global, text: &str) -> Result<Sheets, NoMemory> {
+fn rules(alloc: Global, text: &str) -> Result<Box<Sheets>, NoMemory> {
     let sheet = SheetInput {
         origin: Origin::Author,
         enabled: true,
         text: Text::of_str(alloc, text)?,
     };
-    Sheets::start(alloc, &[sheet])
+    Ok(Box::new(alloc, Sheets::start(alloc, &[sheet])?)?)
 }
 
 /// The printed values of styles, each with a line feed.

@@ -103,6 +103,9 @@ abbrev count : Characters → ℕ
 count text = length (sheet_rules_in edition text)
 
 -- 64 parts are a name, and no more
-limits_right : map count ((codes "@layer " ++ long_name 63) ∷ (codes "@layer b," ++ long_name 64) ∷ (codes "@layer " ++ (long_name 63 ++ codes "{p{} @layer{p{}} @layer b{p{}} @layer b, c; q{}}")) ∷ []) ≡ 1 ∷ 0 ∷ 3 ∷ []
+abbrev longest : Characters
+longest = codes "@layer " ++ long_name 63
+
+limits_right : map count (longest ∷ (codes "@layer b," ++ long_name 64) ∷ (longest ++ codes "{p{} @layer{p{}} @layer b{p{}} @layer b, c; q{}}") ∷ []) ≡ 1 ∷ 0 ∷ 3 ∷ []
 unfolding tokens_in rules_in
 limits_right = refl

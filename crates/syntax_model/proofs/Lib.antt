@@ -1,7 +1,7 @@
 pub mod TextUnitLemmas
-pub mod PieceLemmas
 pub mod FormLemmas
 pub mod PieceForms
+pub mod PieceLemmas
 pub mod TokensLemmas
 pub mod ReadingLemmas
 pub mod EscapeLemmas

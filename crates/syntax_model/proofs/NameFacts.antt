@@ -6,24 +6,11 @@ use Rattle.std.proofs.lemmas.Bool.Decides.{nat_tests}
 use Rattle.base_model.specs.Lists.{is_nil}
 use Rattle.base_model.specs.Text.{Characters}
 use Rattle.syntax_model.specs.Letters.{begins, is_name_char, is_name_start}
-use Rattle.syntax_model.specs.TextUnits.{Run, TextUnit, escape, hex_len, itself, name_unit, run_of, starts_escape, then_run}
+use Rattle.syntax_model.specs.TextUnits.{Run, TextUnit, itself, name_unit, run_of, starts_escape, then_run}
 use Rattle.syntax_model.specs.Pieces.{name_in, starts_ident, starts_name}
 use Rattle.syntax_model.specs.Written.{name_text}
 use Rattle.syntax_model.proofs.TextUnitLemmas.{name_fits, run_of_more, run_of_none}
-use Rattle.syntax_model.proofs.PieceLemmas.{ident_starts, unit_some}
-
--- an escape says a character
-escape_says : (cs : Characters) → is_nil (option_to_list (escape cs).said) ≡ false
-escape_says [] = refl
-escape_says (c ∷ cs) = cond_both (eqb (hex_len (c ∷ cs)) 0) _ _ (λ (u : TextUnit). is_nil (option_to_list u.said) ≡ false) (λ _. refl) (λ _. refl)
-
-unit_says : (text : Characters) → starts_name text ≡ true → is_nil (option_to_list (name_unit text).said) ≡ false
-unit_says [] h = absurd (false≢true h)
-unit_says (c ∷ cs) h =
-    let P : TextUnit → Type 0 = λ u. is_nil (option_to_list u.said) ≡ false in
-    cond_both (is_name_char c) _ _ P (λ _. refl)
-    (λ e. cond_both (starts_escape (c ∷ cs)) _ _ P (λ _. escape_says cs)
-    (λ k. absurd (false≢true (sym (or_from _ _ e k) ∙ h))))
+use Rattle.syntax_model.proofs.PieceLemmas.{ident_starts, unit_full}
 
 some_more : (first more : Characters) → is_nil first ≡ false → is_nil (first ++ more) ≡ false
 some_more [] more h = absurd (false≢true (sym h))
@@ -32,8 +19,8 @@ some_more (c ∷ cs) more h = refl
 -- where a name starts, it is some name
 pub name_in_some : (text : Characters) → starts_name text ≡ true → is_nil (name_in text) ≡ false
 name_in_some text h =
-    ap (λ (r : Run). is_nil r.said) (run_of_more name_unit name_fits text (unit_some text h))
-    ∙ some_more (option_to_list (name_unit text).said) _ (unit_says text h)
+    ap (λ (r : Run). is_nil r.said) (run_of_more name_unit name_fits text (unit_full text h).some)
+    ∙ some_more (option_to_list (name_unit text).said) _ (unit_full text h).says
 
 pub ident_name_some : (text : Characters) → starts_ident text ≡ true → is_nil (name_in text) ≡ false
 ident_name_some text h = name_in_some text (ident_starts text h)
@@ -50,29 +37,27 @@ name_in_none : (c : ℕ) (cs : Characters) → is_name_char c ≡ false → star
 name_in_none c cs h k =
     ap (λ (r : Run). r.said) (run_of_none name_unit (c ∷ cs) (ap (λ (u : TextUnit). u.taken) (cond-false (is_name_char c) _ _ h ∙ cond-false (starts_escape (c ∷ cs)) _ _ k)))
 
--- a name's text by its first character
-name_text_char : (c : ℕ) (cs : Characters) → is_name_char c ≡ true → name_text (c ∷ cs) ≡ c ∷ name_text cs
-name_text_char c cs h = ap (λ (w : Characters). w ++ name_text cs) (cond-true (is_name_char c) _ _ h)
+-- and its text
+name_text_char : (c : ℕ) (cs : Characters) → is_name_char c ≡ true → name_text (name_in (c ∷ cs)) ≡ c ∷ name_text (name_in cs)
+name_text_char c cs h = rw (name_in_char c cs h, h) refl
 
 name_no_escape : (c : ℕ) → is_name_char c ≡ true → eqb c 92 ≡ false
 name_no_escape c h = grind (arith, nat_tests)
 
 -- what an identifier may go on with after a `-`
-goes_on : Characters → Bool
+abbrev goes_on : Characters → Bool
 goes_on text = begins (λ d. is_name_start d || eqb d 45) text || starts_escape text
 
 no_more : (text : Characters) → goes_on text ≡ false → goes_on (name_text (name_in text)) ≡ false
-unfolding goes_on
 no_more [] h = refl
 no_more (c ∷ cs) h =
-    let parts : ((is_name_start c || eqb c 45) ≡ false) × (starts_escape (c ∷ cs) ≡ false) = or_parts _ _ h in
+    let parts = or_parts (is_name_start c || eqb c 45) (starts_escape (c ∷ cs)) h in
     elim (cases_Bool (is_name_char c)) [
-      | inl e ↦ ap goes_on (ap name_text (name_in_char c cs e) ∙ name_text_char c (name_in cs) e) ∙ or_from _ _ parts.0 (and_left _ _ (name_no_escape c e))
-      | inr e ↦ ap (λ (name : Characters). goes_on (name_text name)) (name_in_none c cs e parts.1)
+      | inl e ↦ rw (name_text_char c cs e) (or_from _ _ parts.0 (and_left _ _ (name_no_escape c e)))
+      | inr e ↦ rw (name_in_none c cs e parts.1) refl
     ]
 
 no_ident_first : (c : ℕ) (cs : Characters) → is_name_char c ≡ true → starts_ident (c ∷ cs) ≡ false → starts_ident (c ∷ name_text (name_in cs)) ≡ false
-unfolding goes_on
 no_ident_first c cs e h =
     cond_both (eqb c 45) _ _ (λ b. b ≡ false) (λ k. no_more cs (sym (cond-true _ _ _ k) ∙ h))
     (λ k. or_from _ _ (or_parts (is_name_start c) _ (sym (cond-false _ _ _ k) ∙ h)).0 (and_left _ _ (name_no_escape c e)))
@@ -88,6 +73,6 @@ pub no_ident_written : (text : Characters) → starts_name text ≡ true → sta
 no_ident_written [] h k = absurd (false≢true h)
 no_ident_written (c ∷ cs) h k =
     elim (or_cases (is_name_char c) _ h) [
-      | inl e ↦ ap starts_ident (ap name_text (name_in_char c cs e) ∙ name_text_char c (name_in cs) e) ∙ no_ident_first c cs e k
+      | inl e ↦ rw (name_text_char c cs e) (no_ident_first c cs e k)
       | inr e ↦ absurd (false≢true (sym k ∙ escape_is_ident c cs e))
     ]

@@ -1,35 +1,51 @@
 -- A text reads as its tokens, and as no others.
-use Rattle.std.proofs.Common.{◌≡◌, ◌≢◌, ◌↔◌, ◌⊎◌, ℕ, zero, suc, ◌+◌, ◌-◌, ◌<◌, ◌≤◌, List, [], ◌∷◌, ◌++◌, length, take, drop, refl, sym, ap, ◌∙◌, arith, inl, inr, length-append, length-drop, take-append-drop}
-use Rattle.std.proofs.lemmas.List.{drop-drop, drop_at, take_at}
+use Rattle.std.proofs.Common.{◌≡◌, ◌≢◌, ◌↔◌, ℕ, zero, suc, ◌+◌, ◌-◌, ◌<◌, ◌≤◌, List, [], ◌∷◌, ◌++◌, length, take, drop, refl, sym, ap, ◌∙◌, arith}
+use Rattle.std.proofs.Common.{inl, inr, length-append, length-drop, take-append-drop}
+use Rattle.std.proofs.lemmas.List.{drop-drop, drop_at, length-take-le, take_at}
 use Rattle.base_model.specs.Text.{Characters}
-use Rattle.syntax_model.specs.Token.{Token}
+use Rattle.syntax_model.specs.Token.{Said, Token}
 use Rattle.syntax_model.specs.Pieces.{Production, comment_production, piece_of, production_at, production_len, production_tokens}
 use Rattle.syntax_model.specs.TokensIn.{tokens_in}
-use Rattle.syntax_model.specs.Reading.{IsPiece, Reads, Reading, nothing_left, skip_comment, take_piece, token_at}
+use Rattle.syntax_model.specs.Reading.{IsToken, Reads, Reading, nothing_left, skip_comment, take_token, token_at}
 use Rattle.syntax_model.specs.Spans.{IsAt, StandInOrder}
-use Rattle.syntax_model.proofs.FormLemmas.{Takes}
-use Rattle.syntax_model.proofs.PieceForms.{takes_first}
-use Rattle.syntax_model.proofs.PieceLemmas.{first_is}
+use Rattle.syntax_model.proofs.FormLemmas.{tells_size}
+use Rattle.syntax_model.proofs.PieceForms.{said_by}
+use Rattle.syntax_model.proofs.PieceLemmas.{comment_or, first_is, takes_first_comment, tells_first}
 use Rattle.syntax_model.proofs.TokensLemmas.{tokens_at, tokens_more}
 
--- a comment, or the piece of a token
-pub comment_or : (production : Production) → (production ≡ comment_production) ⊎ (production ≢ comment_production)
-comment_or comment_production = inl refl
-comment_or production = inr (λ e. cc)
+-- no token of a comment, and one of any other production
+no_token : (production : Production) (start c : ℕ) (cs : Characters) → production ≡ comment_production → production_tokens production start c cs ≡ []
+no_token production start c cs comment = rw comment refl
 
--- the token of a production but that of comments
-pub production_token : (production : Production) (start c : ℕ) (cs : Characters) → production ≢ comment_production → production_tokens production start c cs ≡ token_at start (piece_of production c cs) (production_len production c cs) ∷ []
-production_token comment_production start c cs other = absurd (other refl)
-production_token production start c cs other = refl
+production_token : (production : Production) (start c : ℕ) (cs : Characters) (n : ℕ) → production_len production c cs ≡ n → production ≢ comment_production
+    → production_tokens production start c cs ≡ token_at start (said_by (piece_of production c cs)) n ∷ []
+production_token comment_production start c cs n size other = absurd (other refl)
+production_token production start c cs n size other = rw (← size) refl
 
--- a piece has as many characters as its production says
-pub piece_size : (c : ℕ) (cs piece rest : Characters) → c ∷ cs ≡ piece ++ rest → IsPiece (production_at (c ∷ cs)) piece rest → production_len (production_at (c ∷ cs)) c cs ≡ length piece
-piece_size c cs piece rest is form = (takes_first c cs).only piece rest form is
+-- a token is no comment
+no_comment : (production : Production) (says : Said) (piece rest : Characters)
+    → IsToken production says piece rest → production ≢ comment_production
+no_comment comment_production says piece rest form = absurd form
+no_comment production says piece rest form = λ e. cc
+
+-- what is known of the first piece of a text, where it is a token
+record IsFirst (c : ℕ) (cs : Characters) (says : Said) (piece : Characters) : Type 0 where
+  other : production_at (c ∷ cs) ≢ comment_production
+  size : production_len (production_at (c ∷ cs)) c cs ≡ length piece
+  same : says ≡ said_by (piece_of (production_at (c ∷ cs)) c cs)
+
+first_token : (c : ℕ) (cs : Characters) (says : Said) (piece rest : Characters) → c ∷ cs ≡ piece ++ rest
+    → IsToken (production_at (c ∷ cs)) says piece rest → IsFirst c cs says piece
+first_token c cs says piece rest is form =
+    let other = no_comment (production_at (c ∷ cs)) says piece rest form in
+    let tells = tells_first c cs other in
+    record { other = other; size = tells_size tells says piece rest form is; same = tells.only says piece rest form is }
 
 -- the tokens of the first piece, and then those of what comes after it
-tokens_after : (start c : ℕ) (cs piece rest : Characters) → c ∷ cs ≡ piece ++ rest → IsPiece (production_at (c ∷ cs)) piece rest → tokens_at start (c ∷ cs) ≡ production_tokens (production_at (c ∷ cs)) start c cs ++ tokens_at (start + length piece) rest
-tokens_after start c cs piece rest is form =
-    let size : production_len (production_at (c ∷ cs)) c cs ≡ length piece = piece_size c cs piece rest is form in
+tokens_after : (start c : ℕ) (cs piece rest : Characters) → c ∷ cs ≡ piece ++ rest
+    → production_len (production_at (c ∷ cs)) c cs ≡ length piece
+    → tokens_at start (c ∷ cs) ≡ production_tokens (production_at (c ∷ cs)) start c cs ++ tokens_at (start + length piece) rest
+tokens_after start c cs piece rest is size =
     let left : drop (length piece) (c ∷ cs) ≡ rest = rw is (drop_at piece rest (length piece) refl) in
     rw (tokens_more start c cs, size, left) refl
 
@@ -37,32 +53,32 @@ tokens_after start c cs piece rest is form =
 tokens_are : {start : ℕ} {text : Characters} {tokens : List Token} → Reads start text tokens → tokens ≡ tokens_at start text
 tokens_are (nothing_left start) = refl
 tokens_are (skip_comment start c cs piece rest tokens is comment form reads) =
-    let here : IsPiece (production_at (c ∷ cs)) piece rest = rw comment form in
-    rw (tokens_after start c cs piece rest is here, comment) (tokens_are reads)
-tokens_are (take_piece start c cs piece rest tokens is other form reads) =
-    rw (tokens_after start c cs piece rest is form, production_token (production_at (c ∷ cs)) start c cs other, piece_size c cs piece rest is form, ← tokens_are reads) refl
-
--- a piece, and then the rest
-read_piece : (start c : ℕ) (cs piece rest : Characters) (tokens : List Token) → c ∷ cs ≡ piece ++ rest → IsPiece (production_at (c ∷ cs)) piece rest → Reads (start + length piece) rest tokens → Reads start (c ∷ cs) (production_tokens (production_at (c ∷ cs)) start c cs ++ tokens)
-read_piece start c cs piece rest tokens is form reads = elim (comment_or (production_at (c ∷ cs))) [
-  | inl comment ↦ rw comment (skip_comment start c cs piece rest tokens is comment (rw comment at form) reads)
-  | inr other ↦ rw (production_token (production_at (c ∷ cs)) start c cs other, piece_size c cs piece rest is form) (take_piece start c cs piece rest tokens is other form reads)
-]
+    rw (tokens_after start c cs piece rest is ((takes_first_comment c cs comment).only piece rest form is), comment) (tokens_are reads)
+tokens_are (take_token start c cs piece rest says tokens is form reads) =
+    let first = first_token c cs says piece rest is form in
+    let token = production_token (production_at (c ∷ cs)) start c cs (length piece) first.size first.other in
+    rw (tokens_after start c cs piece rest is first.size, token, first.same, ← tokens_are reads) refl
 
 -- as its tokens
 reads_from : (n start : ℕ) (text : Characters) → length text ≤ n → Reads start text (tokens_at start text)
 reads_from n start [] h = nothing_left start
 reads_from zero start (c ∷ cs) h = absurd (omega (arith, h))
 reads_from (suc n) start (c ∷ cs) h =
-    let taken : ℕ = production_len (production_at (c ∷ cs)) c cs in
-    let first : Takes (IsPiece (production_at (c ∷ cs))) (c ∷ cs) taken = takes_first c cs in
+    let production : Production = production_at (c ∷ cs) in
+    let taken : ℕ = production_len production c cs in
     let piece : Characters = take taken (c ∷ cs) in
     let rest : Characters = drop taken (c ∷ cs) in
-    let joined : c ∷ cs ≡ piece ++ rest = sym (take-append-drop taken (c ∷ cs)) in
+    let is : c ∷ cs ≡ piece ++ rest = sym (take-append-drop taken (c ∷ cs)) in
+    let size : taken ≡ length piece = sym (length-take-le taken (c ∷ cs) (first_is c cs).inside) in
     let left : length rest ≤ n = omega (arith, (first_is c cs).some, h, length-drop taken (c ∷ cs)) in
-    rw (tokens_after start c cs piece rest joined first.fits) (read_piece start c cs piece rest _ joined first.fits (reads_from n (start + length piece) rest left))
+    let reads : Reads (start + length piece) rest (tokens_at (start + length piece) rest) = reads_from n (start + length piece) rest left in
+    rw (tokens_after start c cs piece rest is size) (elim (comment_or production) [
+      | inl comment ↦ rw (no_token production start c cs comment) (skip_comment start c cs piece rest _ is comment (takes_first_comment c cs comment).fits reads)
+      | inr other ↦ rw (production_token production start c cs (length piece) size other)
+          (take_token start c cs piece rest _ _ is (tells_first c cs other).takes.fits reads)
+    ])
 
-pub tokens_read : (text : Characters) → Reading text (tokens_in text)
+tokens_read : (text : Characters) → Reading text (tokens_in text)
 unfolding tokens_in
 tokens_read text = reads_from (length text) 0 text (omega arith)
 
@@ -83,22 +99,20 @@ stand_from : {start : ℕ} {rest : Characters} {tokens : List Token} (text : Cha
 stand_from text left (nothing_left start) = tt
 stand_from text left (skip_comment start c cs piece rest tokens is comment form reads) =
     stand_earlier start (start + length piece) text tokens (omega arith) (stand_from text (left_after start text piece rest (left ∙ is)) reads)
-stand_from text left (take_piece start c cs piece rest tokens is other form reads) =
+stand_from text left (take_token start c cs piece rest says tokens is form reads) =
     let n : ℕ = length piece in
     let past : drop (start + n) text ≡ rest = left_after start text piece rest (left ∙ is) in
-    let some : 0 < n = rw (← piece_size c cs piece rest is form) (first_is c cs).some in
+    let some : 0 < n = rw (← (first_token c cs says piece rest is form).size) (first_is c cs).some in
     let same : start + n - start ≡ n = omega arith in
     let there : take (start + n - start) (c ∷ cs) ≡ piece = rw same (ap (take n) is ∙ take_at piece rest n refl) in
-    let at : IsAt text (record { start = start; end = start + n }) (token_at start (piece_of (production_at (c ∷ cs)) c cs) n) = record {
+    let at : IsAt text (record { start = start; end = start + n }) (token_at start says n) = record {
       spanned = refl;
       some = omega (arith, some);
       inside = omega (arith, some, length-drop start text, ap length (left ∙ is), length-append piece rest);
       first = c;
       others = cs;
       here = left;
-      no_comment = other;
       piece = rw (past, there) form;
-      says = refl;
     } in
     (record { start = start; end = start + n }, omega arith, at, stand_from text past reads)
 

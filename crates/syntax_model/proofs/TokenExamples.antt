@@ -1,11 +1,12 @@
 -- The tokens of small texts, what their numbers are worth, and how they are written.
-use Rattle.std.proofs.Common.{◌≡◌, Bool, List, [], ◌∷◌, length, map, refl}
-use Rattle.std.specs.Prelude.{ℤ, pos, neg_ℤ, codes, filter, flat_map, not, ◌&&◌}
+use Rattle.std.proofs.Common.{◌≡◌, Bool, true, List, [], ◌∷◌, ◌++◌, length, map, None, refl}
+use Rattle.std.specs.Prelude.{ℤ, pos, neg_ℤ, codes, filter, flat_map, not, ◌&&◌, ◌||◌}
+use Rattle.std.specs.List.{list_all}
 use Rattle.base_model.specs.Text.{Characters, same_text}
-use Rattle.syntax_model.specs.Token.{Token}
+use Rattle.syntax_model.specs.Token.{Token, TokenKind, ident, function, at_keyword, hash, string, url, delim, dimension}
 use Rattle.syntax_model.specs.Numbers.{thousandths}
 use Rattle.syntax_model.specs.TokensIn.{tokens_in}
-use Rattle.syntax_model.specs.Written.{is_writable, written}
+use Rattle.syntax_model.specs.Written.{is_sound, is_writable, written}
 use Rattle.syntax_model.proofs.ExampleCases.{Case, case, join, others, shown, tokens_shown}
 
 abbrev names : List Case
@@ -226,75 +227,41 @@ unfolding tokens_in
 numbers_right = refl
 
 -- numbers, and what they are worth in thousandths
-abbrev spellings : List Characters
-spellings =
-    codes "1" ∷
-    codes "-1" ∷
-    codes ".5" ∷
-    codes "1.2345" ∷
-    codes "1.2344" ∷
-    codes "-.0005" ∷
-    codes "-.0004" ∷
-    codes "0.0005" ∷
-    codes "1e3" ∷
-    codes "1e-3" ∷
-    codes "5e-4" ∷
-    codes "4.9e-4" ∷
-    codes "1.5e1" ∷
-    codes "+2" ∷
-    codes "1e99" ∷
-    codes "-1e99" ∷
-    codes "2000000000" ∷
-    codes "2000000001" ∷
-    codes "1999999999.9994" ∷
-    codes "1999999999.9995" ∷
-    codes "0e99" ∷
-    codes "007" ∷
-    codes "1e-99" ∷
-    codes "1E+2" ∷
-    codes ".0000000000000000000000000000001e31" ∷
-    codes "10000000000000000000000000000000000000000e-40" ∷
-    codes "0.9996" ∷
-    codes "-0" ∷
-    codes "1.0005" ∷
-    codes "0.00049999" ∷
-    []
-
-abbrev worth : List ℤ
+abbrev worth : List (Characters × ℤ)
 worth =
-    pos 1000 ∷
-    neg_ℤ (pos 1000) ∷
-    pos 500 ∷
-    pos 1235 ∷
-    pos 1234 ∷
-    neg_ℤ (pos 1) ∷
-    pos 0 ∷
-    pos 1 ∷
-    pos 1000000 ∷
-    pos 1 ∷
-    pos 1 ∷
-    pos 0 ∷
-    pos 15000 ∷
-    pos 2000 ∷
-    pos 2000000000000 ∷
-    neg_ℤ (pos 2000000000000) ∷
-    pos 2000000000000 ∷
-    pos 2000000000000 ∷
-    pos 1999999999999 ∷
-    pos 2000000000000 ∷
-    pos 0 ∷
-    pos 7000 ∷
-    pos 0 ∷
-    pos 100000 ∷
-    pos 1000 ∷
-    pos 1000 ∷
-    pos 1000 ∷
-    pos 0 ∷
-    pos 1001 ∷
-    pos 0 ∷
+    (codes "1", pos 1000) ∷
+    (codes "-1", neg_ℤ (pos 1000)) ∷
+    (codes ".5", pos 500) ∷
+    (codes "1.2345", pos 1235) ∷
+    (codes "1.2344", pos 1234) ∷
+    (codes "-.0005", neg_ℤ (pos 1)) ∷
+    (codes "-.0004", pos 0) ∷
+    (codes "0.0005", pos 1) ∷
+    (codes "1e3", pos 1000000) ∷
+    (codes "1e-3", pos 1) ∷
+    (codes "5e-4", pos 1) ∷
+    (codes "4.9e-4", pos 0) ∷
+    (codes "1.5e1", pos 15000) ∷
+    (codes "+2", pos 2000) ∷
+    (codes "1e99", pos 2000000000000) ∷
+    (codes "-1e99", neg_ℤ (pos 2000000000000)) ∷
+    (codes "2000000000", pos 2000000000000) ∷
+    (codes "2000000001", pos 2000000000000) ∷
+    (codes "1999999999.9994", pos 1999999999999) ∷
+    (codes "1999999999.9995", pos 2000000000000) ∷
+    (codes "0e99", pos 0) ∷
+    (codes "007", pos 7000) ∷
+    (codes "1e-99", pos 0) ∷
+    (codes "1E+2", pos 100000) ∷
+    (codes ".0000000000000000000000000000001e31", pos 1000) ∷
+    (codes "10000000000000000000000000000000000000000e-40", pos 1000) ∷
+    (codes "0.9996", pos 1000) ∷
+    (codes "-0", pos 0) ∷
+    (codes "1.0005", pos 1001) ∷
+    (codes "0.00049999", pos 0) ∷
     []
 
-worth_right : map thousandths spellings ≡ worth
+worth_right : map (λ number. thousandths number.0) worth ≡ map (λ number. number.1) worth
 unfolding thousandths
 worth_right = refl
 
@@ -358,7 +325,10 @@ texts_right = refl
 -- a token of each kind but the bad ones
 abbrev samples : List Token
 samples =
-    flat_map (λ text. tokens_in (codes text)) ("a" ∷ "f(" ∷ "url('" ∷ "@a" ∷ "#a" ∷ "#1" ∷ "\"a\"" ∷ "url(a)" ∷ "%" ∷ "-" ∷ "/" ∷ "." ∷ "+" ∷ "#" ∷ "@" ∷ "<" ∷ "1" ∷ "+1" ∷ ".5" ∷ "1e3" ∷ "1%" ∷ "1px" ∷ "1\\65 3" ∷ " " ∷ "<!--" ∷ "-->" ∷ ":" ∷ ";" ∷ "," ∷ "[" ∷ "]" ∷ "(" ∷ ")" ∷ "{" ∷ "}" ∷ [])
+    flat_map (λ text. tokens_in (codes text)) (
+    "a" ∷ "f(" ∷ "url('" ∷ "@a" ∷ "#a" ∷ "#1" ∷ "\"a\"" ∷ "url(a)" ∷ "%" ∷ "-" ∷ "/" ∷ "." ∷ "+" ∷ "#" ∷ "@" ∷ "<" ∷
+    "1" ∷ "+1" ∷ ".5" ∷ "1e3" ∷ "1%" ∷ "1px" ∷ "1\\65 3" ∷ " " ∷ "<!--" ∷ "-->" ∷ ":" ∷ ";" ∷ "," ∷ "[" ∷ "]" ∷ "(" ∷ ")" ∷ "{" ∷ "}" ∷ []
+    )
 
 abbrev shown_again : List Token → Bool
 shown_again tokens = same_text (join (map shown (tokens_in (written tokens)))) (join (map shown tokens))
@@ -375,3 +345,22 @@ pairs_right = refl
 writable_pairs : length (flat_map (λ first. filter (λ next. is_writable (first ∷ next ∷ [])) samples) samples) ≡ 1226
 unfolding tokens_in is_writable
 writable_pairs = refl
+
+-- sound tokens that no text has after preprocessing: with U+0000 in their names, and delims that preprocessing changes
+abbrev token : TokenKind → Characters → Characters → Token
+token kind name spelling = record { kind = kind; name = name; spelling = spelling; span = None }
+
+abbrev null_names : List Token
+null_names = map (λ kind. token kind (97 ∷ 0 ∷ []) []) (ident ∷ function ∷ at_keyword ∷ hash true ∷ string ∷ url ∷ [])
+
+abbrev in_no_text : List Token
+in_no_text = null_names ++ token (dimension true) (0 ∷ []) (codes "1") ∷ map (λ c. token (delim c) [] []) (0 ∷ 12 ∷ 13 ∷ [])
+
+none_writable : filter (λ token. is_writable (token ∷ []) || not (is_sound token)) in_no_text ≡ []
+unfolding is_writable
+none_writable = refl
+
+-- a name may hold FF and CR: they are escaped
+breaks_in_names : list_all (λ c. is_writable (token ident (c ∷ []) [] ∷ [])) (12 ∷ 13 ∷ []) ≡ true
+unfolding is_writable
+breaks_in_names = refl

@@ -1,8 +1,9 @@
 -- After the function `url` in a text comes a string, with whitespace or none between: a bad one, if the text has such.
-use Rattle.std.proofs.Common.{◌≡◌, ℕ, zero, suc, ◌+◌, ◌<◌, ◌≤◌, Bool, true, false, cond, eqb, ◌&&◌, ◌||◌, List, [], ◌∷◌, ◌++◌, length, drop, refl, sym, ap, ◌∙◌, arith, inl, inr, length-drop}
+use Rattle.std.proofs.Common.{◌≡◌, ℕ, zero, suc, ◌+◌, ◌<◌, ◌≤◌, Bool, true, false, eqb, ◌&&◌, ◌||◌, List, [], ◌∷◌, ◌++◌, length, drop, refl, sym, ◌∙◌, arith, inl, inr, length-drop}
 use Rattle.std.specs.Prelude.{codes, not}
 use Rattle.std.specs.List.{list_all, prefix_len}
-use Rattle.std.proofs.lemmas.Bool.{cond_both, cond-false, cond-true, and_from, and_parts, cases_Bool, eqb-true, false≢true, or_cases, not-false}
+use Rattle.std.proofs.lemmas.Bool.{and_from, and_left, and_parts, cases_Bool, cond_both, cond-false, cond-true, false≢true, not-false}
+use Rattle.std.proofs.lemmas.Bool.Decides.{nat_tests}
 use Rattle.std.proofs.lemmas.List.{drop-drop}
 use Rattle.base_model.specs.Text.{Characters, is_word}
 use Rattle.syntax_model.specs.Letters.{begins, is_blank, is_quote}
@@ -10,10 +11,12 @@ use Rattle.syntax_model.specs.TextUnits.{len_of, string_unit}
 use Rattle.syntax_model.specs.Numbers.{number_len}
 use Rattle.syntax_model.specs.Token.{Token, TokenKind, function, string, bad_string}
 use Rattle.syntax_model.specs.TokenKinds.{begins_with, is_white, without_white}
-use Rattle.syntax_model.specs.Pieces.{Piece, Production, comment_production, ident_piece, is_line_feed, mark_kind, name_in, name_len, number_piece, piece_of, plain, quote_follows, production_at, production_len, production_tokens, starts_ident, string_piece, string_production, token_of, url_piece, white_production}
+use Rattle.syntax_model.specs.Pieces.{Piece, Production, comment_production, ident_production, mark_production, number_production, string_production, white_production, ident_piece, is_line_feed}
+use Rattle.syntax_model.specs.Pieces.{mark_kind, name_in, name_len, number_piece, piece_of, plain, quote_follows, production_at, production_len, production_tokens, starts_ident, string_piece}
+use Rattle.syntax_model.specs.Pieces.{token_of, url_piece}
 use Rattle.syntax_model.specs.TokensIn.{tokens_from, tokens_in}
 use Rattle.syntax_model.specs.Written.{is_bad_string, is_string, is_url_function, urls_go_on}
-use Rattle.syntax_model.proofs.PieceLemmas.{first_is, production_any, url_any}
+use Rattle.syntax_model.proofs.PieceLemmas.{first_is, url_any}
 
 abbrev NoBad : List Token → Type 0
 NoBad tokens = list_all (λ token. not (is_bad_string token.kind)) tokens ≡ true
@@ -34,20 +37,11 @@ QuotesFollow (token ∷ tokens) = (is_url_function token ≡ true → QuoteComes
 -- quotes and blanks decide their productions
 quote_production : (c : ℕ) (cs : Characters) → is_quote c ≡ true → production_at (c ∷ cs) ≡ string_production
 quote_production c cs quote =
-    elim (or_cases (eqb c 34) _ quote) [
-      | inl is ↦ rw (eqb-true c 34 is) refl
-      | inr is ↦ rw (eqb-true c 39 is) refl
-    ]
+    cond-false _ _ _ (and_left (eqb c 47) _ (grind (arith, nat_tests)))
+    ∙ (cond-false (is_blank c) _ _ (grind (arith, nat_tests)) ∙ cond-true _ _ _ quote)
 
 blank_production : (c : ℕ) (cs : Characters) → is_blank c ≡ true → production_at (c ∷ cs) ≡ white_production
-blank_production c cs blank =
-    elim (or_cases (eqb c 10) _ blank) [
-      | inl is ↦ rw (eqb-true c 10 is) refl
-      | inr other ↦ elim (or_cases (eqb c 9) _ other) [
-        | inl is ↦ rw (eqb-true c 9 is) refl
-        | inr is ↦ rw (eqb-true c 32 is) refl
-      ]
-    ]
+blank_production c cs blank = cond-false _ _ _ (and_left (eqb c 47) _ (grind (arith, nat_tests))) ∙ cond-true _ _ _ blank
 
 string_first : (start c : ℕ) (cs : Characters) (more : List Token) → QuoteComes (token_of start (string_piece c cs) ∷ more)
 string_first start c cs more =
@@ -76,68 +70,65 @@ quote_after zero start (c ∷ cs) h quote = absurd (omega (arith, h))
 quote_after (suc n) start (c ∷ cs) h quote =
     elim (cases_Bool (is_blank c)) [
       | inl blank ↦ white_first n start c cs h blank quote
-      | inr none ↦ from_quote n start c cs (ap (λ k. begins is_quote (drop k (c ∷ cs))) (sym (cond-false (is_blank c) (1 + prefix_len is_blank cs) 0 none)) ∙ quote)
+      | inr none ↦ from_quote n start c cs (rw none at quote)
     ]
 
 -- what comes after a piece, where it is the function `url`
 abbrev GoesOn : Characters → Piece → Type 0
 GoesOn text piece = is_url_function (token_of 0 piece) ≡ true → quote_follows (drop piece.length text) ≡ true
 
--- a token without a name is no such function
-no_name : (kind : TokenKind) (n : ℕ) → is_url_function (token_of 0 (plain kind n)) ≡ false
-no_name function n = refl
-no_name kind n = refl
+-- the piece is another token
+abbrev IsOther : Piece → Type 0
+IsOther piece = is_url_function (token_of 0 piece) ≡ false
 
-plain_goes_on : (kind : TokenKind) (n : ℕ) (text : Characters) → GoesOn text (plain kind n)
-plain_goes_on kind n text url = absurd (false≢true (sym (no_name kind n) ∙ url))
+other_goes_on : (text : Characters) (piece : Piece) → IsOther piece → GoesOn text piece
+other_goes_on text piece other url = absurd (false≢true (sym other ∙ url))
 
-string_goes_on : (c : ℕ) (cs text : Characters) → GoesOn text (string_piece c cs)
-string_goes_on c cs text =
-    cond_both (begins is_line_feed (drop (len_of (string_unit c) cs) cs)) _ _ (GoesOn text) (λ _ url. absurd (false≢true url)) (λ _ url. absurd (false≢true url))
+-- a token without a name is another
+plain_other : (kind : TokenKind) (n : ℕ) → IsOther (plain kind n)
+plain_other function n = refl
+plain_other kind n = refl
 
-number_goes_on : (text : Characters) → GoesOn text (number_piece text)
-number_goes_on text =
-    cond_both (begins (λ c. eqb c 37) (drop (number_len text) text)) _ _ (GoesOn text) (λ _ url. absurd (false≢true url))
-    (λ _. cond_both (starts_ident (drop (number_len text) text)) _ _ (GoesOn text) (λ _ url. absurd (false≢true url)) (λ _ url. absurd (false≢true url)))
+string_other : (c : ℕ) (cs : Characters) → IsOther (string_piece c cs)
+string_other c cs = cond_both (begins is_line_feed (drop (len_of (string_unit c) cs) cs)) _ _ IsOther (λ _. refl) (λ _. refl)
 
-url_goes : (before : ℕ) (rest text : Characters) → GoesOn text (url_piece before rest)
-url_goes before rest text = url_any (GoesOn text) before rest (λ _ url. absurd (false≢true url)) (λ _ url. absurd (false≢true url))
+number_other : (text : Characters) → IsOther (number_piece text)
+number_other text =
+    let rest : Characters = drop (number_len text) text in
+    cond_both (begins (λ c. eqb c 37) rest) _ _ IsOther (λ _. refl) (λ _. cond_both (starts_ident rest) _ _ IsOther (λ _. refl) (λ _. refl))
+
+url_other : (before : ℕ) (text : Characters) → IsOther (url_piece before text)
+url_other before text = url_any IsOther before text (λ _. refl) (λ _. refl)
 
 ident_goes_on : (text : Characters) → GoesOn text (ident_piece text)
 ident_goes_on text =
     let taken : ℕ = name_len text in
     let rest : Characters = drop taken text in
     cond_both (not (begins (λ c. eqb c 40) rest)) _ _ (GoesOn text) (λ _ url. absurd (false≢true url))
-    (λ _. cond_both (is_word (codes "url") (name_in text) && not (quote_follows (drop 1 rest))) _ _ (GoesOn text) (λ _. url_goes (taken + 1) (drop 1 rest) text)
-    (λ none url. by (is_word (codes "url") (name_in text)) none url))
-  where
-    by : (b : Bool) → (b && not (quote_follows (drop 1 (drop (name_len text) text)))) ≡ false → b ≡ true → quote_follows (drop (name_len text + 1) text) ≡ true
-    by true none url = rw (← drop-drop 1 (name_len text) text) (not-false _ none)
-    by false none url = absurd (false≢true url)
+    (λ _. cond_both (is_word (codes "url") (name_in text) && not (quote_follows (drop 1 rest))) _ _ (GoesOn text)
+    (λ _. other_goes_on text (url_piece (taken + 1) (drop 1 rest)) (url_other (taken + 1) (drop 1 rest)))
+    (λ none url. rw (← drop-drop 1 taken text) (not-false _ (rw url at none))))
 
-piece_goes_on : (c : ℕ) (cs : Characters) → GoesOn (c ∷ cs) (piece_of (production_at (c ∷ cs)) c cs)
-piece_goes_on c cs =
-    production_any (λ production. GoesOn (c ∷ cs) (piece_of production c cs)) c cs
-    (λ _. plain_goes_on (piece_of comment_production c cs).kind 1 (c ∷ cs))
-    (λ _ url. absurd (false≢true url))
-    (λ _. string_goes_on c cs (c ∷ cs))
-    (λ _ _ url. absurd (false≢true url))
-    (λ _. number_goes_on (c ∷ cs))
-    (λ _ url. absurd (false≢true url))
-    (λ _ url. absurd (false≢true url))
-    (λ _ _ url. absurd (false≢true url))
-    (λ _. ident_goes_on (c ∷ cs))
-    (plain_goes_on (mark_kind c) 1 (c ∷ cs))
+piece_goes_on : (c : ℕ) (cs : Characters) (production : Production) → GoesOn (c ∷ cs) (piece_of production c cs)
+piece_goes_on c cs comment_production = other_goes_on (c ∷ cs) (plain (mark_kind c) 1) (plain_other (mark_kind c) 1)
+piece_goes_on c cs string_production = other_goes_on (c ∷ cs) (string_piece c cs) (string_other c cs)
+piece_goes_on c cs number_production = other_goes_on (c ∷ cs) (number_piece (c ∷ cs)) (number_other (c ∷ cs))
+piece_goes_on c cs ident_production = ident_goes_on (c ∷ cs)
+piece_goes_on c cs mark_production = other_goes_on (c ∷ cs) (plain (mark_kind c) 1) (plain_other (mark_kind c) 1)
+piece_goes_on c cs production = λ url. absurd (false≢true url)
 
--- the token of a production, before the others
-production_follows : (production : Production) (start c : ℕ) (cs : Characters) (rest : List Token) → (is_url_function (token_of start (piece_of production c cs)) ≡ true → QuoteComes rest) → QuotesFollow rest → QuotesFollow (production_tokens production start c cs ++ rest)
-production_follows comment_production start c cs rest comes later = later
-production_follows production start c cs rest comes later = (comes, later)
+-- the token of a production, before those that are read from where its piece ends
+module _ (n start c : ℕ) (cs : Characters) where
+  abbrev left : Production → Characters
+  left production = drop (production_len production c cs) (c ∷ cs)
 
--- what comes after the piece is read from where it ends
-url_comes : (n start : ℕ) (production : Production) (c : ℕ) (cs : Characters) → length (drop (production_len production c cs) (c ∷ cs)) ≤ n → GoesOn (c ∷ cs) (piece_of production c cs) → is_url_function (token_of 0 (piece_of production c cs)) ≡ true → QuoteComes (tokens_from n start (drop (production_len production c cs) (c ∷ cs)))
-url_comes n start comment_production c cs h goes url = absurd (false≢true (sym (no_name (mark_kind c) 1) ∙ url))
-url_comes n start production c cs h goes url = quote_after n start (drop (production_len production c cs) (c ∷ cs)) h (goes url)
+  abbrev later : Production → List Token
+  later production = tokens_from n (start + production_len production c cs) (left production)
+
+  production_follows : (production : Production) → length (left production) ≤ n → QuotesFollow (later production) → QuotesFollow (production_tokens production start c cs ++ later production)
+  production_follows comment_production inside follow = follow
+  production_follows production inside follow =
+      (λ url. quote_after n (start + production_len production c cs) (left production) inside (piece_goes_on c cs production url), follow)
 
 quotes_from : (n start : ℕ) (text : Characters) → length text ≤ n → QuotesFollow (tokens_from n start text)
 quotes_from zero start text h = tt
@@ -145,9 +136,8 @@ quotes_from (suc n) start [] h = tt
 quotes_from (suc n) start (c ∷ cs) h =
     let production : Production = production_at (c ∷ cs) in
     let taken : ℕ = production_len production c cs in
-    let rest : Characters = drop taken (c ∷ cs) in
-    let inside : length rest ≤ n = omega (arith, h, (first_is c cs).some, length-drop taken (c ∷ cs)) in
-    production_follows production start c cs (tokens_from n (start + taken) rest) (url_comes n (start + taken) production c cs inside (piece_goes_on c cs)) (quotes_from n (start + taken) rest inside)
+    let inside : length (drop taken (c ∷ cs)) ≤ n = omega (arith, h, (first_is c cs).some, length-drop taken (c ∷ cs)) in
+    production_follows n start c cs production inside (quotes_from n (start + taken) (drop taken (c ∷ cs)) inside)
 
 -- In the tokens of a text, a string or a bad one follows each function `url`.
 pub quotes_in : (text : Characters) → QuotesFollow (tokens_in text)
@@ -155,7 +145,6 @@ unfolding tokens_in
 quotes_in text = quotes_from (length text) 0 text (omega arith)
 
 -- without bad strings it is a string
-
 quoted_string : (kind : TokenKind) → not (is_bad_string kind) ≡ true → is_quoted kind ≡ true → is_string kind ≡ true
 quoted_string string good h = refl
 quoted_string bad_string good h = absurd (false≢true good)
@@ -163,13 +152,12 @@ quoted_string kind good h = absurd (false≢true h)
 
 string_comes : (tokens : List Token) → NoBad tokens → QuoteComes tokens → begins_with is_string (without_white tokens) ≡ true
 string_comes [] bad h = h
-string_comes (token ∷ tokens) bad h = by (is_white token.kind) (string_comes tokens parts.1) h where
-  parts : (not (is_bad_string token.kind) ≡ true) × NoBad tokens
-  parts = and_parts (not (is_bad_string token.kind)) _ bad
-
-  by : (b : Bool) → (QuoteComes tokens → begins_with is_string (without_white tokens) ≡ true) → begins_with is_quoted (cond b (without_white tokens) (token ∷ tokens)) ≡ true → begins_with is_string (cond b (without_white tokens) (token ∷ tokens)) ≡ true
-  by true later h = later h
-  by false later h = quoted_string token.kind parts.0 h
+string_comes (token ∷ tokens) bad h =
+    let parts = and_parts (not (is_bad_string token.kind)) _ bad in
+    elim (cases_Bool (is_white token.kind)) [
+      | inl e ↦ rw e (string_comes tokens parts.1 (rw e at h))
+      | inr e ↦ rw e (quoted_string token.kind parts.0 (rw e at h))
+    ]
 
 urls_by : (tokens : List Token) → NoBad tokens → QuotesFollow tokens → urls_go_on tokens ≡ true
 urls_by [] bad follow = refl

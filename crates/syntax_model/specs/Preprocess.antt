@@ -1,5 +1,5 @@
 -- Preprocessing of the input (css-syntax-3, section 3.3).
-use Rattle.std.specs.Prelude.{◌==◌, [], ◌∷◌, Bool, true, false, not, ◌||◌, if◌then◌else◌}
+use Rattle.std.specs.Prelude.{ℕ, ◌==◌, [], ◌∷◌, Bool, true, false, not, ◌||◌, if◌then◌else◌}
 use Rattle.std.specs.List.{list_all}
 use Rattle.base_model.specs.Ascii.{null, line_feed, form_feed, carriage_return, replacement_character}
 use Rattle.base_model.specs.Text.{Characters}
@@ -18,6 +18,10 @@ preprocessed_after is_after_cr (c ∷ cs) =
 abbrev pub preprocessed : Characters → Characters
 preprocessed text = preprocessed_after false text
 
--- no CR, FF or U+0000 is in the text
+-- a character that preprocessing leaves as it is: no CR, FF or U+0000
+abbrev pub is_clean : ℕ → Bool
+is_clean c = not ((c == carriage_return) || ((c == form_feed) || (c == null)))
+
+-- the text has none but these
 abbrev pub is_preprocessed : Characters → Bool
-is_preprocessed text = list_all (λ c. not ((c == carriage_return) || ((c == form_feed) || (c == null)))) text
+is_preprocessed text = list_all is_clean text

@@ -1,5 +1,5 @@
 -- What a preprocessed text reads as, in the standard's terms (css-syntax-3, section 4.3). A relation on whole texts: it
--- says what is a piece, and computes no length.
+-- says what is a piece and what the piece says, and computes neither a length nor a token.
 use Rattle.std.specs.Prelude.{◌≡◌, ◌≢◌, ℕ, ◌+◌, ◌==◌, List, [], ◌∷◌, ◌++◌, length, drop, codes, Some}
 use Rattle.std.specs.Prelude.{Bool, true, false, not, ◌&&◌, ◌||◌, ◌⊎◌, option_to_list}
 use Rattle.std.specs.List.{AllByRecursion}
@@ -11,10 +11,12 @@ use Rattle.syntax_model.specs.Signs.{commercial_at}
 use Rattle.syntax_model.specs.Letters.{begins, is_blank, is_digit, is_e, is_sign}
 use Rattle.syntax_model.specs.TextUnits.{TextUnit, name_unit, string_unit, url_unit, remnant_unit, comment_unit}
 use Rattle.syntax_model.specs.Numbers.{after_sign, starts_fraction}
-use Rattle.syntax_model.specs.Token.{Token, Said}
-use Rattle.syntax_model.specs.Pieces.{Piece, Production, at_keyword_production, cdc_production, cdo_production}
+use Rattle.syntax_model.specs.Token.{Token, Said, bare, with_name, with_number}
+use Rattle.syntax_model.specs.Token.{ident, function, at_keyword, hash, string, bad_string, url, bad_url, number}
+use Rattle.syntax_model.specs.Token.{percentage, dimension, whitespace, cdo, cdc}
+use Rattle.syntax_model.specs.Pieces.{Production, at_keyword_production, cdc_production, cdo_production}
 use Rattle.syntax_model.specs.Pieces.{comment_production, hash_production, ident_production, is_closing}
-use Rattle.syntax_model.specs.Pieces.{is_line_feed, mark_production, number_production, piece_of, quote_follows}
+use Rattle.syntax_model.specs.Pieces.{is_line_feed, mark_kind, mark_production, number_production, quote_follows}
 use Rattle.syntax_model.specs.Pieces.{production_at, starts_ident}
 use Rattle.syntax_model.specs.Pieces.{string_production, white_production}
 
@@ -29,6 +31,10 @@ IsNothing piece rest = piece ≡ []
 -- these characters
 abbrev pub IsText : Characters → Form
 IsText text piece rest = piece ≡ text
+
+-- this character
+abbrev pub IsCharacter : ℕ → Form
+IsCharacter c = IsText (c ∷ [])
 
 -- one character, which passes
 abbrev pub IsOne : (ℕ → Bool) → Form
@@ -59,6 +65,10 @@ pub record Then (First Second : Form) (piece rest : Characters) : Type 0 where
   pub first : First before (after ++ rest)
   pub second : Second after rest
 
+-- characters of a form that says something, and then of the form that this asks for
+abbrev pub ThenBy : {X : Type 0} → (X → Form) → (X → Form) → Form
+ThenBy {X} First Second piece rest = (x : X) × Then (First x) (Second x) piece rest
+
 -- of the first form where the text from here on passes, else of the second
 abbrev pub Either : (Characters → Bool) → Form → Form → Form
 Either passes Yes No piece rest =
@@ -76,50 +86,85 @@ IsClosedBy text = Either is_nil IsNothing (IsText text)
 abbrev pub IsComment : Form
 IsComment = Then (IsText (solidus ∷ asterisk ∷ [])) (Then (IsUnits comment_unit) (IsClosedBy (asterisk ∷ solidus ∷ [])))
 
--- here is the end of input, or a line feed
-abbrev pub ends_unclosed : Characters → Bool
-ends_unclosed text = is_nil text || begins is_line_feed text
+-- pieces of a form, all of which say this
+abbrev pub Says : {X : Type 0} → X → Form → X → Form
+Says this Any x piece rest = (x ≡ this) × Any piece rest
 
--- A string ends with the quote that it began with, or at the end of input; a bad one ends before a line feed
--- (section 4.3.5).
-abbrev pub IsStringEnd : ℕ → Form
-IsStringEnd quote = Either ends_unclosed IsNothing (IsText (quote ∷ []))
+-- pieces of a form that says something, which say what that means
+abbrev pub SaysBy : {X Y : Type 0} → (X → Y) → (X → Form) → Y → Form
+SaysBy {X} meaning Any y piece rest = (x : X) × Says (meaning x) (Any x) y piece rest
 
-abbrev pub IsQuoted : ℕ → Form
-IsQuoted quote = Then (IsText (quote ∷ [])) (Then (IsUnits (string_unit quote)) (IsStringEnd quote))
+-- What follows the units of a string, which say its name. Before a line feed it is bad, and has no name; else it ends
+-- with the quote that it began with, or at the end of input (section 4.3.5).
+abbrev pub IsStringEnd : ℕ → Characters → Said → Form
+IsStringEnd quote name said =
+    Either (begins is_line_feed) (Says (bare bad_string) IsNothing said)
+    (Says (with_name string name) (IsClosedBy (quote ∷ [])) said)
 
-abbrev pub IsString : Form
-IsString piece rest = (quote : ℕ) × IsQuoted quote piece rest
+abbrev pub IsQuoted : ℕ → Said → Form
+IsQuoted quote said = ThenBy (IsRun (string_unit quote)) (λ name. IsStringEnd quote name said)
 
--- `#` or `@`, and a name (sections 4.3.1 and 4.3.11)
-abbrev pub IsNameAfter : ℕ → Form
-IsNameAfter sign = Then (IsText (sign ∷ [])) (IsUnits name_unit)
+abbrev pub IsString : Said → Form
+IsString said = ThenBy IsCharacter (λ quote. IsQuoted quote said)
 
--- a point and digits, where a digit follows the point (section 4.3.12)
-abbrev pub IsFraction : Form
-IsFraction = Either starts_fraction (Then (IsText (full_stop ∷ [])) (IsSpan is_digit)) IsNothing
+-- a name, and the token with this name (section 4.3.11)
+abbrev pub IsName : (Characters → Said) → Said → Form
+IsName token = SaysBy token (IsRun name_unit)
+
+-- `#` and a name: of type id where an identifier starts there, else unrestricted (section 4.3.1)
+abbrev pub IsHash : Said → Form
+IsHash said =
+    Then (IsCharacter number_sign)
+    (Either starts_ident (IsName (with_name (hash true)) said) (IsName (with_name (hash false)) said))
+
+-- `@` and a name
+abbrev pub IsAtKeyword : Said → Form
+IsAtKeyword said = Then (IsCharacter commercial_at) (IsName (with_name at_keyword) said)
+
+-- A point and digits, where a digit follows the point. It says whether the number is an integer so far
+-- (section 4.3.12).
+abbrev pub IsFraction : Bool → Form
+IsFraction whole =
+    Either starts_fraction (Says false (Then (IsCharacter full_stop) (IsSpan is_digit)) whole)
+    (Says true IsNothing whole)
 
 -- `e` or `E`, maybe a sign, and digits, where a digit follows these
 abbrev pub starts_exponent : Characters → Bool
 starts_exponent text = begins is_e text && begins is_digit (after_sign (drop 1 text))
 
-abbrev pub IsExponent : Form
-IsExponent = Either starts_exponent (Then (IsOne is_e) (Then (IsOptional is_sign) (IsSpan is_digit))) IsNothing
+-- an exponent; without one the number is an integer if it was one so far
+abbrev pub IsExponent : Bool → Bool → Form
+IsExponent whole integer =
+    Either starts_exponent (Says false (Then (IsOne is_e) (Then (IsOptional is_sign) (IsSpan is_digit))) integer)
+    (Says whole IsNothing integer)
 
--- maybe a sign, digits, a fraction and an exponent
-abbrev pub IsNumber : Form
-IsNumber = Then (IsOptional is_sign) (Then (IsSpan is_digit) (Then IsFraction IsExponent))
+-- maybe a sign, digits, a fraction and an exponent; whether it is an integer
+abbrev pub IsNumber : Bool → Form
+IsNumber integer =
+    Then (IsOptional is_sign) (Then (IsSpan is_digit) (ThenBy IsFraction (λ whole. IsExponent whole integer)))
 
--- the unit of a dimension, where an identifier starts
-abbrev pub IsUnitName : Form
-IsUnitName = Either starts_ident (IsUnits name_unit) IsNothing
+-- what a number says: whether it is an integer, and how it is spelled
+pub record Numeral : Type 0 where
+  pub integer : Bool
+  pub spelling : Characters
+
+-- a number, whose characters are its spelling
+pub record IsNumeral (numeral : Numeral) (piece rest : Characters) : Type 0 where
+  pub spelled : numeral.spelling ≡ piece
+  pub number : IsNumber numeral.integer piece rest
 
 abbrev pub is_percent : ℕ → Bool
 is_percent c = c == percent_sign
 
--- after a number: `%`, or a unit, or neither (section 4.3.3)
-abbrev pub IsSuffix : Form
-IsSuffix = Either (begins is_percent) (IsOne is_percent) IsUnitName
+-- after a number: `%`, or the unit of a dimension where an identifier starts, or neither (section 4.3.3)
+abbrev pub IsSuffix : Numeral → Said → Form
+IsSuffix numeral said =
+    Either (begins is_percent) (Says (with_number percentage numeral.spelling []) (IsOne is_percent) said)
+    (Either starts_ident (IsName (with_number (dimension numeral.integer) numeral.spelling) said)
+    (Says (with_number (number numeral.integer) numeral.spelling []) IsNothing said))
+
+abbrev pub IsNumeric : Said → Form
+IsNumeric said = ThenBy IsNumeral (λ numeral. IsSuffix numeral said)
 
 -- nothing at the end of input, else `)`
 abbrev pub IsClosing : Form
@@ -133,77 +178,74 @@ IsRemnant = Then (IsUnits remnant_unit) IsClosing
 abbrev pub ends_well : Characters → Bool
 ends_well text = is_nil text || begins is_closing text
 
--- whitespace, and `)` or the end of input; where anything else is, the url is bad and goes on
-abbrev pub IsUrlEnd : Form
-IsUrlEnd = Then (IsSpan is_blank) (Either ends_well IsClosing IsRemnant)
+-- After the units of a url, which say its text: whitespace, and `)` or the end of input. Where anything else is, the
+-- url is bad, goes on, and has no text.
+abbrev pub IsUrlEnd : Characters → Said → Form
+IsUrlEnd text said =
+    Then (IsSpan is_blank)
+    (Either ends_well (Says (with_name url text) IsClosing said) (Says (bare bad_url) IsRemnant said))
 
 -- after `url(`: whitespace, the url, and its end (section 4.3.6)
-abbrev pub IsUrl : Form
-IsUrl = Then (IsSpan is_blank) (Then (IsUnits url_unit) IsUrlEnd)
+abbrev pub IsUrl : Said → Form
+IsUrl said = Then (IsSpan is_blank) (ThenBy (IsRun url_unit) (λ text. IsUrlEnd text said))
 
 -- the name is `url`, and after the `(` comes no quote
 abbrev pub begins_url : Characters → Characters → Bool
 begins_url name text = is_word (codes "url") name && not (quote_follows text)
 
 -- after a name and `(`: the rest of a url, or nothing, where it is a function
-abbrev pub IsOpened : Characters → Form
-IsOpened name = Either (begins_url name) IsUrl IsNothing
+abbrev pub IsOpened : Characters → Said → Form
+IsOpened name said = Either (begins_url name) (IsUrl said) (Says (with_name function name) IsNothing said)
 
 abbrev pub is_opening : ℕ → Bool
 is_opening c = c == left_parenthesis
 
--- `(` and what comes after it, where `(` follows
-abbrev pub IsAfterName : Characters → Form
-IsAfterName name = Either (begins is_opening) (Then (IsOne is_opening) (IsOpened name)) IsNothing
-
-abbrev pub IsNamed : Characters → Form
-IsNamed name = Then (IsRun name_unit name) (IsAfterName name)
+-- `(` and what comes after it, where `(` follows; else it is an identifier
+abbrev pub IsAfterName : Characters → Said → Form
+IsAfterName name said =
+    Either (begins is_opening) (Then (IsOne is_opening) (IsOpened name said))
+    (Says (with_name ident name) IsNothing said)
 
 -- an identifier, a function or a url (section 4.3.4)
-abbrev pub IsIdentLike : Form
-IsIdentLike piece rest = (name : Characters) × IsNamed name piece rest
+abbrev pub IsIdentLike : Said → Form
+IsIdentLike said = ThenBy (IsRun name_unit) (λ name. IsAfterName name said)
 
--- the form of the pieces of a production
-abbrev pub IsPiece : Production → Form
-IsPiece comment_production = IsComment
+-- The form of the tokens of a production that say this. A comment is no token.
+abbrev pub IsToken : Production → Said → Form
+IsToken comment_production = λ said piece rest. ⊥
 -- whitespace, as much as there is
-IsPiece white_production = IsSpan is_blank
-IsPiece string_production = IsString
-IsPiece hash_production = IsNameAfter number_sign
-IsPiece number_production = Then IsNumber IsSuffix
+IsToken white_production = Says (bare whitespace) (IsSpan is_blank)
+IsToken string_production = IsString
+IsToken hash_production = IsHash
+IsToken number_production = IsNumeric
 -- `-->` and `<!--`
-IsPiece cdc_production = IsText (hyphen ∷ hyphen ∷ greater_than_sign ∷ [])
-IsPiece cdo_production = IsText (less_than_sign ∷ exclamation_mark ∷ hyphen ∷ hyphen ∷ [])
-IsPiece at_keyword_production = IsNameAfter commercial_at
-IsPiece ident_production = IsIdentLike
+IsToken cdc_production = Says (bare cdc) (IsText (hyphen ∷ hyphen ∷ greater_than_sign ∷ []))
+IsToken cdo_production = Says (bare cdo) (IsText (less_than_sign ∷ exclamation_mark ∷ hyphen ∷ hyphen ∷ []))
+IsToken at_keyword_production = IsAtKeyword
+IsToken ident_production = IsIdentLike
 -- any other character
-IsPiece mark_production = IsOne (λ c. true)
+IsToken mark_production = SaysBy (λ c. bare (mark_kind c)) IsCharacter
 
--- what a piece says, apart from where it is
-abbrev pub said_by : Piece → Said
-said_by piece = record { kind = piece.kind; name = piece.name; spelling = piece.spelling }
-
--- a token that says what a piece says, with a text of so many characters from an offset on
-abbrev pub token_at : ℕ → Piece → ℕ → Token
-token_at start piece size = record {
-  kind = piece.kind;
-  name = piece.name;
-  spelling = piece.spelling;
+-- a token that says this, with a text of so many characters from an offset on
+abbrev pub token_at : ℕ → Said → ℕ → Token
+token_at start says size = record {
+  kind = says.kind;
+  name = says.name;
+  spelling = says.spelling;
   span = Some (record { start = start; end = start + size });
 }
 
 -- The text from an offset on is the join of pieces, each a comment or the text of one token: no earlier production fits
--- at its place, and it is a piece of its production before what follows it.
+-- at its place, and before what follows it is a comment, or a token of its production that says what the token does.
 pub data Reads : ℕ → Characters → List Token → Type 0 where
   nothing_left : (start : ℕ) → Reads start [] []
   skip_comment : (start c : ℕ) (cs piece rest : Characters) (tokens : List Token)
-      → c ∷ cs ≡ piece ++ rest → production_at (c ∷ cs) ≡ comment_production → IsPiece comment_production piece rest
+      → c ∷ cs ≡ piece ++ rest → production_at (c ∷ cs) ≡ comment_production → IsComment piece rest
       → Reads (start + length piece) rest tokens → Reads start (c ∷ cs) tokens
-  take_piece : (start c : ℕ) (cs piece rest : Characters) (tokens : List Token)
-      → c ∷ cs ≡ piece ++ rest
-      → production_at (c ∷ cs) ≢ comment_production → IsPiece (production_at (c ∷ cs)) piece rest
+  take_token : (start c : ℕ) (cs piece rest : Characters) (says : Said) (tokens : List Token)
+      → c ∷ cs ≡ piece ++ rest → IsToken (production_at (c ∷ cs)) says piece rest
       → Reads (start + length piece) rest tokens
-      → Reads start (c ∷ cs) (token_at start (piece_of (production_at (c ∷ cs)) c cs) (length piece) ∷ tokens)
+      → Reads start (c ∷ cs) (token_at start says (length piece) ∷ tokens)
 
 abbrev pub Reading : Characters → List Token → Type 0
 Reading text tokens = Reads 0 text tokens

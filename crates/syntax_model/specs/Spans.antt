@@ -1,12 +1,12 @@
 -- Where the tokens of a text are in it.
-use Rattle.std.specs.Prelude.{◌≡◌, ◌≢◌, ℕ, ◌-◌, ◌<◌, ◌≤◌, List, [], ◌∷◌, Some, length, take, drop}
+use Rattle.std.specs.Prelude.{◌≡◌, ℕ, ◌-◌, ◌<◌, ◌≤◌, List, [], ◌∷◌, Some, length, take, drop}
 use Rattle.base_model.specs.Text.{Characters}
 use Rattle.syntax_model.specs.Token.{Span, Token, said}
-use Rattle.syntax_model.specs.Pieces.{comment_production, piece_of, production_at}
-use Rattle.syntax_model.specs.Reading.{IsPiece, said_by}
+use Rattle.syntax_model.specs.Pieces.{production_at}
+use Rattle.syntax_model.specs.Reading.{IsToken}
 
--- The token is at a span of the text: the characters there are a piece of the production that fits where they begin,
--- before what follows them, and the token says what that piece says.
+-- The token is at a span of the text: the characters there, before what follows them, are a token of the production
+-- that fits where they begin, and they say what this one says.
 pub record IsAt (text : Characters) (span : Span) (token : Token) : Type 0 where
   pub spanned : token.span ≡ Some span
   pub some : span.start < span.end
@@ -14,10 +14,9 @@ pub record IsAt (text : Characters) (span : Span) (token : Token) : Type 0 where
   pub first : ℕ
   pub others : Characters
   pub here : drop span.start text ≡ first ∷ others
-  pub no_comment : production_at (first ∷ others) ≢ comment_production
   pub piece :
-      IsPiece (production_at (first ∷ others)) (take (span.end - span.start) (first ∷ others)) (drop span.end text)
-  pub says : said token ≡ said_by (piece_of (production_at (first ∷ others)) first others)
+      IsToken (production_at (first ∷ others)) (said token) (take (span.end - span.start) (first ∷ others))
+      (drop span.end text)
 
 -- From an offset on, each token is at a span of the text, after the one before it; comments may lie between them.
 abbrev pub StandInOrder : ℕ → Characters → List Token → Type 0

@@ -1,5 +1,5 @@
 -- Tokens (css-syntax-3, section 4).
-use Rattle.std.specs.Prelude.{ℕ, Bool, Option}
+use Rattle.std.specs.Prelude.{ℕ, [], Bool, Option}
 use Rattle.base_model.specs.Text.{Characters}
 
 pub data TokenKind : Type 0 where
@@ -52,3 +52,13 @@ pub record Said : Type 0 where
 
 abbrev pub said : Token → Said
 said token = record { kind = token.kind; name = token.name; spelling = token.spelling }
+
+-- what a token without a name says, one with a name, and one with a number and maybe a name
+abbrev pub bare : TokenKind → Said
+bare kind = record { kind = kind; name = []; spelling = [] }
+
+abbrev pub with_name : TokenKind → Characters → Said
+with_name kind name = record { kind = kind; name = name; spelling = [] }
+
+abbrev pub with_number : TokenKind → Characters → Characters → Said
+with_number kind spelling name = record { kind = kind; name = name; spelling = spelling }

@@ -1,13 +1,15 @@
 -- Tokens as they are written (css-syntax-3, section 9; cssom-1, section 2.1), and the lists that read back.
 use Rattle.std.specs.Prelude.{ℕ, ◌+◌, ◌/◌, ◌%◌, ◌==◌, nat_le, List, [], ◌∷◌, ◌++◌, length, drop, flat_map, codes}
 use Rattle.std.specs.Prelude.{Bool, true, false, not, ◌&&◌, ◌||◌, if◌then◌else◌}
-use Rattle.base_model.specs.Ascii.{line_feed, space, hyphen, number_sign, delete}
+use Rattle.std.specs.List.{list_all}
+use Rattle.base_model.specs.Ascii.{null, line_feed, space, hyphen, number_sign, delete}
 use Rattle.base_model.specs.Ascii.{left_parenthesis, right_parenthesis, left_bracket, right_bracket, left_brace, right_brace}
 use Rattle.base_model.specs.Ascii.{comma_sign, colon_sign, semicolon_sign}
 use Rattle.base_model.specs.Lists.{is_nil}
 use Rattle.base_model.specs.Text.{Characters, is_word}
 use Rattle.syntax_model.specs.Signs.{quotation_mark, percent_sign, commercial_at, reverse_solidus}
 use Rattle.syntax_model.specs.Letters.{begins, is_digit, is_e, is_name_char, is_quote}
+use Rattle.syntax_model.specs.Preprocess.{is_clean}
 use Rattle.syntax_model.specs.Token.{Token, TokenKind, ident, function, at_keyword, hash, string, bad_string, url}
 use Rattle.syntax_model.specs.Token.{bad_url, delim}
 use Rattle.syntax_model.specs.Token.{number, percentage, dimension, whitespace, cdo, cdc, colon, semicolon, comma}
@@ -174,7 +176,8 @@ is_broken bad_url = true
 is_broken (delim c) = c == reverse_solidus
 is_broken kind = false
 
--- A token that some text reads as, and that reads back. A bad string, a bad url and a `\` alone are none.
+-- A token that some text reads as, and that reads back, unless preprocessing changes what is written of it. A bad
+-- string, a bad url and a `\` alone are none.
 abbrev pub is_sound : Token → Bool
 is_sound token = elim token.kind [
   | ident ↦ has_name token && is_nil token.spelling
@@ -192,6 +195,15 @@ is_sound token = elim token.kind [
   | dimension integer ↦ is_number_as integer token.spelling && has_name token
   | _ ↦ says_nothing token
 ]
+
+-- no U+0000 is in the name
+abbrev pub no_null : Characters → Bool
+no_null name = list_all (λ c. not (c == null)) name
+
+-- A token that a text has after preprocessing: its name holds no U+0000, and it is no delim of a character that
+-- preprocessing changes.
+abbrev pub is_clean_token : Token → Bool
+is_clean_token token = no_null token.name && (elim token.kind [ delim c ↦ is_clean c | _ ↦ true ])
 
 abbrev pub is_url_function : Token → Bool
 is_url_function token = elim token.kind [ function ↦ is_word (codes "url") token.name | _ ↦ false ]
@@ -219,7 +231,8 @@ goes_before token tokens =
     if is_white token.kind then not (begins_with is_white tokens)
     else url_goes_on token tokens
 
--- whether the text of the tokens reads as tokens that say the same
+-- whether the text of the tokens, preprocessed like any other, reads as tokens that say the same
 unfoldable pub is_writable : List Token → Bool
 is_writable [] = true
-is_writable (token ∷ tokens) = is_sound token && (goes_before token tokens && is_writable tokens)
+is_writable (token ∷ tokens) =
+    (is_sound token && is_clean_token token) && (goes_before token tokens && is_writable tokens)

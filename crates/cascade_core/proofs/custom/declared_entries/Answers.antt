@@ -1,5 +1,5 @@
-use Rattle.std.proofs.Common.{[], ◌∷◌, ◌++◌, map, option_map, option_to_list, refl, sym, ap, ◌∙◌}
-use Rattle.std.proofs.lemmas.List.{map-append, append-nil}
+use Rattle.std.proofs.Common.{◌≡◌, ◌+◌, ◌++◌, ◌≤◌, arith, drop, length, length-drop, map, option_map, option_to_list}
+use Rattle.std.proofs.lemmas.List.{append-nil, length-take-le, map-append, take_rest}
 use Rattle.custom_properties.specs.Entries.{declared_entry}
 use Rattle.cascade_core.specs.View.{head_of}
 use Rattle.cascade_core.proofs.ListedLemmas.{next_listed}
@@ -8,7 +8,17 @@ use Rattle.cascade_core.proofs.custom.declared_entries.Goals.{in-Some+in_ok-push
 
 pub loop-start-preserved : goal.loop-start-preserved
 loop-start-preserved c =
-    next_listed head_of c.args.list.now _ _ c.loop-start.start c.run_length.result c.loop-start-test.true refl refl (map declared_entry c.loop-start.entries.items) (map declared_entry c.match-branch-2.entries.items) (option_map declared_entry c.in_ok-entry.field-0) c.run_length.ensures.within c.run_length.ensures.some c.run_length.ensures.run c.in_ok-entry.ensures (elim c.match-branch-2.branch [
-      | in-Some+in_ok-push w ↦ ap (λ e. map declared_entry e.items) w.entries-is ∙ (ap (map declared_entry) w.in_ok-push.ensures.items ∙ (map-append declared_entry c.loop-start.entries.items (w.in-Some.entry ∷ []) ∙ ap (λ o. map declared_entry c.loop-start.entries.items ++ option_to_list (option_map declared_entry o)) (sym w.in-Some.is)))
-      | in_default w ↦ ap (λ e. map declared_entry e.items) w.entries-is ∙ (sym (append-nil (map declared_entry c.loop-start.entries.items)) ∙ ap (λ o. map declared_entry c.loop-start.entries.items ++ option_to_list (option_map declared_entry o)) (sym w.in_default.is))
-    ]) c.loop-start.invariant.1
+    let list = c.args.list.now in
+    let start = c.loop-start.start in
+    let k = c.run_length.result in
+    let entries = c.loop-start.entries.items in
+    let ahead = take_rest list start in
+    let within : k ≤ length (drop start list) = rw ahead at c.run_length.ensures.within in
+    let fits : start + k ≤ length list = omega (arith, length-drop start list, c.loop-start-test.true) in
+    let is = rw ahead at c.run_length.ensures.run in
+    let new : map declared_entry c.match-branch-2.entries.items ≡ map declared_entry entries ++ option_to_list (option_map declared_entry c.in_ok-entry.field-0) = elim c.match-branch-2.branch [
+      | in-Some+in_ok-push w ↦ rw (w.entries-is, w.in_ok-push.ensures.items, map-append, w.in-Some.is)
+      | in_default w ↦ rw (w.entries-is, w.in_default.is, append-nil)
+    ] in
+    rw (new, c.in_ok-entry.ensures, ahead, length-take-le k (drop start list) within)
+    (next_listed head_of list start k fits _ is c.loop-start.invariant)

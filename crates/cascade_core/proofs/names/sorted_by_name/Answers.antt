@@ -9,4 +9,6 @@ pub returns : goal.returns
 returns c =
     let sorted = c.in_ok-sort_by.ensures in
     let ranks = ranks_by by_name-total head_of in
-    without_others _ _ _ c.in_ok-list.ensures (are_by_name head_of c.in_ok-list.list.items c.sort_by.new.self.items (sorted.sorted _ ranks (answers_always _ _ _ (λ f a r f' k. ap is_lt k.met))) sorted.permutation (sorted.stable _ ranks (answers_always _ _ _ (λ f a r f' k. ap is_lt k.met))))
+    let up = sorted.sorted _ ranks (answers_always _ _ _ (λ f a r f' k. ap is_lt k.met)) in
+    let stable = sorted.stable _ ranks (answers_always _ _ _ (λ f a r f' k. ap is_lt k.met)) in
+    without_others _ _ _ c.in_ok-list.ensures (are_by_name head_of c.in_ok-list.list.items c.sort_by.new.self.items up sorted.permutation stable)

@@ -5,5 +5,6 @@ use Rattle.cascade_core.proofs.rollback.walk.Given as goal
 
 abbrev pub invariant-loop-d : goal.invariant-loop-d
 invariant-loop-d g l =
+    let means = g.S.Substitution.substituted l.fn.substitution in
     (l.substitution ≡ l.fn.substitution)
-    × (walked (g.S.Substitution.substituted l.fn.substitution) (bound_seen l.bound) (map head_of (drop l.d-index l.list)) ≡ walked (g.S.Substitution.substituted l.fn.substitution) unbounded (map head_of l.list))
+    × (walked means (bound_seen l.bound) (map head_of (drop l.d-index l.list)) ≡ walked means unbounded (map head_of l.list))

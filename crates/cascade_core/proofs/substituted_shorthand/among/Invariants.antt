@@ -5,4 +5,6 @@ use Rattle.cascade_core.proofs.substituted_shorthand.among.Given as goal
 
 abbrev pub invariant-loop-place : goal.invariant-loop-place
 invariant-loop-place l =
-    among (property_of l.id) (map property_of (drop l.place l.ids)) (map (option_map value_seen) (drop l.place l.values)) ≡ among (property_of l.id) (map property_of l.ids) (map (option_map value_seen) l.values)
+    let p = property_of l.id in
+    among p (map property_of (drop l.place l.ids)) (map (option_map value_seen) (drop l.place l.values))
+    ≡ among p (map property_of l.ids) (map (option_map value_seen) l.values)

@@ -1,4 +1,4 @@
-use Rattle.syntax_model.proofs.WrittenLemmas.{reads_back}
+use Rattle.syntax_model.proofs.PreprocessLemmas.{reads_back}
 use Rattle.css_writer.proofs.laws.reads_back.Goals as goal
 
 pub returns : goal.returns

@@ -1,13 +1,17 @@
-use Rattle.std.proofs.Common.{subst}
+use Rattle.std.proofs.Common.{◌∙◌, sym, subst}
 use Rattle.serde_json.specs.Find.{as_array}
 use Rattle.json_reader.specs.Kept.{KeepsItems}
-use Rattle.job_json.specs.Kept.{AreNodesOf}
+use Rattle.job_json.specs.Shape.{node_in}
+use Rattle.job_json.specs.Held.{IsHeld}
+use Rattle.job_json.specs.Kept.{AreRead, AreNodesOf, held_of}
 use Rattle.job_json.proofs.Arrays.{is_array}
-use Rattle.job_json.proofs.NodeListSteps.{nodes_past}
+use Rattle.job_json.proofs.NodeListLaws.{nodes_end}
 use Rattle.job_json.proofs.node_list.take_nodes.Goals as goal
 
-pub returns-then-not-is_good-clause-ok : goal.returns-then-not-is_good-clause-ok
-returns-then-not-is_good-clause-ok c =
+pub returns-in-None-clause-ok : goal.returns-in-None-clause-ok
+returns-in-None-clause-ok c =
+    let s = c.array.new.kept in
     let done = c.in_ok-array.ensures.ok in
-    let kept = is_array AreNodesOf c.array.new.kept (as_array done.0) (subst (KeepsItems AreNodesOf c.array.new.kept (as_array done.0)) c.if-not-branch.false done.2) in
-    (done.0, done.1, nodes_past done.0 kept.0 c.array.new.kept kept.2 kept.1 c.if-not-is_good.true)
+    let kept = is_array AreNodesOf s (as_array done.0) (subst (KeepsItems AreNodesOf s (as_array done.0)) c.if-not-branch.false done.2) in
+    let read = subst (λ bad. AreRead node_in bad (λ list. IsHeld kept.0 list (held_of s.kept)) kept.0) c.in-None.is kept.2 in
+    (done.0, done.1, nodes_end done.0 kept.0 (held_of s.kept) kept.1 read ∙ sym c.in_ok-finish-in-None.ensures)

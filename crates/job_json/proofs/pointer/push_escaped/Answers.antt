@@ -1,7 +1,7 @@
 use Rattle.std.proofs.lemmas.Iterator.{YieldsList-from_chars}
 use Rattle.std.proofs.lemmas.Iterator.Consumers.{YieldsList-turn, YieldsList-end}
 use Rattle.std.proofs.lemmas.List.{length_push}
-use Rattle.job_json.proofs.WalkSteps.{escaped_more, escaped_all}
+use Rattle.job_json.proofs.PointerLaws.{escaped_more, escaped_all}
 use Rattle.job_json.proofs.pointer.push_escaped.Goals as goal
 
 pub loop-c-preserved : goal.loop-c-preserved

@@ -1,17 +1,23 @@
-use Rattle.std.proofs.Common.{◌≡◌, OnErr, ap, subst}
-use Rattle.scene_model.specs.Document.{Document}
-use Rattle.sheet_set.specs.View.{sources_seen}
+use Rattle.std.proofs.Common.{◌≡◌, ◌∙◌, OnErr, OnOk, ap, map, subst}
+use Rattle.std.specs.Io.KnownBytes.{Appends}
+use Rattle.session_model.specs.Batches.{reports}
+use Rattle.dom_edits.specs.EditView.{edit_seen}
 use Rattle.style_cli.specs.Loops.{GrewByFront}
-use Rattle.style_cli.specs.Text.{text_by, text_of}
-use Rattle.style_cli.proofs.Fronts.{none_written}
+use Rattle.style_cli.specs.Printing.{batches_seen}
+use Rattle.style_cli.specs.Text.{batches_of}
+use Rattle.style_cli.proofs.Printed.{batches-seen, same_text}
 use Rattle.style_cli.proofs.printing.print_job.Goals as goal
-use Rattle.base_model.proofs.Results.{on_err}
+
+pub returns-clause-ok : goal.returns-clause-ok
+unfolding reports
+returns-clause-ok g c =
+    let seen : batches_seen c.as_slice.result.now ≡ batches_of c.args.job = batches-seen c.as_slice.result.now ∙ ap (map (map edit_seen)) c.as_slice.ensures in
+    subst (λ text. OnOk c.print_batches.result (Appends (g.K.Sink.held c.args.sink.now) (g.K.Sink.held c.print_batches.new.sink) text))
+    (same_text c.in_ok-session.ensures.session seen) c.print_batches.ensures.ok
 
 pub returns-clause-err : goal.returns-clause-err
+unfolding reports
 returns-clause-err g c =
-    let same : text_by c.in_ok-doc.doc.elements (sources_seen c.in_ok-rules.rules) ≡ text_of c.args.job = λ i. text_by (ap (λ (d : Document). d.elements) c.in_ok-doc.ensures i) (c.in_ok-rules.ensures i) in
-    subst (λ t. OnErr c.print_styled.result (GrewByFront (g.K.Sink.held c.args.sink.now) (g.K.Sink.held c.print_styled.new.sink) t)) same c.print_styled.ensures.err
-
-pub returns-in_err-doc-clause-err : goal.returns-in_err-doc-clause-err
-returns-in_err-doc-clause-err g c =
-    on_err c.from_residual-in_err-doc.result _ (none_written (g.K.Sink.held c.args.sink.now) (text_of c.args.job))
+    let seen : batches_seen c.as_slice.result.now ≡ batches_of c.args.job = batches-seen c.as_slice.result.now ∙ ap (map (map edit_seen)) c.as_slice.ensures in
+    subst (λ text. OnErr c.print_batches.result (GrewByFront (g.K.Sink.held c.args.sink.now) (g.K.Sink.held c.print_batches.new.sink) text))
+    (same_text c.in_ok-session.ensures.session seen) c.print_batches.ensures.err

@@ -11,4 +11,5 @@ invariant-loop-d l =
 
 abbrev pub invariant-loop-d-2 : goal.invariant-loop-d-2
 invariant-loop-d-2 l =
-    AreWinners (in_order l.declarations) l.places (flat_map matched_of (l.declarations.matched.now ++ take l.d-index l.declarations.attached.now)) × (l.place ≡ length l.declarations.matched.now + l.d-index)
+    let before = l.declarations.matched.now in
+    AreWinners (in_order l.declarations) l.places (flat_map matched_of (before ++ take l.d-index l.declarations.attached.now)) × (l.place ≡ length before + l.d-index)

@@ -1,13 +1,8 @@
-use Rattle.std.proofs.Common.{◌≡◌, map, drop}
+use Rattle.std.specs.Str.{chars}
 use Rattle.std.specs.List.{list_any}
 use Rattle.base_model.specs.Text.{same_text}
-use Rattle.std.specs.Str.{chars}
-use Rattle.dom_tree.specs.Classes.{AreNames}
-use Rattle.dom_tree.specs.Kept.{text_of}
+use Rattle.dom_tree.proofs.ClassLemmas.{AreOthers}
 use Rattle.dom_tree.proofs.class_names.ClassNames.has_text.Given as goal
 
 abbrev pub invariant-loop-class : goal.invariant-loop-class
-invariant-loop-class l = record {
-  named : AreNames l.self-inside.names.now (drop l.class-index l.class-items);
-  left : list_any (same_text (chars l.name)) (map (text_of l.self-inside.names.now) (drop l.class-index l.class-items)) ≡ list_any (same_text (chars l.name)) l.self;
-}
+invariant-loop-class l = AreOthers l.self-inside.names.now (chars l.name) l.class-items (list_any (same_text (chars l.name)) l.self) l.class-index

@@ -2,4 +2,4 @@ use Rattle.dom_tree.proofs.KeptLemmas.{attribute_names_are}
 use Rattle.dom_tree.proofs.doc.Doc.attribute_names.Goals as goal
 
 pub returns : goal.returns
-returns c = attribute_names_are _ _ _ _ _ _ _ _ _ _ c.self.invariant c.self.view_is c.requires _ c.attribute_names.ensures
+returns c = attribute_names_are c.self.invariant c.self.view_is _ c.requires c.attribute_names.ensures

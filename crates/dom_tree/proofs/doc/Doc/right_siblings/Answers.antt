@@ -10,5 +10,4 @@ split_at-requires c =
 
 pub returns-in-Some-clause-siblings : goal.returns-in-Some-clause-siblings
 returns-in-Some-clause-siblings c =
-    c.split_at.ensures.back
-    ∙ after_place c.args.self.now.elements c.place.ensures.valid c.args.x c.in-Some.parent _ _ c.requires (sym c.parent.ensures.parent ∙ c.in-Some.is) c.place.ensures.place c.children.ensures.children
+    c.split_at.ensures.back ∙ after_place c.args.x c.place.ensures.valid c.requires (sym c.parent.ensures.parent ∙ c.in-Some.is) c.place.ensures.place c.children.ensures.children

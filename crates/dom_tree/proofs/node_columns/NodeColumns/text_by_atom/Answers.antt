@@ -1,12 +1,13 @@
-use Rattle.std.proofs.Common.{rules, ap, ◌∙◌}
-use Rattle.dom_tree.specs.Kept.{part_of}
-use Rattle.dom_tree.proofs.ColumnLemmas.{text_by_atom_none, text_by_atom_some}
+use Rattle.std.proofs.Common.{rules, ap, sym, Some}
+use Rattle.dom_tree.proofs.ColumnLemmas.{row_at, text_by_atom}
+use Rattle.dom_tree.proofs.NameLemmas.{text_is}
 use Rattle.dom_tree.proofs.node_columns.NodeColumns.text_by_atom.Goals as goal
 
 pub returns-in_err-value : goal.returns-in_err-value
 returns-in_err-value c =
-    text_by_atom_none _ _ _ c.self.invariant _ c.self.view_is c.args.index c.index.result.now c.requires c.index.ensures c.args.name.now _ _ (c.of.ensures ∙ ap (λ l. part_of l c.index.result.now.attrs) c.deref.ensures.value) (search rules) c.in_err-value.ensures.value
+    text_by_atom (row_at c.self.invariant c.self.view_is c.requires c.index.ensures) c.deref.ensures.value c.of.ensures c.args.name.now (search rules) c.in_err-value.ensures.value
 
 pub returns : goal.returns
 returns c =
-    text_by_atom_some _ _ _ c.self.invariant _ c.self.view_is c.args.index c.index.result.now c.requires c.index.ensures c.args.name.now _ _ c.in_ok-value.value (c.of.ensures ∙ ap (λ l. part_of l c.index.result.now.attrs) c.deref.ensures.value) c.in_ok-value.ensures.value c.text.ensures
+    let text = ap Some (sym (text_is c.self.inside.names c.in_ok-value.value _ c.text.ensures)) in
+    text_by_atom (row_at c.self.invariant c.self.view_is c.requires c.index.ensures) c.deref.ensures.value c.of.ensures c.args.name.now text c.in_ok-value.ensures.value

@@ -10,7 +10,7 @@ pub loop-index-preserved : goal.loop-index-preserved
 loop-index-preserved c =
     let k = c.loop-index.index in
     let more = map-range_with_len_more (depth_of (scene_of c.args.self.now)) 1 k (k + 1) (omega arith) in
-    c.in_ok-push.ensures.items ∙ (ap (λ l. l ++ c.depth-depth.result ∷ []) c.loop-index.invariant ∙ (ap (λ d. map (depth_of (scene_of c.args.self.now)) (range_with_len 1 k) ++ d ∷ []) c.depth-depth.ensures ∙ sym more))
+    c.in_ok-push.ensures.items ∙ ((λ i. c.loop-index.invariant i ++ c.depth-depth.ensures i ∷ []) ∙ sym more)
 
 pub returns : goal.returns
 returns c =

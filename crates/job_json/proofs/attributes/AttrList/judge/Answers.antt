@@ -1,21 +1,40 @@
-use Rattle.std.proofs.Common.{◌≡◌, ◌≤◌, Bool, true, false, cond, Some, None, length, map, List, refl, sym, ap, ◌∙◌, subst}
-use Rattle.std.specs.Prelude.{option_map}
+use Rattle.std.proofs.Common.{◌≡◌, ◌≤◌, ◌∙◌, length, map, true, Ok, Err, option_map, sym, ap, arith}
 use Rattle.std.proofs.lemmas.List.{length-map}
-use Rattle.std.specs.FinMap as finmap
 use Rattle.base_model.specs.Limits.{attribute_limit}
-use Rattle.scene_model.specs.Element.{Attributes}
-use Rattle.dom_tree.specs.declared.nodes.Attr.{Attr}
-use Rattle.dom_tree.specs.View.{attributes_of}
-use Rattle.job_json.specs.Slots.{slots_of, slot_pair, pairs_within, attrs_said}
-use Rattle.job_json.proofs.AttrSteps.{attrs_few}
+use Rattle.dom_tree.specs.View.{pair_of}
+use Rattle.job_json.specs.Checked.{map_ok}
+use Rattle.job_json.specs.Limits.{count_of}
+use Rattle.job_json.specs.Slots.{slot_pair, latest, first_bad_key}
+use Rattle.job_json.specs.Kept.{filled, slots_read}
+use Rattle.job_json.proofs.AttrLaws.{map_of, attrs_few, many_right, many_bad, as_within}
+use Rattle.job_json.proofs.SlotLaws.{count_of-slots}
 use Rattle.job_json.proofs.attributes.AttrList.judge.Goals as goal
 
-as_kept : (b : Bool) (list : List Attr) → option_map {U = Attributes} (λ ps. finmap.from_entries ps) (attrs_said b list) ≡ cond b (Some (attributes_of list)) None
-as_kept true list = refl
-as_kept false list = refl
+pub returns-in-None : goal.returns-in-None
+returns-in-None c ms kept =
+    let are : c.args.self.now.slots.are_many ≡ true = sym c.are_many.ensures ∙ c.if-are_many.true in
+    let found = c.bad_key.ensures ∙ (ap (λ l. first_bad_key (latest (map slot_pair l))) c.as_slice.ensures ∙ ap first_bad_key (c.in_ok-sort.ensures.sorted ms kept are)) in
+    many_right ms (kept.many are).0 (sym found ∙ ap (option_map (λ key. key.now)) c.in-None.is)
 
-pub returns : goal.returns
-returns c = λ ms kept.
-    let listed = kept.listed c.if-self.false in
-    let fits : length (slots_of ms) ≤ attribute_limit = subst (λ l. length l ≤ attribute_limit) listed.0 (rw length-map listed.1) in
-    attrs_few ms fits ∙ (ap (λ l. option_map {U = Attributes} (λ ps. finmap.from_entries ps) (pairs_within l)) (sym listed.0) ∙ (ap (option_map {U = Attributes} (λ ps. finmap.from_entries ps)) (ap (λ l. pairs_within (map slot_pair l)) (sym c.as_slice.ensures.value) ∙ sym c.in_ok-self.ensures) ∙ as_kept c.in_ok-self.field-0 c.fill.new.list.items))
+pub returns-in_ok-to_member-in-Some : goal.returns-in_ok-to_member-in-Some
+returns-in_ok-to_member-in-Some c ms kept =
+    let are : c.args.self.now.slots.are_many ≡ true = sym c.are_many.ensures ∙ c.if-are_many.true in
+    let found = c.bad_key.ensures ∙ (ap (λ l. first_bad_key (latest (map slot_pair l))) c.as_slice.ensures ∙ ap first_bad_key (c.in_ok-sort.ensures.sorted ms kept are)) in
+    many_bad ms c.in-Some.key.now (kept.many are).0 (sym found ∙ ap (option_map (λ key. key.now)) c.in-Some.is) ∙ ap (λ path. Err path) (sym c.in_ok-to_member-in-Some.ensures)
+
+pub returns-in-Ok : goal.returns-in-Ok
+returns-in-Ok c ms kept =
+    let listed = kept.few (sym c.are_many.ensures ∙ c.if-are_many.false) in
+    let long : length (map slot_pair c.args.self.now.slots.list.items) ≡ length c.args.self.now.slots.list.items = simp length-map in
+    let few : count_of ms ≤ attribute_limit = omega (arith, listed.1, count_of-slots ms, ap length listed.0, long) in
+    let read = c.in_ok-passed.ensures ∙ (ap (λ l. slots_read (map slot_pair l)) c.as_slice-2.ensures ∙ ap slots_read listed.0) in
+    let list = c.fill.new.list.items in
+    attrs_few ms few ∙ (ap (map_ok (map_ok map_of)) (sym read) ∙ (ap (λ p. map_ok (map_ok map_of) (filled p list)) c.in-Ok.is ∙ ap (λ w. Ok w) (as_within c.in-Ok.passed (map pair_of list))))
+
+pub returns-in-Err : goal.returns-in-Err
+returns-in-Err c ms kept =
+    let listed = kept.few (sym c.are_many.ensures ∙ c.if-are_many.false) in
+    let long : length (map slot_pair c.args.self.now.slots.list.items) ≡ length c.args.self.now.slots.list.items = simp length-map in
+    let few : count_of ms ≤ attribute_limit = omega (arith, listed.1, count_of-slots ms, ap length listed.0, long) in
+    let read = c.in_ok-passed.ensures ∙ (ap (λ l. slots_read (map slot_pair l)) c.as_slice-2.ensures ∙ ap slots_read listed.0) in
+    attrs_few ms few ∙ (ap (map_ok (map_ok map_of)) (sym read) ∙ ap (λ p. map_ok (map_ok map_of) (filled p c.fill.new.list.items)) c.in-Err.is)

@@ -1,8 +1,7 @@
 use Rattle.std.proofs.Common.{refl, sym, ap, ◌∙◌, option_and_then}
 use Rattle.std.specs.Prelude.{codes}
-use Rattle.job_json.specs.Values.{whole, is_one, is_empty_list}
-use Rattle.job_json.specs.Within.{sheets_within}
-use Rattle.job_json.specs.Within.{node_list_within}
+use Rattle.job_json.specs.Words.{whole, is_one}
+use Rattle.job_json.specs.Parts.{nodes_read, sheets_read, batches_read}
 use Rattle.job_json.proofs.Puts.{here, there, beside}
 use Rattle.job_json.proofs.document.JobPartsKeepMembers.member.Goals as goal
 
@@ -14,9 +13,9 @@ returns-in_ok-whole-in-version-clause-ok c =
       done.1,
       λ ms kept. record {
         version = c.is_one-self.ensures ∙ ap is_one (sym done.2) ∙ ap (λ o. is_one (option_and_then whole o)) (here key done.0 ms (codes "version") c.in-version.is);
-        batches = kept.batches ∙ ap is_empty_list (beside key done.0 ms (codes "version") (codes "batches") c.in-version.is refl);
-        nodes = kept.nodes ∙ ap (option_and_then node_list_within) (beside key done.0 ms (codes "version") (codes "nodes") c.in-version.is refl);
-        sheets = kept.sheets ∙ ap sheets_within (beside key done.0 ms (codes "version") (codes "sheets") c.in-version.is refl);
+        batches = kept.batches ∙ ap batches_read (beside key done.0 ms (codes "version") (codes "batches") c.in-version.is refl);
+        nodes = kept.nodes ∙ ap nodes_read (beside key done.0 ms (codes "version") (codes "nodes") c.in-version.is refl);
+        sheets = kept.sheets ∙ ap sheets_read (beside key done.0 ms (codes "version") (codes "sheets") c.in-version.is refl);
       },
     )
 
@@ -28,9 +27,9 @@ returns-in_ok-self-in-batches-clause-ok c =
       done.1,
       λ ms kept. record {
         version = kept.version ∙ ap (λ o. is_one (option_and_then whole o)) (beside key done.0 ms (codes "batches") (codes "version") c.in-batches.is refl);
-        batches = sym done.2 ∙ ap is_empty_list (here key done.0 ms (codes "batches") c.in-batches.is);
-        nodes = kept.nodes ∙ ap (option_and_then node_list_within) (beside key done.0 ms (codes "batches") (codes "nodes") c.in-batches.is refl);
-        sheets = kept.sheets ∙ ap sheets_within (beside key done.0 ms (codes "batches") (codes "sheets") c.in-batches.is refl);
+        batches = sym done.2 ∙ ap batches_read (here key done.0 ms (codes "batches") c.in-batches.is);
+        nodes = kept.nodes ∙ ap nodes_read (beside key done.0 ms (codes "batches") (codes "nodes") c.in-batches.is refl);
+        sheets = kept.sheets ∙ ap sheets_read (beside key done.0 ms (codes "batches") (codes "sheets") c.in-batches.is refl);
       },
     )
 
@@ -42,9 +41,9 @@ returns-in_ok-self-in-nodes-clause-ok c =
       done.1,
       λ ms kept. record {
         version = kept.version ∙ ap (λ o. is_one (option_and_then whole o)) (beside key done.0 ms (codes "nodes") (codes "version") c.in-nodes.is refl);
-        batches = kept.batches ∙ ap is_empty_list (beside key done.0 ms (codes "nodes") (codes "batches") c.in-nodes.is refl);
-        nodes = sym done.2 ∙ ap (option_and_then node_list_within) (here key done.0 ms (codes "nodes") c.in-nodes.is);
-        sheets = kept.sheets ∙ ap sheets_within (beside key done.0 ms (codes "nodes") (codes "sheets") c.in-nodes.is refl);
+        batches = kept.batches ∙ ap batches_read (beside key done.0 ms (codes "nodes") (codes "batches") c.in-nodes.is refl);
+        nodes = sym done.2 ∙ ap nodes_read (here key done.0 ms (codes "nodes") c.in-nodes.is);
+        sheets = kept.sheets ∙ ap sheets_read (beside key done.0 ms (codes "nodes") (codes "sheets") c.in-nodes.is refl);
       },
     )
 
@@ -56,9 +55,9 @@ returns-in_ok-self-in-sheets-clause-ok c =
       done.1,
       λ ms kept. record {
         version = kept.version ∙ ap (λ o. is_one (option_and_then whole o)) (beside key done.0 ms (codes "sheets") (codes "version") c.in-sheets.is refl);
-        batches = kept.batches ∙ ap is_empty_list (beside key done.0 ms (codes "sheets") (codes "batches") c.in-sheets.is refl);
-        nodes = kept.nodes ∙ ap (option_and_then node_list_within) (beside key done.0 ms (codes "sheets") (codes "nodes") c.in-sheets.is refl);
-        sheets = sym done.2 ∙ ap sheets_within (here key done.0 ms (codes "sheets") c.in-sheets.is);
+        batches = kept.batches ∙ ap batches_read (beside key done.0 ms (codes "sheets") (codes "batches") c.in-sheets.is refl);
+        nodes = kept.nodes ∙ ap nodes_read (beside key done.0 ms (codes "sheets") (codes "nodes") c.in-sheets.is refl);
+        sheets = sym done.2 ∙ ap sheets_read (here key done.0 ms (codes "sheets") c.in-sheets.is);
       },
     )
 
@@ -70,8 +69,8 @@ returns-in_ok-pass-in_default-clause-ok c =
       done.1,
       λ ms kept. record {
         version = kept.version ∙ ap (λ o. is_one (option_and_then whole o)) (there key done.0 ms (codes "version") c.in_default.not-version);
-        batches = kept.batches ∙ ap is_empty_list (there key done.0 ms (codes "batches") c.in_default.not-batches);
-        nodes = kept.nodes ∙ ap (option_and_then node_list_within) (there key done.0 ms (codes "nodes") c.in_default.not-nodes);
-        sheets = kept.sheets ∙ ap sheets_within (there key done.0 ms (codes "sheets") c.in_default.not-sheets);
+        batches = kept.batches ∙ ap batches_read (there key done.0 ms (codes "batches") c.in_default.not-batches);
+        nodes = kept.nodes ∙ ap nodes_read (there key done.0 ms (codes "nodes") c.in_default.not-nodes);
+        sheets = kept.sheets ∙ ap sheets_read (there key done.0 ms (codes "sheets") c.in_default.not-sheets);
       },
     )

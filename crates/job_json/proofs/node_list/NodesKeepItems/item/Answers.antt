@@ -1,27 +1,40 @@
-use Rattle.std.proofs.Common.{◌≡◌, ◌≤◌, length, false, ◌⊎◌, refl, sym, subst, inl, inr, arith}
-use Rattle.base_model.specs.Limits.{element_limit}
-use Rattle.job_json.specs.Kept.{nodes_or_none, IsAppended}
-use Rattle.job_json.proofs.NodeListSteps.{nodes_full, node_appended}
+use Rattle.std.proofs.Common.{◌≡◌, ◌∙◌, Ok, Err, sym, ap, subst}
+use Rattle.job_json.specs.Checked.{map_ok}
+use Rattle.job_json.specs.Shape.{node_in}
+use Rattle.job_json.specs.Parts.{node_read}
+use Rattle.job_json.specs.Held.{IsHeld}
+use Rattle.job_json.specs.Kept.{held_of, judged_seen}
+use Rattle.job_json.proofs.CheckedLaws.{passed_over, read_bad}
+use Rattle.job_json.proofs.NodeListLaws.{one_node, node_bad}
 use Rattle.job_json.proofs.node_list.NodesKeepItems.item.Goals as goal
-use Rattle.job_json.proofs.node_list.NodesKeepItems.item.Goals.{then-not-self-via-then-not-self, then-not-self-via-else-not-self+then-count_of-ge-ELEMENT_LIMIT}
 
-pub returns-then-not-self-clause-ok : goal.returns-then-not-self-clause-ok
-returns-then-not-self-clause-ok c =
+pub returns-then-is_some-clause-ok : goal.returns-then-is_some-clause-ok
+returns-then-is_some-clause-ok c =
+    let old = c.args.self.now in
     let done = c.in_ok-pass.ensures.ok in
-    let full : c.args.self.now.is_good ≡ false ⊎ element_limit ≤ length (nodes_or_none c.args.self.now.list) =
-    elim c.then-not-self.branch [
-      | then-not-self-via-then-not-self w ↦ inl w.if-not-self.true
-      | then-not-self-via-else-not-self+then-count_of-ge-ELEMENT_LIMIT w ↦ inr (omega (arith, w.count_of.ensures, w.if-count_of-ge-ELEMENT_LIMIT.true))
-    ] in
-    (done.0, done.1, λ ds kept. nodes_full c.args.self.now _ ds done.0 kept refl full)
+    (done.0, done.1, λ ds kept. passed_over node_in ds done.0 old.bad (λ list. IsHeld ds list (held_of old.kept)) _ (sym c.is_some.ensures ∙ c.if-is_some.true) kept)
 
-pub returns-clause-ok : goal.returns-clause-ok
-returns-clause-ok c =
+pub returns-in_ok-push-in-Ok-clause-ok : goal.returns-in_ok-push-in-Ok-clause-ok
+returns-in_ok-push-in-Ok-clause-ok c =
+    let old = c.args.self.now in
     let done = c.in_ok-read.ensures.ok in
-    let said = done.2 (length (nodes_or_none c.args.self.now.list)) in (
+    let said : node_read c.in_ok-index.index done.0 ≡ Ok (judged_seen c.in-Ok.node) = done.2 c.in_ok-index.index ∙ (sym c.in_ok-node.ensures.node ∙ ap (map_ok judged_seen) c.in-Ok.is) in (
       done.0,
       done.1,
       λ ds kept.
-          node_appended c.args.self.now _ ds done.0 kept c.if-not-self.false (omega (arith, c.count_of.ensures, c.if-count_of-ge-ELEMENT_LIMIT.false))
-          (subst (λ o. IsAppended c.args.self.now.list c.append_node.new.list o c.in_ok-self.field-0) (sym said) c.in_ok-self.ensures),
+          one_node ds done.0 old.bad (held_of old.kept) (held_of c.push.new.self) c.in-Ok.node (sym c.is_some.ensures ∙ c.if-is_some.false) kept
+          (subst (λ k. node_read k done.0 ≡ Ok (judged_seen c.in-Ok.node)) c.in_ok-index.ensures.count said) c.in_ok-push-in-Ok.ensures,
+    )
+
+pub returns-in_ok-in_item-in-Err-clause-ok : goal.returns-in_ok-in_item-in-Err-clause-ok
+returns-in_ok-in_item-in-Err-clause-ok c =
+    let old = c.args.self.now in
+    let done = c.in_ok-read.ensures.ok in
+    let said : node_read c.in_ok-index.index done.0 ≡ Err c.in-Err.path = done.2 c.in_ok-index.index ∙ (sym c.in_ok-node.ensures.node ∙ ap (map_ok judged_seen) c.in-Err.is) in (
+      done.0,
+      done.1,
+      λ ds kept.
+          read_bad node_in ds done.0 old.bad (λ list. IsHeld ds list (held_of old.kept)) c.in_ok-index.index c.in-Err.path
+          (sym c.is_some.ensures ∙ c.if-is_some.false) kept (λ list held. held.count ∙ sym c.in_ok-index.ensures.count)
+          (node_bad c.in_ok-index.index done.0 c.in-Err.path said) ∙ ap (λ p. Err p) (sym c.in_ok-in_item-in-Err.ensures),
     )

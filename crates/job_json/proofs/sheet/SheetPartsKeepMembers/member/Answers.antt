@@ -1,7 +1,7 @@
 use Rattle.std.proofs.Common.{refl, sym, ap, ◌∙◌, option_and_then}
 use Rattle.std.specs.Prelude.{codes}
 use Rattle.serde_json.specs.Find.{as_str}
-use Rattle.job_json.specs.Sheets.{origin_named, origin_from, enabled_from}
+use Rattle.job_json.specs.Words.{origin_named, origin_from, enabled_from}
 use Rattle.job_json.proofs.Puts.{here, there, beside}
 use Rattle.job_json.proofs.sheet.SheetPartsKeepMembers.member.Goals as goal
 

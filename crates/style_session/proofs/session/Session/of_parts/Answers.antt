@@ -1,3 +1,5 @@
+use Rattle.std.proofs.Common.{ap}
+use Rattle.style_session.specs.SessionView.{slot_at}
 use Rattle.style_session.proofs.SessionStarts.{session-started, started-seen}
 use Rattle.style_session.proofs.session.Session.of_parts.Goals as goal
 
@@ -5,10 +7,11 @@ pub invariant_of-result : goal.invariant_of-result
 invariant_of-result c =
     let begun = c.in_ok-begun.begun in
     let is = c.in_ok-begun.ensures in
-    session-started c.args.doc c.args.sheets begun.prepared begun.marks begun.kept.items c.new.result.items begun.cache is.sound c.requires.texts is.marks c.new.ensures.items is.places is.empty is.fits
+    let kept = c.new.result.items in
+    session-started c.args.doc c.args.sheets begun.prepared begun.marks kept c.new-2.result.items begun.cache is.sound c.requires.texts is.marks c.new-2.ensures.items (λ x. ap (λ l. slot_at l x) c.new.ensures.items) is.fits
 
 pub returns : goal.returns
 returns c =
     let begun = c.in_ok-begun.begun in
     let is = c.in_ok-begun.ensures in
-    started-seen c.args.doc c.args.sheets begun.marks.items c.new.result.items begun.kept.items is.marks c.new.ensures.items is.empty
+    started-seen c.args.doc c.args.sheets begun.marks.items c.new-2.result.items c.new.result.items is.marks c.new-2.ensures.items (λ x. ap (λ l. slot_at l x) c.new.ensures.items)

@@ -1,0 +1,122 @@
+use Rattle.std.proofs.Common.{refl, sym, ap, ◌∙◌, option_map, option_and_then}
+use Rattle.std.specs.Prelude.{codes}
+use Rattle.serde_json.specs.Find.{as_str, as_bool}
+use Rattle.job_json.specs.Words.{whole, name_of, name_said, state_named}
+use Rattle.job_json.specs.Edits.{state_answered, state_from}
+use Rattle.job_json.proofs.Puts.{here, there, beside}
+use Rattle.job_json.proofs.EditLaws.{answered_seen}
+use Rattle.job_json.proofs.edit.EditPartsKeepMembers.member.Goals as goal
+
+pub returns-in_ok-self-in-op-clause-ok : goal.returns-in_ok-self-in-op-clause-ok
+returns-in_ok-self-in-op-clause-ok c =
+    let key = c.args.key.now in
+    let done = c.in_ok-self-in-op.ensures.ok in (
+      done.0,
+      done.1,
+      λ ms kept. record {
+        op = sym done.2 ∙ ap (option_and_then as_str) (here key done.0 ms (codes "op") c.in-op.is);
+        node = kept.node ∙ ap (option_and_then whole) (beside key done.0 ms (codes "op") (codes "node") c.in-op.is refl);
+        name = kept.name ∙ ap (option_and_then name_of) (beside key done.0 ms (codes "op") (codes "name") c.in-op.is refl);
+        value = kept.value ∙ ap (option_and_then as_str) (beside key done.0 ms (codes "op") (codes "value") c.in-op.is refl);
+        state = kept.state ∙ ap state_from (beside key done.0 ms (codes "op") (codes "state") c.in-op.is refl);
+        on = kept.on ∙ ap (option_and_then as_bool) (beside key done.0 ms (codes "op") (codes "on") c.in-op.is refl);
+      },
+    )
+
+pub returns-in_ok-self-in-node-clause-ok : goal.returns-in_ok-self-in-node-clause-ok
+returns-in_ok-self-in-node-clause-ok c =
+    let key = c.args.key.now in
+    let done = c.in_ok-self-in-node.ensures.ok in (
+      done.0,
+      done.1,
+      λ ms kept. record {
+        op = kept.op ∙ ap (option_and_then as_str) (beside key done.0 ms (codes "node") (codes "op") c.in-node.is refl);
+        node = sym done.2 ∙ ap (option_and_then whole) (here key done.0 ms (codes "node") c.in-node.is);
+        name = kept.name ∙ ap (option_and_then name_of) (beside key done.0 ms (codes "node") (codes "name") c.in-node.is refl);
+        value = kept.value ∙ ap (option_and_then as_str) (beside key done.0 ms (codes "node") (codes "value") c.in-node.is refl);
+        state = kept.state ∙ ap state_from (beside key done.0 ms (codes "node") (codes "state") c.in-node.is refl);
+        on = kept.on ∙ ap (option_and_then as_bool) (beside key done.0 ms (codes "node") (codes "on") c.in-node.is refl);
+      },
+    )
+
+pub returns-in_ok-text-in-name-clause-ok : goal.returns-in_ok-text-in-name-clause-ok
+returns-in_ok-text-in-name-clause-ok c =
+    let key = c.args.key.now in
+    let done = c.in_ok-text-in-name.ensures.ok in (
+      done.0,
+      done.1,
+      λ ms kept. record {
+        op = kept.op ∙ ap (option_and_then as_str) (beside key done.0 ms (codes "name") (codes "op") c.in-name.is refl);
+        node = kept.node ∙ ap (option_and_then whole) (beside key done.0 ms (codes "name") (codes "node") c.in-name.is refl);
+        name = c.name_in-self.ensures ∙ ap (option_and_then name_said) (sym done.2) ∙ ap (option_and_then name_of) (here key done.0 ms (codes "name") c.in-name.is);
+        value = kept.value ∙ ap (option_and_then as_str) (beside key done.0 ms (codes "name") (codes "value") c.in-name.is refl);
+        state = kept.state ∙ ap state_from (beside key done.0 ms (codes "name") (codes "state") c.in-name.is refl);
+        on = kept.on ∙ ap (option_and_then as_bool) (beside key done.0 ms (codes "name") (codes "on") c.in-name.is refl);
+      },
+    )
+
+pub returns-in_ok-self-in-value-clause-ok : goal.returns-in_ok-self-in-value-clause-ok
+returns-in_ok-self-in-value-clause-ok c =
+    let key = c.args.key.now in
+    let done = c.in_ok-self-in-value.ensures.ok in (
+      done.0,
+      done.1,
+      λ ms kept. record {
+        op = kept.op ∙ ap (option_and_then as_str) (beside key done.0 ms (codes "value") (codes "op") c.in-value.is refl);
+        node = kept.node ∙ ap (option_and_then whole) (beside key done.0 ms (codes "value") (codes "node") c.in-value.is refl);
+        name = kept.name ∙ ap (option_and_then name_of) (beside key done.0 ms (codes "value") (codes "name") c.in-value.is refl);
+        value = sym done.2 ∙ ap (option_and_then as_str) (here key done.0 ms (codes "value") c.in-value.is);
+        state = kept.state ∙ ap state_from (beside key done.0 ms (codes "value") (codes "state") c.in-value.is refl);
+        on = kept.on ∙ ap (option_and_then as_bool) (beside key done.0 ms (codes "value") (codes "on") c.in-value.is refl);
+      },
+    )
+
+pub returns-in_ok-text-in-state-clause-ok : goal.returns-in_ok-text-in-state-clause-ok
+returns-in_ok-text-in-state-clause-ok c =
+    let key = c.args.key.now in
+    let done = c.in_ok-text-in-state.ensures.ok in (
+      done.0,
+      done.1,
+      λ ms kept. record {
+        op = kept.op ∙ ap (option_and_then as_str) (beside key done.0 ms (codes "state") (codes "op") c.in-state.is refl);
+        node = kept.node ∙ ap (option_and_then whole) (beside key done.0 ms (codes "state") (codes "node") c.in-state.is refl);
+        name = kept.name ∙ ap (option_and_then name_of) (beside key done.0 ms (codes "state") (codes "name") c.in-state.is refl);
+        value = kept.value ∙ ap (option_and_then as_str) (beside key done.0 ms (codes "state") (codes "value") c.in-state.is refl);
+        state =
+            sym (answered_seen _) ∙ ap (option_map state_answered) c.state_named-self.ensures
+            ∙ ap (λ o. option_map state_answered (option_and_then state_named o)) (sym done.2) ∙ ap state_from (here key done.0 ms (codes "state") c.in-state.is);
+        on = kept.on ∙ ap (option_and_then as_bool) (beside key done.0 ms (codes "state") (codes "on") c.in-state.is refl);
+      },
+    )
+
+pub returns-in_ok-self-in-on-clause-ok : goal.returns-in_ok-self-in-on-clause-ok
+returns-in_ok-self-in-on-clause-ok c =
+    let key = c.args.key.now in
+    let done = c.in_ok-self-in-on.ensures.ok in (
+      done.0,
+      done.1,
+      λ ms kept. record {
+        op = kept.op ∙ ap (option_and_then as_str) (beside key done.0 ms (codes "on") (codes "op") c.in-on.is refl);
+        node = kept.node ∙ ap (option_and_then whole) (beside key done.0 ms (codes "on") (codes "node") c.in-on.is refl);
+        name = kept.name ∙ ap (option_and_then name_of) (beside key done.0 ms (codes "on") (codes "name") c.in-on.is refl);
+        value = kept.value ∙ ap (option_and_then as_str) (beside key done.0 ms (codes "on") (codes "value") c.in-on.is refl);
+        state = kept.state ∙ ap state_from (beside key done.0 ms (codes "on") (codes "state") c.in-on.is refl);
+        on = sym done.2 ∙ ap (option_and_then as_bool) (here key done.0 ms (codes "on") c.in-on.is);
+      },
+    )
+
+pub returns-in_ok-pass-in_default-clause-ok : goal.returns-in_ok-pass-in_default-clause-ok
+returns-in_ok-pass-in_default-clause-ok c =
+    let key = c.args.key.now in
+    let done = c.in_ok-pass-in_default.ensures.ok in (
+      done.0,
+      done.1,
+      λ ms kept. record {
+        op = kept.op ∙ ap (option_and_then as_str) (there key done.0 ms (codes "op") c.in_default.not-op);
+        node = kept.node ∙ ap (option_and_then whole) (there key done.0 ms (codes "node") c.in_default.not-node);
+        name = kept.name ∙ ap (option_and_then name_of) (there key done.0 ms (codes "name") c.in_default.not-name);
+        value = kept.value ∙ ap (option_and_then as_str) (there key done.0 ms (codes "value") c.in_default.not-value);
+        state = kept.state ∙ ap state_from (there key done.0 ms (codes "state") c.in_default.not-state);
+        on = kept.on ∙ ap (option_and_then as_bool) (there key done.0 ms (codes "on") c.in_default.not-on);
+      },
+    )

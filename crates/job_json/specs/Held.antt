@@ -1,0 +1,67 @@
+-- The nodes of a list as they are kept while it is read: as long as they pass no limit.
+use Rattle.std.specs.Prelude.{◌≡◌, ◌<◌, ◌≤◌, is_some, ℕ, ◌+◌, ◌-◌, ◌^◌, nat_lt, true, min, if◌then◌else◌, List, [], ◌∷◌, ◌++◌, length, get_or, Option, Some, None, Ok, Err}
+use Rattle.std.specs.Option.{option_or}
+use Rattle.serde_json.specs.Data.{Data}
+use Rattle.serde_json.specs.View.{items_of}
+use Rattle.base_model.specs.Limits.{element_limit, depth_limit}
+use Rattle.stylo_base.specs.declared.refusal.Kind.TheVariants.{Elements, Depth}
+use Rattle.scene_model.specs.Nodes.{Node}
+use Rattle.job_json.specs.Checked.{Checked}
+use Rattle.dom_tree.specs.Depths.{depths_of}
+use Rattle.job_json.specs.Limits.{Passed, Within, within, past, nodes_past}
+
+pub record Held : Type 0 where
+  -- the limit that a node passes first
+  pub passed : Option Passed
+  -- the nodes before that one, and before there are too many
+  pub nodes : List Node
+  -- the depth of each of these
+  pub depths : List ℕ
+  -- how many nodes come after these
+  pub more : ℕ
+
+abbrev pub count_held : Held → ℕ
+count_held h = length h.nodes + h.more
+
+-- the depth of a node with this parent, as a number of 64 bits
+abbrev pub depth_below : List ℕ → Option ℕ → ℕ
+depth_below depths None = 1
+depth_below depths (Some p) = min (get_or depths p 0 + 1) (2 ^ 64 - 1)
+
+-- a node, where it is not too deep
+abbrev pub node_within : {A : Type 0} → Within A → ℕ → Within A
+node_within (Ok node) depth = within (past Depth depth_limit depth) node
+node_within (Err passed) depth = Err passed
+
+abbrev pub held_with : Held → ℕ → Within Node → Held
+held_with h depth (Ok node) = record h { nodes = h.nodes ++ node ∷ []; depths = h.depths ++ depth ∷ [] }
+held_with h depth (Err passed) = record h { passed = Some passed; more = 1 }
+
+-- one more node, below this parent
+abbrev pub held_next : Held → Option ℕ → Within Node → Held
+held_next h parent node =
+    if nat_lt 0 h.more then record h { more = h.more + 1 }
+    else if nat_lt (count_held h) element_limit then
+    held_with h (depth_below h.depths parent) (node_within node (depth_below h.depths parent))
+    else record h { more = h.more + 1 }
+
+-- the whole list, which is not to be empty
+abbrev pub some_held : List Node → Checked (Within (List Node))
+some_held [] = Err []
+some_held (node ∷ nodes) = Ok (Ok (node ∷ nodes))
+
+abbrev pub held_or : Option Passed → Held → Checked (Within (List Node))
+held_or (Some passed) h = Ok (Err passed)
+held_or None h = some_held h.nodes
+
+abbrev pub held_at_end : Held → Checked (Within (List Node))
+held_at_end h = held_or (option_or (past Elements element_limit (count_held h)) h.passed) h
+
+-- This is kept of these items, whose nodes these are.
+pub record IsHeld (ds : List Data) (list : List Node) (h : Held) : Type 0 where
+  pub count : length list ≡ count_held h
+  pub kept : h.more ≡ 0
+      → (h.nodes ≡ list) × (h.depths ≡ depths_of list) × (h.passed ≡ None)
+      × (nodes_past (items_of ds) (depths_of list) ≡ None)
+  pub past_it : 0 < h.more → length list ≤ element_limit
+      → (h.passed ≡ nodes_past (items_of ds) (depths_of list)) × (is_some h.passed ≡ true)

@@ -1,0 +1,99 @@
+-- What is kept of a job's batches and their edits while they are read.
+use Rattle.std.specs.Prelude.{◌≡◌, ℕ, ◌+◌, ◌≤◌, nat_lt, ◌++◌, List, [], ◌∷◌, length, map, if◌then◌else◌, Vec, Ok, option_map, option_and_then, codes}
+use Rattle.std.specs.declared.alloc.Global.{Global}
+use Rattle.std.specs.Str.{chars, bytes_eq}
+use Rattle.serde_json.specs.Data.{Data, Members}
+use Rattle.serde_json.specs.Find.{get_member, as_str, as_bool}
+use Rattle.base_model.specs.Limits.{batch_limit}
+use Rattle.dom_edits.specs.declared.edits.DocEdit.TheVariants as doc
+use Rattle.dom_edits.specs.declared.edits.Edit.{Edit}
+use Rattle.dom_edits.specs.declared.edits.Edit.TheVariants.{Document}
+use Rattle.job_json.specs.declared.edit.EditParts.{EditParts}
+use Rattle.job_json.specs.declared.edit.LentEdit.{LentEdit}
+use Rattle.job_json.specs.declared.edit.LentEdit.TheVariants.{Set, Unset, State}
+use Rattle.job_json.specs.declared.edit_items.EditItems.{EditItems}
+use Rattle.job_json.specs.declared.batch_items.BatchItems.{BatchItems}
+use Rattle.job_json.specs.Checked.{Checked, ◌>>=◌, wanted, at_member}
+use Rattle.job_json.specs.Words.{whole, name_of}
+use Rattle.job_json.specs.Edits.{state_from, no_edit, edit_in, batch_in}
+use Rattle.job_json.specs.Kept.{AreRead}
+
+-- an edit whose texts stand in the input
+abbrev pub lent_seen : LentEdit → Edit
+lent_seen (Set node name value) = Document (doc.Set node (chars name.now) (chars value.now))
+lent_seen (Unset node name) = Document (doc.Unset node (chars name.now))
+lent_seen (State node state on) = Document (doc.State node state on)
+
+-- the members of an edit
+pub record IsEditOf (s : EditParts) (ms : Members) : Type 0 where
+  pub op : option_map (λ t. t.now) s.op ≡ option_and_then as_str (get_member (codes "op") ms)
+  pub node : s.node ≡ option_and_then whole (get_member (codes "node") ms)
+  pub name : option_map (λ t. chars t.now) s.name ≡ option_and_then name_of (get_member (codes "name") ms)
+  pub value : option_map (λ t. t.now) s.value ≡ option_and_then as_str (get_member (codes "value") ms)
+  pub state : s.state ≡ state_from (get_member (codes "state") ms)
+  pub on : s.on ≡ option_and_then as_bool (get_member (codes "on") ms)
+
+abbrev pub set_kept : EditParts → Checked Edit
+set_kept s = do
+  node ← at_member (codes "node") (wanted s.node)
+  name ← at_member (codes "name") (wanted (option_map (λ t. chars t.now) s.name))
+  value ← at_member (codes "value") (wanted (option_map chars (option_map (λ t. t.now) s.value)))
+  Ok (Document (doc.Set node name value))
+
+abbrev pub unset_kept : EditParts → Checked Edit
+unset_kept s = do
+  node ← at_member (codes "node") (wanted s.node)
+  name ← at_member (codes "name") (wanted (option_map (λ t. chars t.now) s.name))
+  Ok (Document (doc.Unset node name))
+
+abbrev pub state_kept : EditParts → Checked Edit
+state_kept s = do
+  node ← at_member (codes "node") (wanted s.node)
+  state ← at_member (codes "state") (wanted s.state)
+  on ← at_member (codes "on") (wanted s.on)
+  Ok (Document (doc.State node state on))
+
+abbrev pub kept_by : List ℕ → EditParts → Checked Edit
+kept_by word s =
+    if bytes_eq word (codes "set") then set_kept s
+    else if bytes_eq word (codes "unset") then unset_kept s
+    else if bytes_eq word (codes "state") then state_kept s
+    else no_edit
+
+abbrev pub edit_kept : EditParts → Checked Edit
+edit_kept s = do
+  word ← at_member (codes "op") (wanted (option_map (λ t. t.now) s.op))
+  kept_by word s
+
+-- edits of which so many are counted
+pub record HasEdits (s : EditItems) (edits : List Edit) : Type 0 where
+  pub count : length edits ≡ s.count
+  pub kept : s.list.items ≡ edits
+
+-- the items of a batch
+abbrev pub AreEditsOf : EditItems → List Data → Type 0
+AreEditsOf s ds = AreRead (λ k. edit_in) s.bad (HasEdits s) ds
+
+-- one more edit
+pub record KeepsEdit (old : EditItems) (edit : Edit) (new : EditItems) : Type 0 where
+  pub bad : new.bad ≡ old.bad
+  pub count : new.count ≡ old.count + 1
+  pub list : new.list.items ≡ old.list.items ++ edit ∷ []
+
+abbrev pub edits_of : Vec Edit Global → List Edit
+edits_of batch = batch.items
+
+-- batches of which so many are counted, and kept as long as there are not too many
+pub record HasBatches (s : BatchItems) (batches : List (List Edit)) : Type 0 where
+  pub count : length batches ≡ s.count
+  pub kept : length batches ≤ batch_limit → map edits_of s.list.items ≡ batches
+
+-- the items of a list of batches
+abbrev pub AreBatchesOf : BatchItems → List Data → Type 0
+AreBatchesOf s ds = AreRead (λ k. batch_in) s.bad (HasBatches s) ds
+
+-- one more batch
+pub record KeepsBatch (old : BatchItems) (batch : Vec Edit Global) (new : BatchItems) : Type 0 where
+  pub bad : new.bad ≡ old.bad
+  pub count : new.count ≡ old.count + 1
+  pub list : new.list.items ≡ (if nat_lt old.count batch_limit then old.list.items ++ batch ∷ [] else old.list.items)

@@ -1,0 +1,157 @@
+-- Lines that are kept, over the edits of a batch, its restyle, and the printing of its elements.
+use Rattle.std.proofs.Common.{◌≡◌, ℕ, ◌==◌, Bool, true, false, List, [], ◌∷◌, ◌++◌, filter, Option, Some, None, IfSome, refl, sym, ap, ◌∙◌, subst}
+use Rattle.std.specs.Prelude.{encode_utf8_all}
+use Rattle.std.specs.List.{AllByRecursion, range_with_len}
+use Rattle.std.proofs.lemmas.Bool.{eqb-true, eqb-false}
+use Rattle.base_model.proofs.Lists.{each_any, each-map}
+use Rattle.scene_model.specs.Element.{Element}
+use Rattle.scene_model.specs.Lookups.{IsElement, is_element, tag_of}
+use Rattle.scene_model.specs.Numbers.{is_in}
+use Rattle.scene_model.proofs.Lists.{each-filter}
+use Rattle.change_model.specs.Sound.{IsSound}
+use Rattle.value_model.specs.Style.{Style}
+use Rattle.edit_model.specs.Edit.{Edit, DocEdit, IsShaped, IsShapedEdit, SheetEdit, of_document, of_sheets}
+use Rattle.edit_model.specs.Refusal.{Outcome, Refusal, accepted, outcome_of, refused}
+use Rattle.edit_model.specs.Apply.{after, refusal}
+use Rattle.edit_model.specs.SheetApply.{sheet_refusal, sheets_after, last_after}
+use Rattle.edit_model.specs.Steady.{SameTags}
+use Rattle.edit_model.proofs.Accepted.{tags-after}
+use Rattle.session_model.specs.Standing.{Scene, Standing, change_of, edited, edited_by, elements_of, is_cascaded, kept_at, listed_at, restyled, rising, scene_applied, sheet_list, style_in, with_document, with_sheets}
+use Rattle.session_model.specs.StandingInvariant.{IsReached, at_start, by_edit, by_restyle}
+use Rattle.session_model.specs.Batches.{edited_all}
+use Rattle.session_model.proofs.BatchLemmas.{edited_all-reached}
+use Rattle.session_model.proofs.InvariantLemmas.{keeps-reached, sound-reached}
+use Rattle.session_model.proofs.KeepsLemmas.{kept-changed}
+use Rattle.session_model.proofs.ListedLemmas.{among-numbers, listed-other}
+use Rattle.session_model.proofs.RestyleLemmas.{kept-others}
+use Rattle.report_text.specs.Lines.{element_line}
+use Rattle.report_text.proofs.AppendLemmas.{alone}
+use Rattle.style_cli.specs.KeptLines.{kept_line}
+use Rattle.style_cli.specs.Printing.{Serves}
+
+-- what is kept is of elements
+
+abbrev IsThere : List Element → ℕ × Style → Type 0
+IsThere els e = is_element els e.0 ≡ true
+
+there_by : (st : Standing) (edit : Edit) (o : Outcome Scene) → AllByRecursion (IsThere (elements_of st.scene)) st.kept → AllByRecursion (IsThere (elements_of (edited_by st edit o).scene)) (edited_by st edit o).kept
+there_by st edit (refused why) all = all
+there_by st edit (accepted now) all =
+    each-filter (IsThere (elements_of st.scene)) (IsThere (elements_of now)) (λ e. is_element (elements_of now) e.0) (λ e there _. there) st.kept all
+
+all_there : (st : Standing) → IsReached st → AllByRecursion (IsThere (elements_of st.scene)) st.kept
+all_there st (at_start scene sound) = tt
+all_there st (by_edit old edit w reached) =
+    there_by old edit (scene_applied old.scene edit) (all_there old reached)
+all_there st (by_restyle old reached) =
+    let els = elements_of old.scene in
+    each-map (IsThere els) (λ x. (x, style_in old.scene x)) (rising old.scene.document)
+    (each-filter (λ x. Unit {0}) (λ x. is_element els x ≡ true) (is_element els) (λ x there _. there) (range_with_len 1 old.scene.document.last) (each_any (λ x. Unit {0}) (λ x. tt) (range_with_len 1 old.scene.document.last)))
+
+listed_there : (els : List Element) (x : ℕ) (style : Style) (list : List (ℕ × Style)) → AllByRecursion (IsThere els) list → listed_at list x ≡ Some style → is_element els x ≡ true
+listed_there els x style [] all is = absurd (cc)
+listed_there els x style ((y, s) ∷ list) all is = by (y == x) refl (listed_there els x style list all.1)
+  where
+    by : (b : Bool) → (y == x) ≡ b → (listed_at list x ≡ Some style → is_element els x ≡ true) → is_element els x ≡ true
+    by true e rest = ap (is_element els) (sym (eqb-true y x e)) ∙ all.0
+    by false e rest = rest (sym (listed-other x y s list e) ∙ is)
+
+kept_there : (st : Standing) → IsReached st → (x : ℕ) (style : Style) → kept_at st x ≡ Some style → IsElement (elements_of st.scene) x
+kept_there st reached x style is = listed_there (elements_of st.scene) x style st.kept (all_there st reached) is
+
+-- an edit leaves the tags as they are
+
+document_tags : (old : Scene) → IsSound old.document → (edit : DocEdit) → IsShaped edit → (o : Option Refusal) → refusal old.document edit ≡ o → (now : Scene) → with_document old (outcome_of o (after old.document edit)) ≡ accepted now → SameTags (elements_of old) (elements_of now)
+document_tags old sound edit w None h now e =
+    let same : record old { document = after old.document edit } ≡ now = cc in
+    subst (λ (s : Scene). SameTags (elements_of old) (elements_of s)) same (tags-after old.document sound edit w h)
+document_tags old sound edit w (Some why) h now e = absurd (cc)
+
+sheet_tags : (old : Scene) (edit : SheetEdit) (o : Option Refusal) (now : Scene) → with_sheets old (outcome_of o (record { listed = sheets_after old.last_sheet edit old.sheets; last = last_after old.last_sheet edit })) ≡ accepted now → SameTags (elements_of old) (elements_of now)
+sheet_tags old edit None now e =
+    let same : record old { sheets = sheets_after old.last_sheet edit old.sheets; last_sheet = last_after old.last_sheet edit } ≡ now = cc in
+    subst (λ (s : Scene). SameTags (elements_of old) (elements_of s)) same (λ y here there. refl)
+sheet_tags old edit (Some why) now e = absurd (cc)
+
+scene_tags : (old : Scene) → IsSound old.document → (edit : Edit) → IsShapedEdit edit → (now : Scene) → scene_applied old edit ≡ accepted now → SameTags (elements_of old) (elements_of now)
+scene_tags old sound (of_document edit) w now e =
+    document_tags old sound edit w (refusal old.document edit) refl now e
+scene_tags old sound (of_sheets edit) w now e = sheet_tags old edit (sheet_refusal (sheet_list old) edit) now e
+
+-- the line of an element with a tag, in UTF-8
+abbrev bytes_with : ℕ → List ℕ → Style → List ℕ
+bytes_with x tag style = encode_utf8_all (element_line x tag style)
+
+abbrev IsBytes : Option (List ℕ) → List ℕ → Type 0
+IsBytes o bytes = IfSome o (λ line. line ≡ bytes)
+
+-- edits leave lines that serve
+
+serves_by : (st : Standing) → IsReached st → (edit : Edit) → IsShapedEdit edit → (lines : List (Option (List ℕ))) → Serves st lines → (o : Outcome Scene) → scene_applied st.scene edit ≡ o → Serves (edited_by st edit o) lines
+serves_by st reached edit w lines serves (refused why) e = serves
+serves_by st reached edit w lines serves (accepted now) e = λ x style is.
+    let there = listed_there (elements_of now) x style (filter (λ k. is_element (elements_of now) k.0) st.kept) (there_by st edit (accepted now) (all_there st reached)) is in
+    let before : kept_at st x ≡ Some style = sym (kept-changed st (change_of st.scene edit now) x there) ∙ is in
+    let tags = scene_tags st.scene (sound-reached st reached) edit w now e x (kept_there st reached x style before) there in
+    subst (λ tag. IsBytes (kept_line lines x) (bytes_with x tag style)) tags (serves x style before)
+
+pub serves-edited : (st : Standing) → IsReached st → (edits : List Edit) → AllByRecursion IsShapedEdit edits → (lines : List (Option (List ℕ))) → Serves st lines → Serves (edited_all st edits) lines
+serves-edited st reached [] w lines serves = serves
+serves-edited st reached (edit ∷ edits) w lines serves =
+    serves-edited (edited st edit) (by_edit st edit w.0 reached) edits w.1 lines (serves_by st reached edit w.0 lines serves (scene_applied st.scene edit) refl)
+
+-- and so does a restyle, once the lines of what it cascades are forgotten
+
+weaker_bytes : (new old : Option (List ℕ)) (bytes : List ℕ) → IfSome new (λ line. old ≡ Some line) → IsBytes old bytes → IsBytes new bytes
+weaker_bytes None old bytes left is = tt
+weaker_bytes (Some line) old bytes left is = subst (λ o. IsBytes o bytes) left is
+
+no_bytes : (o : Option (List ℕ)) (bytes : List ℕ) → o ≡ None → IsBytes o bytes
+no_bytes o bytes none = subst (λ p. IsBytes p bytes) (sym none) tt
+
+pub serves-restyled : (st : Standing) → IsReached st → (lines left : List (Option (List ℕ))) (listed : List ℕ) → Serves st lines → ((x : ℕ) → IsElement (elements_of st.scene) x → is_in x listed ≡ is_in x (restyled st).recent) → ((x : ℕ) → is_in x listed ≡ true → kept_line left x ≡ None) → ((x : ℕ) → IfSome (kept_line left x) (λ line. kept_line lines x ≡ Some line)) → Serves (restyled st) left
+serves-restyled st reached lines left listed serves recent gone stays = λ x style is.
+    let there = kept_there (restyled st) (by_restyle st reached) x style is in
+    by x style is there (is_in x listed) refl
+  where
+    by : (x : ℕ) (style : Style) → kept_at (restyled st) x ≡ Some style → IsElement (elements_of st.scene) x → (b : Bool) → is_in x listed ≡ b → IsBytes (kept_line left x) (bytes_with x (tag_of (elements_of st.scene) x) style)
+    by x style is there true e = no_bytes (kept_line left x) (bytes_with x (tag_of (elements_of st.scene) x) style) (gone x e)
+    by x style is there false e =
+        let not_cascaded : is_cascaded st x ≡ false = sym (among-numbers (elements_of st.scene) (is_cascaded st) x there) ∙ (sym (recent x there) ∙ e) in
+        let before : kept_at st x ≡ Some style = sym (kept-others st (sound-reached st reached) (keeps-reached st reached) x there not_cascaded) ∙ is in
+        weaker_bytes (kept_line left x) (kept_line lines x) (bytes_with x (tag_of (elements_of st.scene) x) style) (stays x) (serves x style before)
+
+-- a batch and its restyle
+pub serves-batch : (st now : Standing) → IsReached st → (edits : List Edit) → AllByRecursion IsShapedEdit edits → now ≡ restyled (edited_all st edits) → (lines left : List (Option (List ℕ))) (listed : List ℕ) → Serves st lines → ((x : ℕ) → IsElement (elements_of now.scene) x → is_in x listed ≡ is_in x now.recent) → ((x : ℕ) → is_in x listed ≡ true → kept_line left x ≡ None) → ((x : ℕ) → IfSome (kept_line left x) (λ line. kept_line lines x ≡ Some line)) → Serves now left
+serves-batch st now reached edits w is lines left listed serves recent gone stays =
+    let after = edited_all st edits in
+    let told = subst (λ (s : Standing). (x : ℕ) → IsElement (elements_of s.scene) x → is_in x listed ≡ is_in x s.recent) is recent in
+    subst (λ s. Serves s left) (sym is) (serves-restyled after (edited_all-reached st edits reached w) lines left listed (serves-edited st reached edits w lines serves) told gone stays)
+
+-- a line is made
+pub made_line : (x : ℕ) (start new told tag : List ℕ) (style own : Style) → start ≡ [] → new ≡ start ++ element_line x told style → told ≡ tag → style ≡ own → new ≡ element_line x tag own
+made_line x start new told tag style own empty is tagged same =
+    alone start new (element_line x told style) empty is
+    ∙ (ap (λ t. element_line x t style) tagged ∙ ap (element_line x tag) same)
+
+-- and it is kept
+
+pub serves-kept : (st : Standing) (old new : List (Option (List ℕ))) (n : ℕ) (own : Style) (line : List ℕ) → Serves st old → kept_at st n ≡ Some own → line ≡ encode_utf8_all (element_line n (tag_of (elements_of st.scene) n) own) → IfSome (kept_line new n) (λ kept. kept ≡ line) → ((x : ℕ) → (x ≡ n → ⊥) → kept_line new x ≡ kept_line old x) → Serves st new
+serves-kept st old new n own line serves kept made is others = λ x style at. by x style at (x == n) refl
+  where
+    own_bytes : (x : ℕ) (style : Style) → x ≡ n → kept_at st x ≡ Some style → line ≡ bytes_with x (tag_of (elements_of st.scene) x) style
+    own_bytes x style same at =
+        let own_style : own ≡ style = cc (ap (kept_at st) same) in
+        made ∙ (ap (λ s. bytes_with n (tag_of (elements_of st.scene) n) s) own_style ∙ ap (λ y. bytes_with y (tag_of (elements_of st.scene) y) style) (sym same))
+
+    by : (x : ℕ) (style : Style) → kept_at st x ≡ Some style → (b : Bool) → (x == n) ≡ b → IsBytes (kept_line new x) (bytes_with x (tag_of (elements_of st.scene) x) style)
+    by x style at true e =
+        let same = eqb-true x n e in
+        subst (IsBytes (kept_line new x)) (own_bytes x style same at) (subst (λ y. IsBytes (kept_line new y) line) (sym same) is)
+    by x style at false e =
+        subst (λ o. IsBytes o (bytes_with x (tag_of (elements_of st.scene) x) style)) (sym (others x (eqb-false x n e))) (serves x style at)
+
+-- a line that is kept is that of the element
+pub kept_bytes : (st : Standing) (lines : List (Option (List ℕ))) (x : ℕ) (style : Style) (line : List ℕ) → Serves st lines → kept_at st x ≡ Some style → kept_line lines x ≡ Some line → line ≡ encode_utf8_all (element_line x (tag_of (elements_of st.scene) x) style)
+kept_bytes st lines x style line serves at is =
+    subst (λ o. IsBytes o (bytes_with x (tag_of (elements_of st.scene) x) style)) is (serves x style at)

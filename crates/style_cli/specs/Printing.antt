@@ -1,0 +1,66 @@
+-- What the printer of batches goes by.
+use Rattle.std.specs.Prelude.{◌≡◌, ◌≢◌, ℕ, List, [], ◌++◌, length, map, Option, Some, IfSome, Vec, encode_utf8_all}
+use Rattle.std.specs.List.{AllByRecursion, flat_map}
+use Rattle.std.specs.declared.alloc.Global.{Global}
+use Rattle.scene_model.specs.Element.{Element}
+use Rattle.scene_model.specs.Lookups.{numbers, tag_of}
+use Rattle.value_model.specs.Style.{Style}
+use Rattle.sheet_model.specs.Sources.{Sources, sources_of}
+use Rattle.edit_model.specs.Edit as model_edit
+use Rattle.session_model.specs.Standing.{Scene, Standing, elements_of, kept_at, styles_of}
+use Rattle.session_model.specs.Batches as model
+use Rattle.stylo_base.specs.declared.refusal.EditRefused.TheVariants.{NoMemory}
+use Rattle.dom_edits.specs.declared.edits.Edit.{Edit}
+use Rattle.dom_edits.specs.EditView.{edit_seen, refusal_answered}
+use Rattle.report_text.specs.Lines.{batch_line, element_line, refused_line}
+use Rattle.style_cli.specs.Text.{line_at}
+use Rattle.style_cli.specs.KeptLines.{kept_line}
+use Rattle.style_cli.specs.declared.batch.Heading.{Heading}
+use Rattle.style_cli.specs.declared.batch.RefusedEdit.{RefusedEdit}
+
+-- the edits of a batch, and of batches
+abbrev pub edits_seen : List Edit → List model_edit.Edit
+edits_seen edits = map edit_seen edits
+
+abbrev pub batches_seen : List (Vec Edit Global) → List (List model_edit.Edit)
+batches_seen batches = map (λ (batch : Vec Edit Global). edits_seen batch.items) batches
+
+-- a refused edit, as it is answered
+abbrev pub answered : model.RefusedEdit → RefusedEdit
+answered one = record { place = one.place; why = refusal_answered one.why }
+
+-- none was refused for want of memory
+abbrev pub AreRefused : List RefusedEdit → Type 0
+AreRefused list = AllByRecursion (λ (one : RefusedEdit). one.why ≢ NoMemory) list
+
+-- lines in UTF-8: of a refused edit, and of an element
+abbrev pub refused_bytes : RefusedEdit → List ℕ
+refused_bytes one = encode_utf8_all (refused_line one.place one.why)
+
+abbrev pub line_bytes : List Element → Sources → ℕ → List ℕ
+line_bytes doc sources x = encode_utf8_all (line_at doc sources x)
+
+-- those of all elements, in tree order
+abbrev pub elements_bytes : Scene → List ℕ
+elements_bytes scene =
+    flat_map (line_bytes (elements_of scene) (sources_of scene.sheets)) (numbers (elements_of scene))
+
+-- the line of a batch and those of its refused edits
+abbrev pub heading_bytes : ℕ → Heading → List ℕ
+heading_bytes number heading =
+    let counts = heading.counts in
+    let line = batch_line number heading.accepted (length heading.refused.items) counts.matched counts.cascaded in
+    encode_utf8_all line ++ flat_map refused_bytes heading.refused.items
+
+-- nothing is marked or fresh, and the style of each element is kept
+pub record IsSettled (st : Standing) : Type 0 where
+  pub marked : st.marked ≡ []
+  pub fresh : st.fresh ≡ []
+  pub kept : st.kept ≡ styles_of st.scene
+
+-- each line that is kept is that of the style that is kept
+abbrev pub Serves : Standing → List (Option (List ℕ)) → Type 0
+Serves st lines =
+    (x : ℕ) (style : Style) → kept_at st x ≡ Some style
+    → IfSome (kept_line lines x)
+    (λ line. line ≡ encode_utf8_all (element_line x (tag_of (elements_of st.scene) x) style))

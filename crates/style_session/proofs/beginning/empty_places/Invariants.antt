@@ -1,6 +1,0 @@
-use Rattle.std.proofs.Common.{◌≡◌, length}
-use Rattle.style_session.specs.SessionView.{AreEmpty}
-use Rattle.style_session.proofs.beginning.empty_places.Given as goal
-
-abbrev pub invariant-loop : goal.invariant-loop
-invariant-loop l = record { places : length l.kept.items ≡ l.counter; empty : AreEmpty l.kept.items }

@@ -1,0 +1,55 @@
+-- What a first walk in tree order has found out.
+use Rattle.std.specs.Prelude.{◌≡◌, ℕ, ◌<◌, ◌==◌, List, length, true, if◌then◌else◌, min, Option, Some, slice_get, slice_set}
+use Rattle.std.specs.declared.sync.Arc.{Arc}
+use Rattle.scene_model.specs.Element.{Element}
+use Rattle.scene_model.specs.Lookups.{IsElement, numbers}
+use Rattle.scene_model.specs.Numbers.{is_in}
+use Rattle.value_model.specs.Style.{Style}
+use Rattle.invalidation_map.specs.Steps.{HasRoom}
+use Rattle.session_model.specs.Standing.{Scene, elements_of, root_size_in, style_in}
+use Rattle.style_session.specs.SessionView.{slot_at}
+use Rattle.style_session.specs.declared.style_cache.StyleCache.{StyleCache}
+use Rattle.style_session.specs.declared.first_walk.FirstStyles.{FirstStyles}
+use Rattle.style_session.specs.declared.first_walk.FirstWalk.{FirstWalk}
+
+-- in place of the number of a style that is not known
+abbrev pub unknown : ℕ
+unknown = 4294967295
+
+-- the number that is kept of a style
+abbrev pub place_of : ℕ → ℕ
+place_of style = min style unknown
+
+-- the styles of all elements, at their places by number, and the numbers in tree order
+pub record AreAll (scene : Scene) (made : FirstStyles) : Type 0 where
+  pub styles : (x : ℕ) → IsElement (elements_of scene) x → slot_at made.kept.items x ≡ Some (style_in scene x)
+  pub places : HasRoom (elements_of scene) (length made.kept.items)
+  pub order : made.numbers.items ≡ numbers (elements_of scene)
+
+-- these elements have their styles at their places
+abbrev pub AreKept : {A : Type 0} → Scene → List ℕ → List (Option (Arc Style A)) → Type 0
+AreKept scene front kept = (x : ℕ) → is_in x front ≡ true → slot_at kept x ≡ Some (style_in scene x)
+
+-- where a number is kept of an element's style, it is the one of this style in the table
+abbrev pub IsRight : List Style → List ℕ → ℕ → Style → Type 0
+IsRight table known x own = (n : ℕ) → slice_get known x ≡ Some n → n < unknown → slice_get table n ≡ Some own
+
+-- There are places for all elements, and the numbers that are kept are right. What is known is for the root's font
+-- size.
+pub record IsFirstWalk (scene : Scene) (cache : StyleCache) (walk : FirstWalk) : Type 0 where
+  pub places : HasRoom (elements_of scene) (length walk.kept.items)
+  pub room : HasRoom (elements_of scene) (length walk.known.items)
+  pub known : (x : ℕ) → IsRight cache.styler.table walk.known.items x (style_in scene x)
+  pub size : cache.size ≡ root_size_in scene
+
+-- the style of one element more is at its place
+pub record Keeps (x style : ℕ) (own : Style) (old now : FirstWalk) : Type 0 where
+  pub places : length now.kept.items ≡ length old.kept.items
+  pub kept : (y : ℕ) → slot_at now.kept.items y ≡ (if x == y then Some own else slot_at old.kept.items y)
+  pub known : now.known.items ≡ slice_set old.known.items x (place_of style)
+
+-- there are places for all elements, and nothing is known yet
+pub record IsBareFirst (doc : List Element) (walk : FirstWalk) : Type 0 where
+  pub places : HasRoom doc (length walk.kept.items)
+  pub room : HasRoom doc (length walk.known.items)
+  pub known : (x n : ℕ) → slice_get walk.known.items x ≡ Some n → n ≡ unknown
