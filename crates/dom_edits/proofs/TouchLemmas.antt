@@ -3,7 +3,7 @@ use Rattle.std.proofs.Common.{◌≡◌, ◌≢◌, ℕ, zero, suc, ◌+◌, ◌
 use Rattle.std.specs.List.{list_any}
 use Rattle.std.specs.List.Sorted.{IsPartitionedBy, IsPermutation}
 use Rattle.std.proofs.lemmas.List.Sorted.{IsPermutation-map}
-use Rattle.std.proofs.lemmas.Bool.{and_parts, eqb-true, false_from_ne_true, lt-ltb, ltb-true}
+use Rattle.std.proofs.lemmas.Bool.{and_from, and_parts, eq-eqb, eqb-true, false_from_ne_true, lt-ltb, ltb-true}
 use Rattle.std.proofs.lemmas.List.{drop_more, get_or-drop, get_or-take, length-take, map-append, take-append-drop}
 use Rattle.std.proofs.lemmas.List.Folds.{list_any-append}
 use Rattle.std.proofs.lemmas.Slice.Eq.{bytes_eq-Decides}
@@ -22,6 +22,11 @@ same_sound k l h =
     sym (told_code k)
     ∙ (ap (λ n. touch_told n (touch_code k).1) (eqb-true (touch_code k).0 (touch_code l).0 parts.0)
     ∙ (ap (λ t. touch_told (touch_code l).0 t) ((bytes_eq-Decides (touch_code k).1 (touch_code l).1).0 parts.1) ∙ told_code l))
+
+pub same_self : (k : model.Touch) → same_touch k k ≡ true
+same_self k =
+    and_from ((touch_code k).0 == (touch_code k).0) (same_text (touch_code k).1 (touch_code k).1) (eq-eqb (touch_code k).0 (touch_code k).0 refl)
+    ((bytes_eq-Decides (touch_code k).1 (touch_code k).1).1 refl)
 
 -- touches of two keys are two
 pub keys_differ : (k l : model.Touch) → touch_key k ≢ touch_key l → same_touch k l ≡ false

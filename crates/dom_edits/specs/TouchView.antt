@@ -1,5 +1,5 @@
 -- What the touches of the code stand for.
-use Rattle.std.specs.Prelude.{◌≡◌, ℕ, true, zero, suc, List, [], ◌∷◌, map, encode_utf8_all, refl}
+use Rattle.std.specs.Prelude.{◌≡◌, ℕ, ◌<◌, true, zero, suc, List, [], ◌∷◌, length, map, encode_utf8_all, refl}
 use Rattle.std.specs.Coded.{Coded, code_by, coded×, coded_ℕ, coded_list}
 use Rattle.std.specs.List.{flat_map, list_any}
 use Rattle.std.specs.List.Sorted.{IsNonDecreasingBy}
@@ -34,6 +34,14 @@ touch_key model.empty = 3
 -- the keys rise
 abbrev pub AreSorted : List Touch → Type 0
 AreSorted list = IsNonDecreasingBy (λ touch. touch_key (touch_seen touch)) list
+
+-- so many are looked through one by one
+abbrev pub few_touches : ℕ
+few_touches = 8
+
+-- the keys rise, where they are more than a few
+abbrev pub AreSortedIfMany : List Touch → Type 0
+AreSortedIfMany list = few_touches < length list → AreSorted list
 
 -- each of these at each of the elements
 abbrev pub pairs_at : List model.Touch → List ℕ → List (model.Touch × ℕ)

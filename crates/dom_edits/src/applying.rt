@@ -60,7 +60,7 @@ fn set_attribute(
     ensures kept { OnErr result (doc.new ≡ doc.old) }
 {
     let touches = value_touches(alloc, name, doc.attribute(x, name), Some(value))?;
-    let touched = Touched::at_one(alloc, x, touches)?;
+    let touched = Touched::at_one(alloc, x, touches);
     doc.set_attribute(alloc, x, name, value)?;
     Ok(touched)
 }
@@ -74,7 +74,7 @@ fn remove_attribute(alloc: Global, doc: &mut Doc, x: u32, name: &str) -> Result<
     ensures kept { OnErr result (doc.new ≡ doc.old) }
 {
     let touches = value_touches(alloc, name, doc.attribute(x, name), None)?;
-    let touched = Touched::at_one(alloc, x, touches)?;
+    let touched = Touched::at_one(alloc, x, touches);
     doc.remove_attribute(alloc, x, name)?;
     Ok(touched)
 }
@@ -94,7 +94,7 @@ fn set_state(
     ensures kept { OnErr result (doc.new ≡ doc.old) }
 {
     let touches = state_touches(alloc, state, doc.state(x, state), on)?;
-    let touched = Touched::at_one(alloc, x, touches)?;
+    let touched = Touched::at_one(alloc, x, touches);
     doc.set_state(x, state, on);
     Ok(touched)
 }

@@ -43,6 +43,7 @@ impl Touch {
     }
 
     /// Whether two are the same.
+    #[inline]
     pub fn is(&self, other: &Touch) -> bool
         ensures { result ≡ same_touch (touch_seen self.now) (touch_seen other.now) }
     {
@@ -59,10 +60,13 @@ impl Touch {
     }
 }
 
-/// Whether two atoms have the same text.
+/// Whether two atoms have the same text. Most that differ are told apart by their keys.
 fn is_same_atom(one: &Atom, other: &Atom) -> bool
     ensures { result ≡ same_text one.now other.now }
 {
+    if one.key() != other.key() {
+        return false;
+    }
     one.as_str() == other.as_str()
 }
 

@@ -126,6 +126,7 @@ fn id_among(names: &Names, value: Option<Name>) -> Option<Name>
 }
 
 /// The class list of a value of `class`, if there is one.
+#[inline(always)]
 fn classes_for(
     names: &Names,
     value: Option<Name>,

@@ -1,5 +1,5 @@
 -- Sets that grow by what is listed, and by what bears a key.
-use Rattle.std.proofs.Common.{◌≡◌, ℕ, ◌+◌, ◌<◌, ◌==◌, ◌||◌, ◌&&◌, Bool, true, false, List, [], ◌∷◌, length, take, get_or, refl, sym, ap, ◌∙◌, subst, inl, inr}
+use Rattle.std.proofs.Common.{◌≡◌, ℕ, ◌+◌, ◌<◌, ◌==◌, ◌||◌, ◌&&◌, Bool, true, false, List, [], ◌∷◌, Option, Some, None, length, take, get_or, refl, sym, ap, ◌∙◌, subst, inl, inr}
 use Rattle.std.specs.Cmp.{both_ways}
 use Rattle.std.specs.List.{list_any}
 use Rattle.std.specs.Option.{option_map_or}
@@ -22,7 +22,9 @@ use Rattle.edit_model.specs.Dependencies.{Step, reaches}
 use Rattle.invalidation_map.specs.Members.{Members, AreAdded, added}
 use Rattle.invalidation_map.specs.Steps.{AreElements}
 use Rattle.invalidation_map.specs.Paths.{AreReached}
-use Rattle.invalidation_map.specs.Rows.{Row, is_led_to, marks_by_row}
+use Rattle.invalidation_map.specs.Rows.{Row, is_led_to, marks_by_row, marks_here}
+use Rattle.dom_edits.proofs.TouchLemmas.{same_self, same_sound}
+use Rattle.invalidation_map.specs.SharedRows.{IsAlone}
 use Rattle.invalidation_map.specs.Marks.{AreAtElements, IsGrown}
 use Rattle.invalidation_map.proofs.SetLemmas.{one_added, or_no}
 
@@ -144,3 +146,48 @@ module _ (doc : List Element) (pairs : List (Touch × ℕ)) (row : Row) (element
     where
       here : (y : ℕ) → is_in y first.items ≡ is_listed pairs row.touch y
       here = begins doc pairs row.touch elements listed cleared first none more
+
+  -- one without a path marks those of its elements that bear its key or bore it
+  pub here_by_row : (path : List Step) (key : Key) (m n : Members) → AreAtElements doc pairs → path ≡ [] → path ≡ row.path → key ≡ row.key
+      → IsGrown (marks_here doc pairs row.touch key) m n → IsGrown (marks_by_row doc pairs row) m n
+  here_by_row path key m n are none way alike grown =
+      grown_same (marks_here doc pairs row.touch key) (marks_by_row doc pairs row) m n (λ x.
+      ap (λ k. bears_around (is_listed pairs) doc k x && is_listed pairs row.touch x) alike
+      ∙ ap (λ c. bears_around (is_listed pairs) doc row.key x && c)
+      (sym (listed x)
+      ∙ (led_from doc pairs row.touch elements listed [] x (listed_elements doc pairs row.touch elements listed are)
+      ∙ ap (λ p. is_led_to doc pairs row.touch p x) (sym none ∙ way)))) grown
+
+-- by a touch at elements
+
+absorbed : (a b : Bool) → b ≡ ((a || b) && b)
+absorbed true b = refl
+absorbed false true = refl
+absorbed false false = refl
+
+module _ (doc : List Element) (pairs : List (Touch × ℕ)) (touch : Touch) (elements : List ℕ) (listed : (y : ℕ) → is_in y elements ≡ is_listed pairs touch y) (key : Key) where
+  -- what is touched in a key bears it, or bore it
+  all_bear : (o : Option Touch) (x : ℕ) → option_map_or (λ bearing. same_touch bearing touch) o false ≡ true
+      → is_listed pairs touch x ≡ ((bears doc key x || option_map_or (λ k. is_listed pairs k x) o false) && is_listed pairs touch x)
+  all_bear None x h = absurd (false≢true h)
+  all_bear (Some k) x h =
+      absorbed (bears doc key x) (is_listed pairs touch x)
+      ∙ ap (λ k. (bears doc key x || is_listed pairs k x) && is_listed pairs touch x) (sym (same_sound k touch h))
+
+  pub here_all : (m n : Members) → option_map_or (λ bearing. same_touch bearing touch) (touch_of_key key) false ≡ true → AreAdded elements m n → IsGrown (marks_here doc pairs touch key) m n
+  here_all m n h more =
+      grown_added (marks_here doc pairs touch key) elements m n more (λ x. listed x ∙ all_bear (touch_of_key key) x h)
+
+  pub here_bearing : (bearing : List ℕ) (m n : Members) → ((x : ℕ) → is_in x bearing ≡ option_map_or (λ touch. is_listed pairs touch x) (touch_of_key key) false)
+      → IsGrown (λ x. (bears doc key x || is_in x bearing) && is_in x elements) m n → IsGrown (marks_here doc pairs touch key) m n
+  here_bearing bearing m n borne grown =
+      grown_same (λ x. (bears doc key x || is_in x bearing) && is_in x elements) (marks_here doc pairs touch key) m n (λ x.
+      ap (λ c. (bears doc key x || c) && is_in x elements) (borne x)
+      ∙ ap (λ c. bears_around (is_listed pairs) doc key x && c) (listed x)) grown
+
+-- one that has the touch of its key, and no path, marks all its elements
+pub alone_by_row : (doc : List Element) (pairs : List (Touch × ℕ)) (row : Row) (elements : List ℕ) → ((y : ℕ) → is_in y elements ≡ is_listed pairs row.touch y)
+    → (m n : Members) → AreAtElements doc pairs → IsAlone row → AreAdded elements m n → IsGrown (marks_by_row doc pairs row) m n
+alone_by_row doc pairs row elements listed m n are alone more =
+    here_by_row doc pairs row elements listed [] row.key m n are refl (sym alone.path) refl
+    (here_all doc pairs row.touch elements listed row.key m n (ap (λ o. option_map_or (λ bearing. same_touch bearing row.touch) o false) alone.key ∙ same_self row.touch) more)

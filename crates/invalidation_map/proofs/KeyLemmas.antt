@@ -1,33 +1,32 @@
--- Rows in the order of the keys of their touches: those of one key are found, and all others mark nothing.
-use Rattle.std.proofs.Common.{◌≡◌, ℕ, zero, suc, ◌+◌, ◌<◌, ◌≤◌, ◌==◌, ◌||◌, ◌&&◌, Bool, true, false, List, [], ◌∷◌, ◌++◌, length, map, take, drop, get_or, refl, sym, ap, ◌∙◌, subst, inl, inr, arith, length-drop, ltb}
+-- Rows with the keys of their touches: those of one key are found, and all others mark nothing.
+use Rattle.std.proofs.Common.{◌≡◌, ℕ, zero, suc, ◌+◌, ◌<◌, ◌≤◌, ◌==◌, ◌||◌, ◌&&◌, Bool, true, false, List, [], ◌∷◌, ◌++◌, length, map, take, drop, get_or, refl, sym, ap, ◌∙◌, subst, inl, inr, arith, length-drop}
 use Rattle.std.specs.List.{list_any}
-use Rattle.std.specs.List.Sorted.{IsNonDecreasingBy, IsPartitionedBy}
 use Rattle.std.proofs.Math.Bool.{or_assoc}
-use Rattle.std.proofs.lemmas.Bool.{and_from, and_parts, and_right, eq-eqb, false≢true, lt-ltb, ltb-true, or_cases, or_left, or_right}
-use Rattle.std.proofs.lemmas.List.{get_or-drop, get_or-take, length-take, take-append-drop, take_all, take_more}
+use Rattle.std.proofs.lemmas.Bool.{and_from, and_parts, and_right, eq-eqb, false≢true, or_cases, or_left, or_right}
+use Rattle.std.proofs.lemmas.List.{get_or-drop, get_or-map, get_or-take, length-map, length-take, take-append-drop, take_all, take_more}
 use Rattle.std.proofs.lemmas.List.Folds.{list_any-append}
 use Rattle.scene_model.specs.Element.{Element}
 use Rattle.scene_model.specs.Lookups.{numbers}
 use Rattle.scene_model.specs.Numbers.{is_in}
 use Rattle.scene_model.proofs.Any.{any_in}
 use Rattle.scene_model.proofs.Found.{any-map}
-use Rattle.scene_model.proofs.Numbers.{differs}
 use Rattle.edit_model.specs.Touched as model
 use Rattle.edit_model.specs.TouchedBy.{is_listed, same_touch}
 use Rattle.edit_model.specs.Dependencies.{reaches}
 use Rattle.edit_model.specs.MarkedAfter.{bears_around}
 use Rattle.edit_model.proofs.AfterLemmas.{never, never_by}
 use Rattle.dom_edits.specs.declared.touch.Touch.{Touch}
-use Rattle.dom_edits.proofs.TouchLemmas.{keys_differ}
-use Rattle.dom_edits.specs.TouchView.{AreAllTouches, touch_key, touch_seen}
+use Rattle.dom_edits.proofs.TouchLemmas.{among-seen, at_given, keys_differ, met_among, same_self}
+use Rattle.dom_edits.specs.TouchView.{AreAllTouches, pairs_at, touch_key, touch_seen}
 use Rattle.invalidation_map.specs.declared.shared.DependencyRow.{DependencyRow}
 use Rattle.invalidation_map.specs.declared.shared.Shared.{Shared}
 use Rattle.invalidation_map.specs.Members.{Members}
 use Rattle.invalidation_map.specs.Rows.{Row, is_led_to, marks_by_row, marks_by_touch}
-use Rattle.invalidation_map.specs.SharedRows.{AreFrom, row_seen, rows_seen}
+use Rattle.invalidation_map.specs.SharedRows.{row_seen, rows_seen}
+use Rattle.invalidation_map.specs.KeyBuckets.{IsNear}
 use Rattle.invalidation_map.specs.Marks.{IsGrown}
 use Rattle.invalidation_map.proofs.SetLemmas.{or_no}
-use Rattle.invalidation_map.proofs.GrowthLemmas.{grown_same}
+use Rattle.invalidation_map.proofs.GrowthLemmas.{grown_itself, grown_same}
 use Rattle.invalidation_map.proofs.MarkLemmas.{any_alike}
 
 -- in any list
@@ -36,17 +35,6 @@ none_at : {X : Type 0} (f : X → Bool) (xs : List X) → ((i : ℕ) (d : X) →
 none_at f [] h = refl
 none_at f (x ∷ xs) h =
     ap (λ b. b || list_any f xs) (h 0 x (omega arith)) ∙ none_at f xs (λ i d l. h (suc i) d (omega arith))
-
--- what is passed over doesn't count
-near_any : {X : Type 0} (f : X → Bool) (list near : List X) (first i : ℕ) → near ≡ drop first list → ((j : ℕ) (d : X) → j < length (take first list) → f (get_or (take first list) j d) ≡ false) → ((j : ℕ) (d : X) → j < length (drop i near) → f (get_or (drop i near) j d) ≡ false) → list_any f (take i near) ≡ list_any f list
-near_any f list near first i e before after =
-    or_no (list_any f (take i near))
-    ∙ (ap (λ b. list_any f (take i near) || b) (sym (none_at f (drop i near) after))
-    ∙ (sym (list_any-append f (take i near) (drop i near))
-    ∙ (ap (list_any f) (take-append-drop i near ∙ e)
-    ∙ (ap (λ b. b || list_any f (drop first list)) (sym (none_at f (take first list) before))
-    ∙ (sym (list_any-append f (take first list) (drop first list))
-    ∙ ap (list_any f) (take-append-drop first list))))))
 
 any_weaker : {X : Type 0} (p q : X → Bool) → ((x : X) → p x ≡ true → q x ≡ true) → (xs : List X) → list_any p xs ≡ true → list_any q xs ≡ true
 any_weaker p q w [] h = h
@@ -71,39 +59,10 @@ exchange r [] ys = sym (never ys)
 exchange r (x ∷ xs) ys =
     ap (λ b. list_any (r x) ys || b) (exchange r xs ys) ∙ sym (or_each (r x) (λ y. list_any (λ z. r z y) xs) ys)
 
--- sorted by a key
-
-module _ {X : Type 0} (key : X → ℕ) (h : ℕ) (list : List X) (sorted : IsNonDecreasingBy key list) where
-  -- a smaller key stays smaller to the left
-  pub is_parted : IsPartitionedBy (λ x. ltb (key x) h) list
-  is_parted i j d l m t =
-      let rises : key (get_or list i d) ≤ key (get_or list j d) = sorted i j d l m in
-      let less : key (get_or list j d) < h = ltb-true (key (get_or list j d)) h t in
-      lt-ltb (key (get_or list i d)) h (omega (arith, rises, less))
-
-  before : (first : ℕ) → ((j : ℕ) (d : X) → j < first → key (get_or list j d) < h) → (j : ℕ) (d : X) → j < length (take first list) → (key (get_or (take first list) j d) == h) ≡ false
-  before first less j d l =
-      let low : j < first = omega (arith, length-take first list) in
-      let small : key (get_or list j d) < h = less j d low in
-      subst (λ x. (key x == h) ≡ false) (sym (get_or-take first list j d low)) (differs (key (get_or list j d)) h (λ same. omega (arith, same, small)))
-
-  get_any : (xs : List X) (n : ℕ) (c d : X) → n < length xs → get_or xs n c ≡ get_or xs n d
-  get_any [] n c d l = absurd (omega arith)
-  get_any (x ∷ xs) zero c d l = refl
-  get_any (x ∷ xs) (suc n) c d l = get_any xs n c d (omega arith)
-
-  module _ (near : List X) (first i : ℕ) (e : near ≡ drop first list) (x : X) (is : x ≡ get_or near i x) where
-    place : x ≡ get_or list (first + i) x
-    place = is ∙ (ap (λ l. get_or l i x) e ∙ get_or-drop first list i x)
-
-    after : h < key x → (j : ℕ) (d : X) → j < length (drop i near) → (key (get_or (drop i near) j d) == h) ≡ false
-    after larger j d l =
-        let there : first + (i + j) < length list = omega (arith, l, length-drop i near, length-drop first list, ap length e) in
-        let far : get_or (drop i near) j d ≡ get_or list (first + (i + j)) d = get_or-drop i near j d ∙ (ap (λ ys. get_or ys (i + j) d) e ∙ get_or-drop first list (i + j) d) in
-        let here : key x ≡ key (get_or list (first + i) d) = ap {B = ℕ} key (place ∙ get_any list (first + i) x d (omega (arith, there))) in
-        let rises : key (get_or list (first + i) d) ≤ key (get_or list (first + (i + j)) d) = sorted (first + i) (first + (i + j)) d (omega arith) there in
-        subst (λ y. (key y == h) ≡ false) (sym far)
-        (differs (key (get_or list (first + (i + j)) d)) h (λ same. omega (arith, same, rises, here, larger)))
+get_any : {X : Type 0} (xs : List X) (n : ℕ) (c d : X) → n < length xs → get_or xs n c ≡ get_or xs n d
+get_any [] n c d l = absurd (omega arith)
+get_any (x ∷ xs) zero c d l = refl
+get_any (x ∷ xs) (suc n) c d l = get_any xs n c d (omega arith)
 
 -- a set that grows by something, and then by each of a list
 pub grown_next : {X : Type 0} (base : ℕ → Bool) (f : X → ℕ → Bool) (near : List X) (i : ℕ) (x : X) (g : ℕ → Bool) (m n o : Members) → i < length near → x ≡ get_or near i x → ((y : ℕ) → g y ≡ f x y) → IsGrown (λ y. base y || list_any (λ x. f x y) (take i near)) m n → IsGrown g n o → IsGrown (λ y. base y || list_any (λ x. f x y) (take (i + 1) near)) m o
@@ -127,8 +86,15 @@ key_at row = touch_key (touch_seen row.touch)
 -- touches
 
 -- one with another key is another
-other_key : (k l : model.Touch) (h : ℕ) → h ≡ touch_key l → (touch_key k == h) ≡ false → same_touch k l ≡ false
+pub other_key : (k l : model.Touch) (h : ℕ) → h ≡ touch_key l → (touch_key k == h) ≡ false → same_touch k l ≡ false
 other_key k l h is differ = keys_differ k l (λ e. false≢true (sym differ ∙ eq-eqb (touch_key k) h (e ∙ sym is)))
+
+-- each of the touches of an edit is at each of its elements
+pub part_listed : (touches : List Touch) (elements : List ℕ) (pairs : List (model.Touch × ℕ)) (i : ℕ) (touch : Touch) → pairs ≡ pairs_at (map touch_seen touches) elements
+    → i < length touches → touch ≡ get_or touches i touch → (y : ℕ) → is_in y elements ≡ is_listed pairs (touch_seen touch) y
+part_listed touches elements pairs i touch e l is y =
+    let k = touch_seen touch in
+    at_given touches elements pairs k true (sym e) (among-seen k touches ∙ met_among touches touches 0 i touch k refl l is (same_self k)) y
 
 module _ (doc : List Element) (pairs : List (model.Touch × ℕ)) where
   -- what a row marks, if it is one of the touch
@@ -141,27 +107,58 @@ module _ (doc : List Element) (pairs : List (model.Touch × ℕ)) where
   pub hit_none : (shared : Shared) (k : model.Touch) (row : DependencyRow) → same_touch (touch_seen row.touch) k ≡ false → (x : ℕ) → false ≡ hits shared k row x
   hit_none shared k row e x = ap (λ b. b && marks_by_row doc pairs (row_seen shared row) x) (sym e)
 
-  module _ (shared : Shared) (k : model.Touch) (h : ℕ) (is_key : h ≡ touch_key k) (list near : List DependencyRow) (sorted : IsNonDecreasingBy key_at list) (from : AreFrom h list near) (i : ℕ) (m n : Members) (grown : IsGrown (λ x. list_any (λ row. hits shared k row x) (take i near)) m n) where
-    by_all : ((j : ℕ) (d : DependencyRow) → j < length (drop i near) → (key_at (get_or (drop i near) j d) == h) ≡ false) → IsGrown (marks_by_touch doc pairs (rows_seen shared list) k) m n
-    by_all behind = record {
-      room = grown.room;
-      each = λ x.
-          grown.each x
-          ∙ ap (λ b. is_in x m.items || b)
-          (near_any (λ row. hits shared k row x) list near from.first i from.rest (λ j d l. missed x (get_or (take from.first list) j d) (before key_at h list sorted from.first (λ q c b. from.parted.0 q c (omega arith) b) j d l)) (λ j d l. missed x (get_or (drop i near) j d) (behind j d l))
-          ∙ sym (any-map (λ (row : Row). same_touch row.touch k && marks_by_row doc pairs row x) (row_seen shared) list));
-    }
+  -- one that is not of the touch marks nothing
+  pub grown_passed : (shared : Shared) (k : model.Touch) (rows : List DependencyRow) (i : ℕ) (m n : Members) → i < length rows
+      → ((d : DependencyRow) → same_touch (touch_seen (get_or rows i d).touch) k ≡ false) → IsGrown (λ x. list_any (λ row. hits shared k row x) (take i rows)) m n
+      → IsGrown (λ x. list_any (λ row. hits shared k row x) (take (i + 1) rows)) m n
+  grown_passed shared k [] i m n l other grown = absurd (omega arith)
+  grown_passed shared k (first ∷ rest) i m n l other grown =
+      let rows = first ∷ rest in
+      let row = get_or rows i first in
+      grown_next (λ (y : ℕ). false) (hits shared k) rows i row (λ (y : ℕ). false) m n n l (get_any rows i first row l) (hit_none shared k row (other first)) grown (grown_itself n)
+
+  module _ (shared : Shared) (k : model.Touch) (h : ℕ) (is_key : h ≡ touch_key k) (rows : List DependencyRow) (keys : List ℕ) (keyed : keys ≡ map key_at rows)
+      (first past : ℕ) (near : IsNear h keys first past) where
+    as_many : length keys ≡ length rows
+    as_many = ap length keyed ∙ length-map rows key_at
+
+    pub in_rows : (i : ℕ) → i < past → i < length rows
+    in_rows i l = omega (arith, near.within, as_many)
+
+    missed : (i : ℕ) (d : DependencyRow) → i < length rows → (get_or keys i 0 == h) ≡ false → (x : ℕ) → hits shared k (get_or rows i d) x ≡ false
+    missed i d l other x =
+        let here : get_or keys i 0 ≡ key_at (get_or rows i d) = ap (λ ks. get_or ks i 0) keyed ∙ get_or-map key_at rows i d 0 l in
+        sym (hit_none shared k (get_or rows i d) (other_key (touch_seen (get_or rows i d).touch) k h is_key (subst (λ n. (n == h) ≡ false) here other)) x)
+
+    -- those before the bucket of the touch mark nothing
+    pub begun : (m : Members) → IsGrown (λ x. list_any (λ row. hits shared k row x) (take first rows)) m m
+    begun m = grown_same (λ x. false) (λ x. list_any (λ row. hits shared k row x) (take first rows)) m m (λ x. sym (none_at (λ row. hits shared k row x) (take first rows) (none x))) (grown_itself m)
       where
-        missed : (x : ℕ) (row : DependencyRow) → (key_at row == h) ≡ false → hits shared k row x ≡ false
-        missed x row f = sym (hit_none shared k row (other_key (touch_seen row.touch) k h is_key f) x)
+        none : (x i : ℕ) (d : DependencyRow) → i < length (take first rows) → hits shared k (get_or (take first rows) i d) x ≡ false
+        none x i d l =
+            let low : i < first = omega (arith, l, length-take first rows) in
+            let there : i < length rows = omega (arith, l, length-take first rows) in
+            subst (λ row. hits shared k row x ≡ false) (sym (get_or-take first rows i d low))
+            (missed i d there (near.before i 0 low (omega (arith, there, as_many))) x)
 
-    -- where one has a larger key
-    pub by_touch_until : (row : DependencyRow) → row ≡ get_or near i row → h < key_at row → IsGrown (marks_by_touch doc pairs (rows_seen shared list) k) m n
-    by_touch_until row is larger = by_all (after key_at h list sorted near from.first i from.rest row is larger)
+    -- nor do those after it
+    pub by_touch_all : (i : ℕ) (m n : Members) → past ≤ i → IsGrown (λ x. list_any (λ row. hits shared k row x) (take i rows)) m n → IsGrown (marks_by_touch doc pairs (rows_seen shared rows) k) m n
+    by_touch_all i m n ends grown =
+        grown_same (λ x. list_any (λ row. hits shared k row x) (take i rows)) (marks_by_touch doc pairs (rows_seen shared rows) k) m n
+        (λ x. all x ∙ sym (any-map (λ (row : Row). same_touch row.touch k && marks_by_row doc pairs row x) (row_seen shared) rows)) grown
+      where
+        none : (x j : ℕ) (d : DependencyRow) → j < length (drop i rows) → hits shared k (get_or (drop i rows) j d) x ≡ false
+        none x j d l =
+            let there : i + j < length rows = omega (arith, l, length-drop i rows) in
+            subst (λ row. hits shared k row x ≡ false) (sym (get_or-drop i rows j d))
+            (missed (i + j) d there (near.behind (i + j) 0 (omega (arith, ends)) (omega (arith, there, as_many))) x)
 
-    -- where none is left
-    pub by_touch_all : length near ≤ i → IsGrown (marks_by_touch doc pairs (rows_seen shared list) k) m n
-    by_touch_all none = by_all (λ j d l. absurd (omega (arith, length-drop i near, l, none)))
+        all : (x : ℕ) → list_any (λ row. hits shared k row x) (take i rows) ≡ list_any (λ row. hits shared k row x) rows
+        all x =
+            or_no (list_any (λ row. hits shared k row x) (take i rows))
+            ∙ (ap (λ b. list_any (λ row. hits shared k row x) (take i rows) || b) (sym (none_at (λ row. hits shared k row x) (drop i rows) (none x)))
+            ∙ (sym (list_any-append (λ row. hits shared k row x) (take i rows) (drop i rows))
+            ∙ ap (list_any (λ row. hits shared k row x)) (take-append-drop i rows)))
 
   -- by all that is touched
 

@@ -6,6 +6,7 @@ pub mod DescentLemmas
 pub mod PathLemmas
 pub mod GrowthLemmas
 pub mod MarkLemmas
+pub mod BucketLemmas
 pub mod KeyLemmas
 pub mod RowLemmas
 pub mod SharedLemmas

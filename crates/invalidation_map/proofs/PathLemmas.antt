@@ -1,8 +1,8 @@
 -- Walks along paths.
-use Rattle.std.proofs.Common.{◌≡◌, ℕ, ◌+◌, ◌<◌, ◌||◌, ◌&&◌, true, List, [], ◌∷◌, length, drop, get_or, sym, ap, ◌∙◌, subst, add-one, drop-cons}
+use Rattle.std.proofs.Common.{◌≡◌, ℕ, ◌+◌, ◌<◌, ◌==◌, ◌||◌, ◌&&◌, true, List, [], ◌∷◌, length, drop, get_or, refl, sym, ap, ◌∙◌, subst, arith, add-one, drop-cons}
 use Rattle.std.specs.Cmp.{both_ways}
 use Rattle.std.specs.List.{list_any}
-use Rattle.std.proofs.lemmas.Bool.{and_parts, and_from}
+use Rattle.std.proofs.lemmas.Bool.{and_parts, and_from, eqb-true}
 use Rattle.scene_model.specs.Element.{Element}
 use Rattle.scene_model.specs.Lookups.{IsElement, numbers}
 use Rattle.scene_model.specs.Valid.{IsValid}
@@ -27,6 +27,10 @@ pub record IsAhead (doc : List Element) (path ahead : List Step) (first now : Li
 
 drop_ahead : (path : List PathStep) (i : ℕ) (d : PathStep) → i < length path → path_of (drop i path) ≡ step_of (get_or path i d) ∷ path_of (drop (i + 1) path)
 drop_ahead path i d l = ap path_of (drop-cons path i d l ∙ ap (λ n. get_or path i d ∷ drop n path) (sym (add-one i)))
+
+pub no_path : (path : List PathStep) → (length path == 0) ≡ true → path_of path ≡ []
+no_path [] h = refl
+no_path (step ∷ path) h = absurd (omega (arith, eqb-true (length (step ∷ path)) 0 h))
 
 module _ (doc : List Element) (v : IsValid doc) where
   pub step_elements : (k : Combinator) (from : List ℕ) (old new : Members) → old.items ≡ [] → AreLed (is_in_relation doc k) from old new → AreElements doc new.items

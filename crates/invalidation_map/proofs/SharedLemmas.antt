@@ -1,9 +1,9 @@
 -- Paths and keys that rows share: what is appended to them leaves what rows stand for as it was.
-use Rattle.std.proofs.Common.{◌≡◌, ℕ, suc, ◌+◌, ◌-◌, ◌<◌, ◌≤◌, List, [], ◌∷◌, ◌++◌, length, map, take, drop, get_or, Some, option_map, refl, sym, ap, ◌∙◌, subst, arith, length-drop}
-use Rattle.std.specs.List.{All, slice_get}
+use Rattle.std.proofs.Common.{◌≡◌, ℕ, true, suc, ◌+◌, ◌-◌, ◌<◌, ◌≤◌, List, [], ◌∷◌, ◌++◌, length, map, take, get_or, Some, option_map, refl, sym, ap, ◌∙◌, subst, arith}
+use Rattle.std.specs.List.{slice_get}
 use Rattle.std.proofs.Math.Seq.{take-append_seam}
-use Rattle.std.proofs.lemmas.List.{get_or-drop, get_or-map, get_or-take, length-append, length-map, length-take, map-append}
-use Rattle.std.proofs.lemmas.List.Elements.{All-get_or, All-push, All-weaker}
+use Rattle.std.proofs.lemmas.List.{get_or-map, get_or-take, length-append, length-map, length-take, map-append}
+use Rattle.std.proofs.lemmas.List.Elements.{All-push, All-weaker}
 use Rattle.std.proofs.lemmas.Option.{get_or_from_slice_get, slice_get-map, slice_get_within}
 use Rattle.selector_model.specs.Key.{Key, any_key}
 use Rattle.edit_model.specs.Dependencies.{Step}
@@ -12,7 +12,7 @@ use Rattle.invalidation_map.specs.declared.shared.DependencyRow.{DependencyRow}
 use Rattle.invalidation_map.specs.declared.shared.Shared.{Shared}
 use Rattle.invalidation_map.specs.Rows.{Row}
 use Rattle.invalidation_map.specs.Shared.{EndsWith, IsFront, StandsAt, keys_in, paths_in}
-use Rattle.invalidation_map.specs.SharedRows.{AreWithin, IsWithin, row_seen, rows_seen}
+use Rattle.invalidation_map.specs.SharedRows.{AreWithin, IsAlone, IsWithin, row_seen, rows_seen}
 
 -- lists that grow at the end
 
@@ -54,12 +54,6 @@ ends_at list x place h e =
     let same : place ≡ length list - 1 = omega (arith, e) in
     ap (slice_get list) same ∙ h
 
--- what holds of each of a list, where one of the rest of it is met
-pub near_all : {X : Type 0} (P : X → Type 0) (list near : List X) (first i : ℕ) (x : X) → near ≡ drop first list → x ≡ get_or near i x → i < length near → All P list → P x
-near_all P list near first i x e is l all =
-    subst P (sym (is ∙ (ap (λ xs. get_or xs i x) e ∙ get_or-drop first list i x)))
-    (All-get_or P list (first + i) x (omega (arith, ap length e, length-drop first list, l)) all)
-
 -- rows
 
 module _ (old new : Shared) (paths : IsFront (paths_in old) (paths_in new)) (keys : IsFront (keys_in old) (keys_in new)) where
@@ -72,6 +66,7 @@ module _ (old new : Shared) (paths : IsFront (paths_in old) (paths_in new)) (key
   within_kept row within = record {
     path = omega (arith, within.path, front_length (paths_in old) (paths_in new) paths);
     key = omega (arith, within.key, front_length (keys_in old) (keys_in new) keys);
+    alone = λ e. subst IsAlone (sym (row_kept row within)) (within.alone e);
   }
 
   rows_kept : (rows : List DependencyRow) → AreWithin old rows → rows_seen new rows ≡ rows_seen old rows
@@ -82,15 +77,19 @@ module _ (old new : Shared) (paths : IsFront (paths_in old) (paths_in new)) (key
 
   -- one row more
   module _ (rows : List DependencyRow) (within : AreWithin old rows) (row : DependencyRow) (path : List Step) (key : Key) (path_at : StandsAt (paths_in new) row.path path) (key_at : StandsAt (keys_in new) row.key key) where
-    pub within_pushed : AreWithin new (rows ++ row ∷ [])
-    within_pushed =
-        All-push (IsWithin new) rows row (All-weaker (IsWithin old) (IsWithin new) within_kept rows within)
-        (record { path = slice_get_within (paths_in new) row.path path path_at; key = slice_get_within (keys_in new) row.key key key_at })
-
     row_is : row_seen new row ≡ record { touch = touch_seen row.touch; path = path; key = key }
     row_is =
         ap {B = Row} (λ path. record { touch = touch_seen row.touch; path = path; key = get_or (keys_in new) row.key any_key }) (get_or_from_slice_get (paths_in new) row.path path [] path_at)
         ∙ ap {B = Row} (λ key. record { touch = touch_seen row.touch; path = path; key = key }) (get_or_from_slice_get (keys_in new) row.key key any_key key_at)
+
+    pub within_pushed : (row.alone ≡ true → IsAlone (record { touch = touch_seen row.touch; path = path; key = key })) → AreWithin new (rows ++ row ∷ [])
+    within_pushed alone =
+        All-push (IsWithin new) rows row (All-weaker (IsWithin old) (IsWithin new) within_kept rows within)
+        (record {
+          path = slice_get_within (paths_in new) row.path path path_at;
+          key = slice_get_within (keys_in new) row.key key key_at;
+          alone = λ e. subst IsAlone (sym row_is) (alone e);
+        })
 
     pub rows_pushed : rows_seen new (rows ++ row ∷ []) ≡ rows_seen old rows ++ record { touch = touch_seen row.touch; path = path; key = key } ∷ []
     rows_pushed =

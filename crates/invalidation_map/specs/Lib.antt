@@ -5,4 +5,5 @@ pub mod Rows
 pub mod Shared
 pub mod SharedRows
 pub mod RowView
+pub mod KeyBuckets
 pub mod Marks

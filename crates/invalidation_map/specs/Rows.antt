@@ -38,6 +38,10 @@ is_led_to doc pairs touch path x = list_any (λ y. is_listed pairs touch y && re
 abbrev pub marks_by_row : List Element → List (Touch × ℕ) → Row → ℕ → Bool
 marks_by_row doc pairs row x = bears_around (is_listed pairs) doc row.key x && is_led_to doc pairs row.touch row.path x
 
+-- what a row without a path marks
+abbrev pub marks_here : List Element → List (Touch × ℕ) → Touch → Key → ℕ → Bool
+marks_here doc pairs touch key x = bears_around (is_listed pairs) doc key x && is_listed pairs touch x
+
 -- these are the elements that are touched so
 abbrev pub AreTouchedIn : List (Touch × ℕ) → Touch → List ℕ → Type 0
 AreTouchedIn pairs touch elements = (y : ℕ) → is_in y elements ≡ is_listed pairs touch y

@@ -1,20 +1,22 @@
 //! The rows of selectors.
 
-ghost use Rattle.std.specs.Prelude.{◌≡◌, ◌++◌, IfOk, OnOk, option_map, option_to_list};
+ghost use Rattle.std.specs.Prelude.{◌≡◌, ◌++◌, IfOk, OnOk, map, option_map, option_to_list, true};
 ghost use Rattle.std.specs.List.{flat_map};
 ghost use Rattle.std.specs.List.Sorted.{IsPermutation};
 ghost use Rattle.edit_model.specs.Dependencies.{touch_of as model_touch_of};
 ghost use Rattle.selector_types.specs.SimpleView.{key_seen};
 ghost use Rattle.selector_types.specs.View.{selector_of, selectors_of};
-ghost use Rattle.dependency_map.specs.DepView.{dep_of, part_of};
-ghost use Rattle.dom_edits.specs.TouchView.{touch_seen};
+ghost use Rattle.dependency_map.specs.DepView.{dep_of, part_of, path_of};
+ghost use Rattle.dom_edits.specs.TouchView.{touch_key, touch_seen};
 ghost use Rattle.invalidation_map.specs.Rows.{row_of, rows_of, rows_of_selector};
-ghost use Rattle.invalidation_map.specs.SharedRows.{AreWithin, rows_seen};
+ghost use Rattle.invalidation_map.specs.SharedRows.{AreWithin, IsAlone, rows_seen};
 ghost use Rattle.invalidation_map.specs.RowView.{rows_in};
 
+use crate::key_index::{KeyIndex, spread};
 use crate::rows::Dependencies;
+use crate::selector_key::is_touch_of;
 use crate::shared::{DependencyRow, Shared, place_of_key, place_of_path};
-use dependency_map::{Dep, Part, deps};
+use dependency_map::{Dep, Part, PathStep, deps};
 use dom_edits::Touch;
 use selector_types::{Key, Selector, Simple, key_of};
 use std::alloc::Global;
@@ -34,14 +36,27 @@ impl Dependencies {
         for selectors in rules {
             push_all(alloc, selectors, &mut rows, &mut shared)?;
         }
-        rows.sort_by_key(|row| row.touch.key())?;
+        rows.sort_by_key(|row| spread(row.touch.key()))?;
+        let index = KeyIndex::of(alloc, keys_of(alloc, &rows)?)?;
         let style = Touch::Attribute(Atom::of_text(Text::of_str(alloc, "style")?));
         Ok(Dependencies {
             rows,
+            index,
             shared,
             style,
         })
     }
+}
+
+/// The keys of the touches of rows.
+fn keys_of(alloc: Global, rows: &[DependencyRow]) -> Result<Vec<u64>, NoMemory>
+    ensures { IfOk result (λ keys. keys.items ≡ map (λ row. touch_key (touch_seen row.touch)) rows.now) }
+{
+    let mut keys = Vec::with_capacity(alloc, rows.len())?;
+    for row in rows {
+        keys.push(row.touch.key())?;
+    }
+    Ok(keys)
 }
 
 /// Appends the rows of selectors.
@@ -97,10 +112,28 @@ fn push_row(
     let Some(touch) = touch_of(alloc, &dep.part)? else {
         return Ok(());
     };
-    let path = place_of_path(alloc, &dep.path, &mut shared.paths)?;
+    let steps = dep.path.as_slice();
+    let alone = is_alone(&touch, steps, key);
+    let path = place_of_path(alloc, steps, &mut shared.paths)?;
     let key = place_of_key(alloc, key, &mut shared.keys)?;
-    rows.push(DependencyRow { touch, path, key })?;
+    rows.push(DependencyRow {
+        touch,
+        path,
+        key,
+        alone,
+    })?;
     Ok(())
+}
+
+/// Whether a row has no path, and its touch is that of its key.
+fn is_alone(touch: &Touch, path: &[PathStep], key: &Key) -> bool
+    ensures { result ≡ true → IsAlone
+        (record { touch = touch_seen touch.now; path = path_of path.now; key = key_seen key.now }) }
+{
+    if !path.is_empty() {
+        return false;
+    }
+    is_touch_of(key, touch)
 }
 
 /// What has to be touched for a part of a selector to change. None: nothing can change it.

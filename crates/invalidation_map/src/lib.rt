@@ -4,6 +4,7 @@
 mod edit_marks;
 mod element_set;
 mod gather;
+mod key_index;
 mod marker;
 mod paths;
 mod rows;

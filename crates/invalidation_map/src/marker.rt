@@ -76,10 +76,12 @@ impl Marker {
         // The order is not asked: the call tells that the document is valid.
         let _order = doc.in_tree_order();
         marks.add_all(touched.at(&dependencies.style));
-        for touch in touched.touches() {
+        let (touches, elements) = touched.parts();
+        for touch in touches {
             mark_by_touch(
                 doc,
                 touched,
+                elements,
                 dependencies,
                 touch,
                 &mut self.from,
@@ -90,10 +92,12 @@ impl Marker {
     }
 }
 
-/// Adds what the rows of a touch mark. It looks at those alone whose touches have the same key.
+/// Adds what the rows of a touch mark, which is at these elements. It looks at those alone whose touches have
+/// the same key.
 fn mark_by_touch(
     doc: &Doc,
     touched: &Touched,
+    elements: &[u32],
     dependencies: &Dependencies,
     touch: &Touch,
     from: &mut ElementSet,
@@ -105,6 +109,7 @@ fn mark_by_touch(
     requires next { next.old.room ≡ from.old.room }
     requires marks { HasRoom doc.now.elements marks.old.room }
     requires touched { AreAtElements doc.now.elements touched.now }
+    requires elements { AreTouchedIn touched.now (touch_seen touch.now) elements.now }
     ensures grown { IsGrown
         (marks_by_touch doc.now.elements touched.now (rows_in dependencies.now) (touch_seen touch.now))
         marks.old marks.new }
@@ -112,23 +117,20 @@ fn mark_by_touch(
     ensures next { next.new.room ≡ from.old.room }
 {
     let key = touch.key();
-    for row in dependencies.from_key(key) {
-        if key < row.touch.key() {
-            return;
+    let (first, past) = dependencies.index.near(key);
+    for place in first..past {
+        if dependencies.is_of(place, touch, key) {
+            mark_row(
+                doc,
+                touched,
+                elements,
+                &dependencies.shared,
+                &dependencies.rows[place],
+                from,
+                next,
+                marks,
+            );
         }
-        if !row.touch.is(touch) {
-            continue;
-        }
-        mark_row(
-            doc,
-            touched,
-            touched.at(touch),
-            &dependencies.shared,
-            row,
-            from,
-            next,
-            marks,
-        );
     }
 }
 
@@ -155,11 +157,20 @@ fn mark_row(
     ensures room { from.new.room ≡ from.old.room }
     ensures next { next.new.room ≡ from.old.room }
 {
-    from.clear();
-    from.add_all(elements);
-    walk(doc, &shared.paths[row.path as usize], from, next);
+    if row.alone {
+        marks.add_all(elements);
+        return;
+    }
+    let path = shared.paths[row.path as usize].as_slice();
     let key = &shared.keys[row.key as usize];
     let bearing = touched_in_key(touched, key);
+    if path.is_empty() {
+        add_bearing(doc, &key.key, elements, bearing, marks);
+        return;
+    }
+    from.clear();
+    from.add_all(elements);
+    walk(doc, path, from, next);
     add_bearing(doc, &key.key, from.as_slice(), bearing, marks);
 }
 

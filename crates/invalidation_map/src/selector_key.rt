@@ -1,6 +1,6 @@
 //! The keys of selectors.
 
-ghost use Rattle.std.specs.Prelude.{◌≡◌, ◌↔◌, IfOk, option_map};
+ghost use Rattle.std.specs.Prelude.{◌≡◌, ◌↔◌, IfOk, Some, option_map, true};
 ghost use Rattle.std.specs.Bool.{IsTrue};
 ghost use Rattle.selector_types.specs.SimpleView.{key_seen};
 ghost use Rattle.edit_model.specs.MarkedAfter.{touch_of_key as model_touch_of_key};
@@ -62,6 +62,17 @@ fn touch_of_key(alloc: Global, key: &Key) -> Result<Option<Touch>, NoMemory>
         Key::Class(name) => Some(Touch::Class(name.copy(alloc)?)),
         Key::Type(_) | Key::Any => None,
     })
+}
+
+/// Whether it is the touch of an element that bears the key now and did not before, or the other way round.
+pub(crate) fn is_touch_of(key: &Key, touch: &Touch) -> bool
+    ensures { result ≡ true → model_touch_of_key (key_seen key.now) ≡ Some (touch_seen touch.now) }
+{
+    match (key, touch) {
+        (Key::Id(one), Touch::Id(other)) => is_same_atom(one, other),
+        (Key::Class(one), Touch::Class(other)) => is_same_atom(one, other),
+        _ => false,
+    }
 }
 
 /// Another key of the same text.

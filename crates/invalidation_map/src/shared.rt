@@ -22,6 +22,8 @@ pub(crate) struct DependencyRow {
     pub(crate) path: u32,
     /// The place of the key among those that rows share.
     pub(crate) key: u32,
+    /// Whether it has no path, and its touch is that of its key. Then it marks all elements of its touch.
+    pub(crate) alone: bool,
 }
 
 /// What rows share: those of a compound its path, those of a selector its key.

@@ -48,6 +48,7 @@ impl<'a> KeepMembers<'a> for NodeParts<'a> {
 
     ghost keeps = { IsNodeOf };
 
+    #[inline(always)]
     fn member(&mut self, key: &'a str, reader: &mut Reader<'a>, depth: usize) -> Result<(), Stop> {
         match key {
             "tag" => self.tag = name_in(text(reader, depth)?),

@@ -131,6 +131,7 @@ impl Styler {
 
     /// The number of the style of an element over the style `parent` of its parent, where `rem` stands
     /// for `size`. Without a `style` attribute it is looked for among what was computed before.
+    #[inline(always)]
     pub fn child(
         &mut self,
         inputs: &Inputs<'_>,

@@ -3,32 +3,36 @@ use Rattle.std.proofs.Common.{◌≡◌, ℕ, ℤ, zero, suc, ◌+◌, ◌<◌, 
 use Rattle.std.specs.Prelude.{IsSome}
 use Rattle.std.specs.List.{IsDistinct}
 use Rattle.std.specs.Option.{option_map_or}
-use Rattle.std.proofs.lemmas.Bool.{and_right, or_parts, or_left, or_right, eqb-true, eqb-false, false≢true}
+use Rattle.std.proofs.lemmas.Bool.{or_parts, or_left, or_right, eqb-true, eqb-false, false≢true}
+use Rattle.std.proofs.lemmas.Bool.Decides.{same_from_decides}
 use Rattle.std.proofs.lemmas.List.{append-nil, drop_more, get_or-set_other, get_or-set_same, map-append, nil_from_length, take-append-drop, take_all, take_more}
 use Rattle.std.proofs.lemmas.List.Elements.{filter-append}
 use Rattle.std.proofs.lemmas.List.Folds.{list_any-append}
 use Rattle.std.proofs.lemmas.Option.{none-some, same_Some}
 use Rattle.scene_model.specs.Element.{Element}
-use Rattle.scene_model.specs.Lookups.{numbers, IsElement, parent_of}
+use Rattle.scene_model.specs.Lookups.{numbers, children, is_element, IsElement, parent_of}
 use Rattle.scene_model.specs.Numbers.{is_in}
 use Rattle.scene_model.specs.Valid.{IsValid}
 use Rattle.scene_model.proofs.Any.{in_middle}
-use Rattle.scene_model.proofs.Found.{is_element-numbers, position_of-numbers}
-use Rattle.scene_model.proofs.Numbers.{each_is_in, index_in, same_number}
+use Rattle.scene_model.proofs.Found.{copies-children, each_child-parent, is_element-numbers, parent_of-element, position_of-numbers}
+use Rattle.scene_model.proofs.Numbers.{each_is_in, in_copied, index_in, same_number}
 use Rattle.scene_model.proofs.ParentBefore.{parent_before}
 use Rattle.value_model.specs.Style.{Style}
 use Rattle.cascade_model.specs.StyleOf.{root_of}
+use Rattle.invalidation_map.proofs.SetLemmas.{one_added}
+use Rattle.invalidation_map.specs.Members.{AreAdded, AreBelow, Members, added}
+use Rattle.invalidation_map.specs.Steps.{HasRoom}
 use Rattle.session_model.specs.Standing.{Standing, elements_of, has_size, is_cascaded, is_matched, is_style, kept_at, parent_differs, root_size_differs, root_size_in, style_in}
 use Rattle.session_model.specs.StandingInvariant.{AllKeep}
 use Rattle.session_model.specs.Walk.{Styled, results}
+use Rattle.scene_model.proofs.Lists.{each_weaker}
 use Rattle.session_model.proofs.KeepsLemmas.{is_style-own, kept-not_cascaded}
 use Rattle.session_model.proofs.WalkLemmas.{results-now}
 use Rattle.plain_style.proofs.CacheLemmas.{kept_at as kept_in}
 use Rattle.style_session.specs.Answers.{styled_seen}
 use Rattle.style_session.specs.Laws.{styled_now}
-use Rattle.style_session.specs.Walking.{known_at, is_known_other, HandsOn, HasMet, IsBare, IsMet, IsNew, IsParentMet, IsWalk, Learns}
+use Rattle.style_session.specs.Walking.{known_at, HandsOn, HasMet, IsBare, IsMet, IsParentMet, IsWalk, Learns, Meets, Widens}
 use Rattle.style_session.specs.declared.style_cache.StyleCache.{StyleCache}
-use Rattle.style_session.specs.declared.walk.NewStyle.{NewStyle}
 use Rattle.style_session.specs.declared.walk.Walk.{Walk}
 
 -- only the root, which is first, has no parent
@@ -49,94 +53,183 @@ has_parent doc v first front x after order there = by (parent_of doc x) refl
     by None is =
         absurd (not_first (first == x) (index_in (front ++ x ∷ after) x) apart (sym (position_of-numbers doc x ∙ ap (λ l. index_in l x) order) ∙ v.root x there is))
 
--- whether its parent's style is another one than the kept one is known
+-- the children of an element
 
-implied : (d n : Bool) → (n ≡ true → d ≡ true) → (d && n) ≡ n
-implied true n h = refl
-implied false true h = absurd (false≢true (h refl))
-implied false false h = refl
+is_child : (doc : List Element) → IsValid doc → (x y : ℕ) → parent_of doc y ≡ Some x → is_in y (children doc x) ≡ true
+is_child doc v x y hangs = in_copied y (children doc x) [] (copies-children doc x y v.distinct hangs)
 
-pub parent-known : (st : Standing) (cache : StyleCache) (walk : Walk) (x : ℕ) → IsWalk st cache walk → IsParentMet st walk x → (walk.differs && option_map_or (is_known_other walk.known.items) (parent_of (elements_of st.scene) x) false) ≡ parent_differs st x
-parent-known st cache walk x w met = by (parent_of (elements_of st.scene) x) refl
+child_of : (doc : List Element) → IsValid doc → (x y : ℕ) → is_in y (children doc x) ≡ true → parent_of doc y ≡ Some x
+child_of doc v x y h = each_is_in (λ z. parent_of doc z ≡ Some x) y (children doc x) (each_child-parent doc x v.distinct) h
+
+pub children-below : (doc : List Element) (room x : ℕ) → IsValid doc → HasRoom doc room → AreBelow room (children doc x)
+children-below doc room x v has =
+    each_weaker (λ y. parent_of doc y ≡ Some x) (λ y. y < room) (λ y e. has y (parent_of-element doc y x e)) (children doc x) (each_child-parent doc x v.distinct)
+
+pub all-below : (doc : List Element) (room : ℕ) (xs : List ℕ) → HasRoom doc room → xs ≡ numbers doc → AreBelow room xs
+all-below doc room xs has is = by xs (λ y h. has y (is_element-numbers doc y ∙ (ap (is_in y) (sym is) ∙ h)))
   where
-    by_known : (p : ℕ) (o : Option NewStyle) → known_at walk.known.items p ≡ o → IsMet st walk p → (walk.differs && option_map_or (λ (new : NewStyle). new.differs) o false) ≡ not (is_style (style_in st.scene p) (kept_at st p))
-    by_known p None e own = and_right walk.differs false refl ∙ sym (ap not (is_style-own (style_in st.scene p) (kept_at st p) (own e)))
-    by_known p (Some new) e own = implied walk.differs new.differs (w.differs p new e) ∙ (w.known p new e).differs
+    by : (ys : List ℕ) → ((y : ℕ) → is_in y ys ≡ true → y < room) → AreBelow room ys
+    by [] h = tt
+    by (y ∷ ys) h = (h y (or_left (y == y) (is_in y ys) (same_number y)), by ys (λ z e. h z (or_right (y == z) (is_in z ys) e)))
 
-    by : (o : Option ℕ) → parent_of (elements_of st.scene) x ≡ o → (walk.differs && option_map_or (is_known_other walk.known.items) o false) ≡ option_map_or (λ p. not (is_style (style_in st.scene p) (kept_at st p))) o false
-    by None is = and_right walk.differs false refl
-    by (Some p) is = by_known p (known_at walk.known.items p) refl (met p is)
-
--- so it is known whether it is cascaded
-
+-- what is matched is cascaded, and once the root's font size is another one all are
 pub cascaded-matched : (st : Standing) (x : ℕ) → is_matched st x ≡ true → is_cascaded st x ≡ true
 cascaded-matched st x h = or_left (is_matched st x) _ h
 
-pub cascaded-size : (st : Standing) (x : ℕ) → root_size_differs st ≡ true → is_cascaded st x ≡ true
+cascaded-size : (st : Standing) (x : ℕ) → root_size_differs st ≡ true → is_cascaded st x ≡ true
 cascaded-size st x h = or_right (is_matched st x) _ (or_right (parent_differs st x) (root_size_differs st) h)
 
-pub cascaded-parent : (st : Standing) (x : ℕ) (b : Bool) → is_matched st x ≡ false → root_size_differs st ≡ false → b ≡ parent_differs st x → b ≡ is_cascaded st x
-cascaded-parent st x b m s h =
-    h ∙ sym (or_false (parent_differs st x)) ∙ sym (ap (λ c. parent_differs st x || c) s) ∙ sym (ap (λ c. c || (parent_differs st x || root_size_differs st)) m)
+-- it is known whether an element is cascaded whose parent was met
+
+pub due-cascaded : (st : Standing) (cache : StyleCache) (walk : Walk) (x : ℕ) → IsElement (elements_of st.scene) x → IsWalk st cache walk → IsParentMet st walk x
+    → is_in x walk.due.items ≡ is_cascaded st x
+due-cascaded st cache walk x there w met =
+    let known = by (is_matched st x) (root_size_differs st) (parent_differs st x) refl refl refl in
+    same_from_decides {P = is_cascaded st x ≡ true} (is_in x walk.due.items) (is_cascaded st x) (w.due x there, known) (λ h. h, λ h. h)
   where
-    or_false : (c : Bool) → (c || false) ≡ c
-    or_false true = refl
-    or_false false = refl
+    by_parent : (o : Option ℕ) → parent_of (elements_of st.scene) x ≡ o → option_map_or (λ p. not (is_style (style_in st.scene p) (kept_at st p))) o false ≡ true → is_in x walk.due.items ≡ true
+    by_parent None is h = absurd (false≢true h)
+    by_parent (Some p) is h = (met p is).below x is h
+
+    by : (m r d : Bool) → is_matched st x ≡ m → root_size_differs st ≡ r → parent_differs st x ≡ d → is_cascaded st x ≡ true → is_in x walk.due.items ≡ true
+    by true r d em er ed h = w.all x there (or_left (is_matched st x) (root_size_differs st) em)
+    by false true d em er ed h = w.all x there (or_right (is_matched st x) (root_size_differs st) er)
+    by false false true em er ed h = by_parent (parent_of (elements_of st.scene) x) refl ed
+    by false false false em er ed h =
+        absurd (false≢true (sym (ap (λ m. m || (parent_differs st x || root_size_differs st)) em ∙ (ap (λ d. d || root_size_differs st) ed ∙ er)) ∙ h))
+
+-- the matched elements, which are put into an empty set: all where all are fresh, else the marked ones, one by one
+
+pub matched-all : (doc : List Element) (order marks : List ℕ) (b : Bool) (old new : Members) → AreAdded order old new → old.items ≡ [] → order ≡ numbers doc → b ≡ true
+    → (y : ℕ) → IsElement doc y → is_in y new.items ≡ (b || is_in y marks)
+matched-all doc order marks b old new more none is fresh y there =
+    more.each y
+    ∙ (ap (λ l. is_in y l || is_in y order) none
+    ∙ (ap (is_in y) is ∙ (sym (is_element-numbers doc y) ∙ (there ∙ sym (ap (λ c. c || is_in y marks) fresh)))))
+
+in_more : (marks : List ℕ) (i y : ℕ) → i < length marks → is_in y (take (i + 1) marks) ≡ (is_in y (take i marks) || is_in y (get_or marks i 0 ∷ []))
+in_more marks i y below =
+    ap (is_in y) (take_more marks i 0 below) ∙ list_any-append (λ z. z == y) (take i marks) (get_or marks i 0 ∷ [])
+
+pub matched-more : (doc : List Element) (marks : List ℕ) (i : ℕ) (old new : Members) → i < length marks
+    → ((y : ℕ) → IsElement doc y → is_in y old.items ≡ is_in y (take i marks)) → new ≡ added old (get_or marks i 0) → (y : ℕ) → IsElement doc y
+    → is_in y new.items ≡ is_in y (take (i + 1) marks)
+matched-more doc marks i old new below same e y there =
+    ap (λ (m : Members). is_in y m.items) e
+    ∙ ((one_added old (get_or marks i 0)).each y
+    ∙ (ap (λ b. b || is_in y (get_or marks i 0 ∷ [])) (same y there) ∙ sym (in_more marks i y below)))
+
+-- one that is no element is passed over
+pub matched-passed : (doc : List Element) (marks : List ℕ) (i : ℕ) (items : List ℕ) → i < length marks
+    → ((y : ℕ) → IsElement doc y → is_in y items ≡ is_in y (take i marks)) → is_element doc (get_or marks i 0) ≡ false → (y : ℕ) → IsElement doc y
+    → is_in y items ≡ is_in y (take (i + 1) marks)
+matched-passed doc marks i items below same none y there =
+    same y there ∙ (sym (no_more (is_in y (take i marks)) (get_or marks i 0 == y) refl) ∙ sym (in_more marks i y below))
+  where
+    no_more : (a b : Bool) → (get_or marks i 0 == y) ≡ b → (a || (b || false)) ≡ a
+    no_more a true e = absurd (false≢true (sym none ∙ (ap (is_element doc) (eqb-true (get_or marks i 0) y e) ∙ there)))
+    no_more true false e = refl
+    no_more false false e = refl
 
 -- one more is known
 
-by_number : (x y : ℕ) (new n : NewStyle) (o : Option NewStyle) (P : ℕ → NewStyle → Type 0) (b : Bool) → (x == y) ≡ b → cond b (Some new) o ≡ Some n → P x new → (o ≡ Some n → P y n) → P y n
+by_number : (x y new n : ℕ) (o : Option ℕ) (P : ℕ → ℕ → Type 0) (b : Bool) → (x == y) ≡ b → cond b (Some new) o ≡ Some n → P x new → (o ≡ Some n → P y n) → P y n
 by_number x y new n o P true e is own other = subst (λ z. P z n) (eqb-true x y e) (subst (P x) (same_Some new n is) own)
 by_number x y new n o P false e is own other = other is
 
-pub walk-learns : (st : Standing) (cache : StyleCache) (x : ℕ) (new : NewStyle) (was now : Walk) → IsWalk st cache was → Learns x new was now → IsNew st cache.styler.table x new → IsWalk st cache now
-walk-learns st cache x new was now w learns own = record {
+pub walk-learns : (st : Standing) (cache : StyleCache) (x style : ℕ) (was now : Walk) → IsWalk st cache was → Learns x style was now
+    → slice_get cache.styler.table style ≡ Some (style_in st.scene x) → IsWalk st cache now
+walk-learns st cache x style was now w learns at = record {
   room = λ y there. subst (λ n. y < n) (sym learns.room) (w.room y there);
-  known = λ y n is. by_number x y new n (known_at was.known.items y) (IsNew st cache.styler.table) (x == y) refl (sym (learns.known y) ∙ is) own (w.known y n);
-  differs = λ y n is. by_number x y new n (known_at was.known.items y) (λ _ m. m.differs ≡ true → now.differs ≡ true) (x == y) refl (sym (learns.known y) ∙ is)
-      (λ h. learns.differs ∙ or_right was.differs new.differs h)
-      (λ e h. learns.differs ∙ or_left was.differs new.differs (w.differs y n e h));
+  due_room = λ y there. subst (λ (m : Members). y < m.room) (sym learns.due) (w.due_room y there);
+  known = λ y n is. by_number x y style n (known_at was.known.items y) (λ z m. slice_get cache.styler.table m ≡ Some (style_in st.scene z)) (x == y) refl (sym (learns.known y) ∙ is) at (w.known y n);
+  due = λ y there h. w.due y there (ap (λ (m : Members). is_in y m.items) (sym learns.due) ∙ h);
+  all = λ y there h. ap (λ (m : Members). is_in y m.items) learns.due ∙ w.all y there h;
   size = w.size;
-  size_differs = learns.size_differs ∙ w.size_differs;
 }
 
-pub is_new : (st : Standing) (table : List Style) (x style : ℕ) (o : Option Style) → slice_get table style ≡ Some (style_in st.scene x) → kept_at st x ≡ o → IsNew st table x (record { style = style; differs = not (is_style (style_in st.scene x) o) })
-is_new st table x style o at kept = record {
-  style = at;
-  differs = ap (λ k. not (is_style (style_in st.scene x) k)) (sym kept);
-}
+-- more is known to be cascaded, and it is
 
--- and so is one that is the kept one
-pub is_new-kept : (st : Standing) (table : List Style) (x style : ℕ) → slice_get table style ≡ Some (style_in st.scene x) → kept_at st x ≡ Some (style_in st.scene x) → IsNew st table x (record { style = style; differs = false })
-is_new-kept st table x style at kept = record {
-  style = at;
-  differs = sym (ap not (is_style-own (style_in st.scene x) (kept_at st x) kept));
+pub walk-widens : (st : Standing) (cache : StyleCache) (xs : List ℕ) (b : Bool) (was now : Walk) → IsWalk st cache was → Widens xs b was now
+    → ((y : ℕ) → IsElement (elements_of st.scene) y → b ≡ true → is_in y xs ≡ true → is_cascaded st y ≡ true) → IsWalk st cache now
+walk-widens st cache xs b was now w widens new = record {
+  room = λ y there. subst (λ n. y < n) (sym (ap (λ v. length v.items) widens.known)) (w.room y there);
+  due_room = λ y there. subst (λ n. y < n) (sym widens.room) (w.due_room y there);
+  known = λ y n is. w.known y n (sym (ap (λ v. known_at v.items y) widens.known) ∙ is);
+  due = λ y there h. by y there (is_in y was.due.items) b (is_in y xs) refl refl refl (sym (widens.due y) ∙ h);
+  all = λ y there h. widens.due y ∙ or_left (is_in y was.due.items) (b && is_in y xs) (w.all y there h);
+  size = w.size;
 }
+  where
+    by : (y : ℕ) → IsElement (elements_of st.scene) y → (p d q : Bool) → is_in y was.due.items ≡ p → b ≡ d → is_in y xs ≡ q → (p || (d && q)) ≡ true → is_cascaded st y ≡ true
+    by y there true d q ep ed eq h = w.due y there ep
+    by y there false true true ep ed eq h = new y there ed eq
+    by y there false true false ep ed eq h = absurd (false≢true h)
+    by y there false false q ep ed eq h = absurd (false≢true h)
 
-no_new : (b : Bool) (new : NewStyle) (o : Option NewStyle) → cond b (Some new) o ≡ None → (b ≡ false) × (o ≡ None)
+-- the children of an element whose style is another one than the kept one are cascaded
+pub child-cascaded : (st : Standing) (x y : ℕ) (b : Bool) → IsValid (elements_of st.scene) → b ≡ not (is_style (style_in st.scene x) (kept_at st x)) → b ≡ true
+    → is_in y (children (elements_of st.scene) x) ≡ true → is_cascaded st y ≡ true
+child-cascaded st x y b v is h there =
+    or_right (is_matched st y) _ (or_left (parent_differs st y) (root_size_differs st)
+    (ap (λ o. option_map_or (λ p. not (is_style (style_in st.scene p) (kept_at st p))) o false) (child_of (elements_of st.scene) v x y there) ∙ (sym is ∙ h)))
+
+pub walk-meets : (st : Standing) (cache : StyleCache) (x style : ℕ) (b : Bool) (was now : Walk) → IsValid (elements_of st.scene) → IsWalk st cache was
+    → Meets (elements_of st.scene) x style b was now → slice_get cache.styler.table style ≡ Some (style_in st.scene x)
+    → b ≡ not (is_style (style_in st.scene x) (kept_at st x)) → IsWalk st cache now
+walk-meets st cache x style b was now v w meets at is =
+    walk-learns st cache x style meets.mid now
+    (walk-widens st cache (children (elements_of st.scene) x) b was meets.mid w meets.widens (λ y there h k. child-cascaded st x y b v is h k))
+    meets.learns at
+
+no_new : (b : Bool) (new : ℕ) (o : Option ℕ) → cond b (Some new) o ≡ None → (b ≡ false) × (o ≡ None)
 no_new true new o h = cc
 no_new false new o h = (refl, h)
 
-met-learns : (st : Standing) (x : ℕ) (new : NewStyle) (was now : Walk) → Learns x new was now → (y : ℕ) → IsMet st was y → IsMet st now y
-met-learns st x new was now learns y met none =
-    met (no_new (x == y) new (known_at was.known.items y) (sym (learns.known y) ∙ none)).1
+met-learns : (st : Standing) (x style : ℕ) (was now : Walk) → Learns x style was now → (y : ℕ) → IsMet st was y → IsMet st now y
+met-learns st x style was now learns y met = record {
+  style = λ none. met.style (no_new (x == y) style (known_at was.known.items y) (sym (learns.known y) ∙ none)).1;
+  below = λ z hangs h. ap (λ (m : Members). is_in z m.items) learns.due ∙ met.below z hangs h;
+}
 
-met-own : (st : Standing) (x : ℕ) (new : NewStyle) (was now : Walk) → Learns x new was now → IsMet st now x
-met-own st x new was now learns none =
-    absurd (false≢true (sym (no_new (x == x) new (known_at was.known.items x) (sym (learns.known x) ∙ none)).0 ∙ same_number x))
+met-widens : (st : Standing) (xs : List ℕ) (b : Bool) (was now : Walk) → Widens xs b was now → (y : ℕ) → IsMet st was y → IsMet st now y
+met-widens st xs b was now widens y met = record {
+  style = λ none. met.style (sym (ap (λ v. known_at v.items y) widens.known) ∙ none);
+  below = λ z hangs h. widens.due z ∙ or_left (is_in z was.due.items) (b && is_in z xs) (met.below z hangs h);
+}
+
+met-meets : (st : Standing) (x style : ℕ) (b : Bool) (was now : Walk) → Meets (elements_of st.scene) x style b was now → (y : ℕ) → IsMet st was y → IsMet st now y
+met-meets st x style b was now meets y met =
+    met-learns st x style meets.mid now meets.learns y (met-widens st (children (elements_of st.scene) x) b was meets.mid meets.widens y met)
+
+met-own : (st : Standing) (x style : ℕ) (b : Bool) (was now : Walk) → IsValid (elements_of st.scene) → Meets (elements_of st.scene) x style b was now
+    → b ≡ not (is_style (style_in st.scene x) (kept_at st x)) → IsMet st now x
+met-own st x style b was now v meets is = record {
+  style = λ none. absurd (false≢true (sym (no_new (x == x) style (known_at meets.mid.known.items x) (sym (meets.learns.known x) ∙ none)).0 ∙ same_number x));
+  below = λ y hangs h.
+      let own : (b && is_in y (children (elements_of st.scene) x)) ≡ true = ap (λ c. c && is_in y (children (elements_of st.scene) x)) (is ∙ h) ∙ is_child (elements_of st.scene) v x y hangs in
+      ap (λ (m : Members). is_in y m.items) meets.learns.due
+      ∙ (meets.widens.due y ∙ or_right (is_in y was.due.items) (b && is_in y (children (elements_of st.scene) x)) own);
+}
+
+-- it keeps its style
+pub has_met-learns : (st : Standing) (front : List ℕ) (x style : ℕ) (was now : Walk) → Learns x style was now → HasMet st front was → HasMet st front now
+has_met-learns st front x style was now learns has = record {
+  met = λ y h. met-learns st x style was now learns y (has.met y h);
+  styled = ap (λ v. map styled_seen v.items) learns.styled ∙ has.styled;
+}
 
 -- a table that has grown
 
-pub walk-grown : (st : Standing) (was now : StyleCache) (walk : Walk) → take (length was.styler.table) now.styler.table ≡ was.styler.table → now.size ≡ was.size → IsWalk st was walk → IsWalk st now walk
+pub walk-grown : (st : Standing) (was now : StyleCache) (walk : Walk) → take (length was.styler.table) now.styler.table ≡ was.styler.table → now.size ≡ was.size
+    → IsWalk st was walk → IsWalk st now walk
 walk-grown st was now walk kept size w = record {
   room = w.room;
-  known = λ x new is. record {
-    style = kept_in was.styler.table now.styler.table new.style (style_in st.scene x) kept (w.known x new is).style;
-    differs = (w.known x new is).differs;
-  };
-  differs = w.differs;
+  due_room = w.due_room;
+  known = λ x style is. kept_in was.styler.table now.styler.table style (style_in st.scene x) kept (w.known x style is);
+  due = w.due;
+  all = w.all;
   size = size ∙ w.size;
-  size_differs = w.size_differs;
 }
 
 -- what was handed on changes nothing of it
@@ -144,14 +237,18 @@ walk-grown st was now walk kept size w = record {
 pub walk-handed : (st : Standing) (cache : StyleCache) (one : Styled) (was now : Walk) → HandsOn one was now → IsWalk st cache was → IsWalk st cache now
 walk-handed st cache one was now handed w = record {
   room = λ y there. subst (λ n. y < n) (sym (ap (λ v. length v.items) handed.known)) (w.room y there);
+  due_room = λ y there. subst (λ (m : Members). y < m.room) (sym handed.due) (w.due_room y there);
   known = λ y n is. w.known y n (sym (ap (λ v. known_at v.items y) handed.known) ∙ is);
-  differs = λ y n is h. handed.differs ∙ w.differs y n (sym (ap (λ v. known_at v.items y) handed.known) ∙ is) h;
+  due = λ y there h. w.due y there (ap (λ (m : Members). is_in y m.items) (sym handed.due) ∙ h);
+  all = λ y there h. ap (λ (m : Members). is_in y m.items) handed.due ∙ w.all y there h;
   size = w.size;
-  size_differs = handed.size_differs ∙ w.size_differs;
 }
 
 met-handed : (st : Standing) (one : Styled) (was now : Walk) → HandsOn one was now → (y : ℕ) → IsMet st was y → IsMet st now y
-met-handed st one was now handed y met none = met (sym (ap (λ v. known_at v.items y) handed.known) ∙ none)
+met-handed st one was now handed y met = record {
+  style = λ none. met.style (sym (ap (λ v. known_at v.items y) handed.known) ∙ none);
+  below = λ z hangs h. ap (λ (m : Members). is_in z m.items) handed.due ∙ met.below z hangs h;
+}
 
 -- one more was met
 
@@ -160,7 +257,8 @@ in_last P x y true b e h own others = others refl
 in_last P x y false true e h own others = subst P (eqb-true x y e) own
 in_last P x y false false e h own others = cc
 
-met-more : (st : Standing) (front : List ℕ) (x : ℕ) (was now : Walk) → IsMet st now x → ((y : ℕ) → IsMet st was y → IsMet st now y) → map styled_seen now.styled.items ≡ map styled_seen was.styled.items ++ map (styled_now st) (filter (is_cascaded st) (x ∷ [])) → HasMet st front was → HasMet st (front ++ x ∷ []) now
+met-more : (st : Standing) (front : List ℕ) (x : ℕ) (was now : Walk) → IsMet st now x → ((y : ℕ) → IsMet st was y → IsMet st now y)
+    → map styled_seen now.styled.items ≡ map styled_seen was.styled.items ++ map (styled_now st) (filter (is_cascaded st) (x ∷ [])) → HasMet st front was → HasMet st (front ++ x ∷ []) now
 met-more st front x was now own others styled has = record {
   met = λ y h. in_last (IsMet st now) x y (is_in y front) (x == y) refl (sym (list_any-append (λ z. z == y) front (x ∷ [])) ∙ h) own (λ before. others y (has.met y before));
   styled = styled
@@ -169,23 +267,33 @@ met-more st front x was now own others styled has = record {
       ∙ ap (map (styled_now st)) (sym (filter-append (is_cascaded st) front (x ∷ [])))));
 }
 
+-- where an element keeps its style, none of its children is cascaded for it
+kept-met : (st : Standing) (walk : Walk) (x : ℕ) → kept_at st x ≡ Some (style_in st.scene x) → IsMet st walk x
+kept-met st walk x kept = record {
+  style = λ _. kept;
+  below = λ y hangs h. absurd (false≢true (sym (ap not (is_style-own (style_in st.scene x) (kept_at st x) kept)) ∙ h));
+}
+
 -- it is not cascaded, so its kept style is the one that it has
-pub met-passed : (st : Standing) (front : List ℕ) (x : ℕ) (walk : Walk) → IsValid (elements_of st.scene) → AllKeep st → IsElement (elements_of st.scene) x → is_cascaded st x ≡ false → HasMet st front walk → HasMet st (front ++ x ∷ []) walk
+pub met-passed : (st : Standing) (front : List ℕ) (x : ℕ) (walk : Walk) → IsValid (elements_of st.scene) → AllKeep st → IsElement (elements_of st.scene) x
+    → is_cascaded st x ≡ false → HasMet st front walk → HasMet st (front ++ x ∷ []) walk
 met-passed st front x walk v all there h has =
     met-more st front x walk walk
-    (λ _. kept-not_cascaded st v x (all x there (or_parts (is_matched st x) _ h).0) h)
+    (kept-met st walk x (kept-not_cascaded st v x (all x there (or_parts (is_matched st x) _ h).0) h))
     (λ y met. met)
     (sym (append-nil (map styled_seen walk.styled.items)) ∙ ap (λ b. map styled_seen walk.styled.items ++ map (styled_now st) (cond b (x ∷ []) [])) (sym h))
     has
 
 -- it is cascaded, and was handed on
-pub met-cascaded : (st : Standing) (front : List ℕ) (x : ℕ) (new : NewStyle) (one : Styled) (was mid now : Walk) → is_cascaded st x ≡ true → one ≡ styled_now st x → Learns x new was mid → HandsOn one mid now → HasMet st front was → HasMet st (front ++ x ∷ []) now
-met-cascaded st front x new one was mid now h own learns handed has =
+pub met-cascaded : (st : Standing) (front : List ℕ) (x style : ℕ) (b : Bool) (one : Styled) (was mid now : Walk) → IsValid (elements_of st.scene)
+    → is_cascaded st x ≡ true → one ≡ styled_now st x → b ≡ not (is_style (style_in st.scene x) (kept_at st x)) → Meets (elements_of st.scene) x style b was mid
+    → HandsOn one mid now → HasMet st front was → HasMet st (front ++ x ∷ []) now
+met-cascaded st front x style b one was mid now v h own is meets handed has =
     met-more st front x was now
-    (met-handed st one mid now handed x (met-own st x new was mid learns))
-    (λ y met. met-handed st one mid now handed y (met-learns st x new was mid learns y met))
+    (met-handed st one mid now handed x (met-own st x style b was mid v meets is))
+    (λ y met. met-handed st one mid now handed y (met-meets st x style b was mid meets y met))
     (handed.styled
-    ∙ (ap (λ v. map styled_seen v.items ++ one ∷ []) learns.styled
+    ∙ (ap (λ v. map styled_seen v.items ++ one ∷ []) (meets.learns.styled ∙ meets.widens.styled)
     ∙ (ap (λ s. map styled_seen was.styled.items ++ s ∷ []) own
     ∙ ap (λ b. map styled_seen was.styled.items ++ map (styled_now st) (cond b (x ∷ []) [])) (sym h))))
     has
@@ -198,27 +306,54 @@ met-none st walk none = record {
   styled = ap (map styled_seen) none;
 }
 
-pub walk-bare : (st : Standing) (cache : StyleCache) (walk : Walk) → IsBare (elements_of st.scene) walk → cache.size ≡ root_size_in st.scene → root_size_differs st ≡ false → IsWalk st cache walk
+pub has_met-widens : (st : Standing) (xs : List ℕ) (b : Bool) (was now : Walk) → Widens xs b was now → was.styled.items ≡ [] → HasMet st [] now
+has_met-widens st xs b was now widens none = met-none st now (ap (λ v. v.items) widens.styled ∙ none)
+
+matched_alone : (m r : Bool) → r ≡ false → (m || r) ≡ true → m ≡ true
+matched_alone true r e h = refl
+matched_alone false true e h = sym e
+matched_alone false false e h = h
+
+-- the font size of the root is the kept one
+pub walk-bare : (st : Standing) (cache : StyleCache) (walk : Walk) → IsBare st walk → cache.size ≡ root_size_in st.scene → root_size_differs st ≡ false → IsWalk st cache walk
 walk-bare st cache walk bare size same = record {
   room = bare.room;
-  known = λ x new is. absurd (none-some new (sym (bare.known x) ∙ is));
-  differs = λ x new is. absurd (none-some new (sym (bare.known x) ∙ is));
+  due_room = bare.due_room;
+  known = λ x style is. absurd (none-some style (sym (bare.known x) ∙ is));
+  due = λ x there h. cascaded-matched st x (sym (bare.due x there) ∙ h);
+  all = λ x there h. bare.due x there ∙ matched_alone (is_matched st x) (root_size_differs st) same h;
   size = size;
-  size_differs = bare.size_differs ∙ sym same;
 }
 
-pub walk-begun : (st : Standing) (cache : StyleCache) (r : ℕ) (new : NewStyle) (b : Bool) (was now : Walk) → IsBare (elements_of st.scene) was → cache.size ≡ root_size_in st.scene → b ≡ root_size_differs st → Learns r new (record was { size_differs = b }) now → IsNew st cache.styler.table r new → IsWalk st cache now
-walk-begun st cache r new b was now bare size differs learns own =
-    walk-learns st cache r new (record was { size_differs = b }) now
-    (record {
-      room = bare.room;
-      known = λ x one is. absurd (none-some one (sym (bare.known x) ∙ is));
-      differs = λ x one is. absurd (none-some one (sym (bare.known x) ∙ is));
-      size = size;
-      size_differs = differs;
-    }) learns own
+-- it is told whether it is another, and then all are cascaded
+pub walk-begun : (st : Standing) (cache : StyleCache) (b : Bool) (was now : Walk) → IsBare st was → cache.size ≡ root_size_in st.scene → b ≡ root_size_differs st
+    → Widens (numbers (elements_of st.scene)) b was now → IsWalk st cache now
+walk-begun st cache b was now bare size is widens = record {
+  room = λ y there. subst (λ n. y < n) (sym (ap (λ v. length v.items) widens.known)) (bare.room y there);
+  due_room = λ y there. subst (λ n. y < n) (sym widens.room) (bare.due_room y there);
+  known = λ x style e. absurd (none-some style (sym (ap (λ v. known_at v.items x) widens.known ∙ bare.known x) ∙ e));
+  due = λ x there h. by x (is_matched st x) b refl refl (sym (told x there) ∙ h);
+  all = λ x there h. told x there ∙ (ap (λ c. is_matched st x || c) is ∙ h);
+  size = size;
+}
+  where
+    all_there : (x : ℕ) → IsElement (elements_of st.scene) x → (c : Bool) → (c && is_in x (numbers (elements_of st.scene))) ≡ c
+    all_there x there true = sym (is_element-numbers (elements_of st.scene) x) ∙ there
+    all_there x there false = refl
 
-pub size_differs-root : (st : Standing) (r : ℕ) (size : ℤ) (o : Option Style) → root_of (elements_of st.scene) ≡ Some r → size ≡ root_size_in st.scene → kept_at st r ≡ o → not (has_size size o) ≡ root_size_differs st
+    told : (x : ℕ) → IsElement (elements_of st.scene) x → is_in x now.due.items ≡ (is_matched st x || b)
+    told x there =
+        widens.due x
+        ∙ (ap (λ c. c || (b && is_in x (numbers (elements_of st.scene)))) (bare.due x there)
+        ∙ ap (λ c. is_matched st x || c) (all_there x there b))
+
+    by : (x : ℕ) (m c : Bool) → is_matched st x ≡ m → b ≡ c → (is_matched st x || b) ≡ true → is_cascaded st x ≡ true
+    by x true c em ec h = cascaded-matched st x em
+    by x false true em ec h = cascaded-size st x (sym is ∙ ec)
+    by x false false em ec h = absurd (false≢true (sym (ap (λ m. m || b) em ∙ ec) ∙ h))
+
+pub size_differs-root : (st : Standing) (r : ℕ) (size : ℤ) (o : Option Style) → root_of (elements_of st.scene) ≡ Some r → size ≡ root_size_in st.scene → kept_at st r ≡ o
+    → not (has_size size o) ≡ root_size_differs st
 size_differs-root st r size o is same kept =
     ap (λ z. not (has_size z o)) same
     ∙ (ap (λ k. not (has_size (root_size_in st.scene) k)) (sym kept)
@@ -229,12 +364,12 @@ met-all st walk v all has = has.styled ∙ sym (results-now st v all)
 
 -- what is known where one more is set, and where nothing is
 
-known_in : (known : List (Option NewStyle)) (y : ℕ) → known_at known y ≡ get_or known y None
+known_in : (known : List (Option ℕ)) (y : ℕ) → known_at known y ≡ get_or known y None
 known_in [] y = refl
 known_in (o ∷ known) zero = refl
 known_in (o ∷ known) (suc y) = known_in known y
 
-pub known-set : (known : List (Option NewStyle)) (x : ℕ) (new : NewStyle) → x < length known → (y : ℕ) → known_at (set known x (Some new)) y ≡ cond (x == y) (Some new) (known_at known y)
+pub known-set : (known : List (Option ℕ)) (x new : ℕ) → x < length known → (y : ℕ) → known_at (set known x (Some new)) y ≡ cond (x == y) (Some new) (known_at known y)
 known-set known x new within y = known_in (set known x (Some new)) y ∙ (by (x == y) refl ∙ ap (cond (x == y) (Some new)) (sym (known_in known y)))
   where
     by : (b : Bool) → (x == y) ≡ b → get_or (set known x (Some new)) y None ≡ cond b (Some new) (get_or known y None)
@@ -275,17 +410,20 @@ module _ (doc : List Element) (first : ℕ) (rest : List ℕ) (k : ℕ) (is : nu
         ap (λ l. l ++ get_or rest k 0 ∷ []) (front_is k)
         ∙ (ap (λ l. first ∷ l) (sym (take_more rest k 0 below)) ∙ sym (front_is (k + 1)))
 
-pub next-parent : (st : Standing) (walk : Walk) (first : ℕ) (rest : List ℕ) (k : ℕ) → IsValid (elements_of st.scene) → numbers (elements_of st.scene) ≡ first ∷ rest → k < length rest → HasMet st (take (k + 1) (numbers (elements_of st.scene))) walk → IsParentMet st walk (get_or rest k 0)
+pub next-parent : (st : Standing) (walk : Walk) (first : ℕ) (rest : List ℕ) (k : ℕ) → IsValid (elements_of st.scene) → numbers (elements_of st.scene) ≡ first ∷ rest
+    → k < length rest → HasMet st (take (k + 1) (numbers (elements_of st.scene))) walk → IsParentMet st walk (get_or rest k 0)
 next-parent st walk first rest k v is below has p at =
     has.met p (next-below (elements_of st.scene) first rest k is below v p at)
 
-pub next-met : (st : Standing) (walk : Walk) (first : ℕ) (rest : List ℕ) (k : ℕ) → numbers (elements_of st.scene) ≡ first ∷ rest → k < length rest → HasMet st (take (k + 1) (numbers (elements_of st.scene)) ++ get_or rest k 0 ∷ []) walk → HasMet st (take (k + 1 + 1) (numbers (elements_of st.scene))) walk
+pub next-met : (st : Standing) (walk : Walk) (first : ℕ) (rest : List ℕ) (k : ℕ) → numbers (elements_of st.scene) ≡ first ∷ rest → k < length rest
+    → HasMet st (take (k + 1) (numbers (elements_of st.scene)) ++ get_or rest k 0 ∷ []) walk → HasMet st (take (k + 1 + 1) (numbers (elements_of st.scene))) walk
 next-met st walk first rest k is below has =
     subst (λ l. HasMet st l walk) (next-front (elements_of st.scene) first rest k is below) has
 
 -- at the end
 
-pub met-order : (st : Standing) (walk : Walk) (first : ℕ) (rest : List ℕ) (k : ℕ) → IsValid (elements_of st.scene) → AllKeep st → numbers (elements_of st.scene) ≡ first ∷ rest → length rest ≤ k → HasMet st (take (k + 1) (numbers (elements_of st.scene))) walk → map styled_seen walk.styled.items ≡ results st
+pub met-order : (st : Standing) (walk : Walk) (first : ℕ) (rest : List ℕ) (k : ℕ) → IsValid (elements_of st.scene) → AllKeep st
+    → numbers (elements_of st.scene) ≡ first ∷ rest → length rest ≤ k → HasMet st (take (k + 1) (numbers (elements_of st.scene))) walk → map styled_seen walk.styled.items ≡ results st
 met-order st walk first rest k v all is past has =
     met-all st walk v all (subst (λ l. HasMet st l walk) (take_all (k + 1) (numbers (elements_of st.scene)) (omega (arith, ap length is, past))) has)
 

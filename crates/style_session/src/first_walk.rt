@@ -193,7 +193,7 @@ fn empty_places(alloc: Global, places: usize) -> Result<Vec<Option<Arc<Style>>>,
 {
     let mut kept = Vec::with_capacity(alloc, places)?;
     for _ in 0..places {
-        kept.push(None)?;
+        kept.push_reserved(None);
     }
     Ok(kept)
 }

@@ -1,13 +1,15 @@
 //! The walk of a restyle.
 
-ghost use Rattle.std.specs.Prelude.{◌≡◌, ◌++◌, ◌<◌, ◌∷◌, ℕ, [], IfOk, IsSome, List, OnOk, Some, false, length, map, not, slice_get, true};
-ghost use Rattle.std.specs.Option.{option_map_or};
+ghost use Rattle.std.specs.Prelude.{◌≡◌, ◌++◌, ◌<◌, ◌||◌, ◌∷◌, ℕ, [], IfOk, IsSome, List, OnOk, Some, length, map, not, slice_get, true};
 ghost use Rattle.scene_model.specs.Lookups.{IsElement, parent_of};
+ghost use Rattle.scene_model.specs.Numbers.{is_in};
 ghost use Rattle.value_model.specs.Style.{Style as Computed};
 ghost use Rattle.change_model.specs.Sound.{IsSound};
 ghost use Rattle.cascade_model.specs.StyleOf.{root_of};
 ghost use Rattle.sheet_set.specs.View.{sources_seen};
 ghost use Rattle.plain_style.specs.Fits.{Fits};
+ghost use Rattle.invalidation_map.specs.Members.{AreBelow};
+ghost use Rattle.invalidation_map.specs.Steps.{HasRoom};
 ghost use Rattle.session_model.specs.Standing.{is_cascaded, is_style, style_in};
 ghost use Rattle.session_model.specs.StandingInvariant.{AllKeep};
 ghost use Rattle.session_model.specs.Walk.{results};
@@ -15,35 +17,27 @@ ghost use Rattle.style_session.specs.Answers.{styled_seen};
 ghost use Rattle.style_session.specs.Sessions.{AreOfTexts};
 ghost use Rattle.style_session.specs.Lent.{lent};
 ghost use Rattle.style_session.specs.SessionView.{slot_at};
-ghost use Rattle.style_session.specs.Walking.{HandsOn, HasMet, IsBare, IsMet, IsParentMet, IsWalk, Learns, is_known_other, known_at};
+ghost use Rattle.style_session.specs.Walking.{HandsOn, HasMet, IsBare, IsMet, IsParentMet, IsWalk, Learns, Meets, Widens, known_at};
 
 use crate::lists::Lists;
 use crate::style_cache::StyleCache;
 use crate::styled::Styled;
 use dom_tree::Doc;
+use invalidation_map::ElementSet;
 use io_edges::Gate;
 use plain_style::Inputs;
 use std::sync::Arc;
 use stylo_base::NoMemory;
 
-/// What is known of an element that was met.
-#[derive(Clone, Copy)]
-struct NewStyle {
-    /// The number of its new style.
-    style: usize,
-    /// Whether that is another style than the kept one.
-    differs: bool,
-}
-
 /// What a walk in tree order has found out.
 #[derive(Drop)]
 struct Walk {
-    /// By number. None: the element was not met, or it keeps its style, which was not asked for.
-    known: Vec<Option<NewStyle>>,
-    /// Whether some style has come out as another than the kept one.
-    differs: bool,
-    /// Whether the root's font size is another than the kept one.
-    size_differs: bool,
+    /// By number: the number of the element's new style in the table. None: the element was not met, or it
+    /// keeps its style, which was not asked for.
+    known: Vec<Option<u32>>,
+    /// The elements that are cascaded, as far as it is known: those that are matched, the children of those
+    /// whose style has come out as another than the kept one, and all once the root's font size has.
+    due: ElementSet,
     /// The elements that were cascaded.
     styled: Vec<Styled>,
 }
@@ -71,10 +65,10 @@ pub(crate) fn restyled<G: Gate>(
     if lists.is_matched(*first) {
         gate.pass(0, *first);
     }
-    let mut walk = Walk::start(inputs)?;
+    let mut walk = Walk::start(inputs, lists)?;
     walk.begin(inputs, lists, cache, *first)?;
     for number in rest {
-        if !walk.is_cascaded(inputs, lists, *number) {
+        if !walk.due.contains(*number) {
             continue;
         }
         gate.pass(0, *number);
@@ -85,13 +79,15 @@ pub(crate) fn restyled<G: Gate>(
 
 impl Walk {
     /// Nothing was met yet.
-    fn start(inputs: &Inputs<'_>) -> Result<Walk, NoMemory>
-        ensures { IfOk result (λ walk. IsBare inputs.now.doc.now.elements walk) }
+    fn start(inputs: &Inputs<'_>, lists: &Lists<'_>) -> Result<Walk, NoMemory>
+        ensures { IfOk result (λ walk. IsBare (lent inputs.now lists.now) walk) }
     {
+        let last = inputs.doc.last();
+        let mut due = ElementSet::new(inputs.alloc, last as u32)?;
+        add_matched(inputs.doc, lists, &mut due);
         Ok(Walk {
-            known: vec![in inputs.alloc; None; inputs.doc.last().saturating_add(1)]?,
-            differs: false,
-            size_differs: false,
+            known: vec![in inputs.alloc; None; last + 1]?,
+            due,
             styled: Vec::new(inputs.alloc),
         })
     }
@@ -110,7 +106,7 @@ impl Walk {
         requires root { root_of inputs.now.doc.now.elements ≡ Some root }
         requires fits { Fits (sources_seen inputs.now.sheets.now) cache.old.size inputs.now.prepared.now
             cache.old.styler }
-        requires bare { IsBare inputs.now.doc.now.elements self.old }
+        requires bare { IsBare (lent inputs.now lists.now) self.old }
         ensures walk { OnOk result (IsWalk (lent inputs.now lists.now) cache.new self.new) }
         ensures met { OnOk result (HasMet (lent inputs.now lists.now) (root ∷ []) self.new) }
         ensures fits { Fits (sources_seen inputs.now.sheets.now) cache.new.size inputs.now.prepared.now
@@ -121,45 +117,14 @@ impl Walk {
             return Ok(());
         }
         let style = cache.root(inputs, root)?;
-        self.size_differs = lists.is_other_size(root, cache.size);
-        self.meet(lists, cache, root, style);
+        let differs = lists.is_other_size(root, cache.size);
+        self.cascade_later(inputs.doc.in_tree_order(), differs);
+        self.meet(inputs.doc, lists, cache, root, style)?;
         self.hand_on(cache, root, style, true)
     }
 
-    /// Whether an element is cascaded whose parent was met. Until a style has come out as another, the
-    /// parent is not asked for.
-    fn is_cascaded(&self, inputs: &Inputs<'_>, lists: &Lists<'_>, number: u32) -> bool
-        requires { IsElement inputs.now.doc.now.elements number }
-        ensures { (cache : StyleCache) → IsWalk (lent inputs.now lists.now) cache self.now
-            → IsParentMet (lent inputs.now lists.now) self.now number
-            → result ≡ is_cascaded (lent inputs.now lists.now) number }
-    {
-        if lists.is_matched(number) || self.size_differs {
-            return true;
-        }
-        if !self.differs {
-            return false;
-        }
-        self.has_other_parent(inputs.doc, number)
-    }
-
-    /// Whether the style of an element's parent is known to be another than the kept one.
-    fn has_other_parent(&self, doc: &Doc, number: u32) -> bool
-        requires { IsElement doc.now.elements number }
-        ensures { result ≡ option_map_or (is_known_other self.now.known.items)
-            (parent_of doc.now.elements number) false }
-    {
-        match doc.parent(number) {
-            Some(parent) => match self.known_of(parent) {
-                Some(new) => new.differs,
-                None => false,
-            },
-            None => false,
-        }
-    }
-
-    /// What is known of an element.
-    fn known_of(&self, number: u32) -> Option<NewStyle>
+    /// The number of the new style of an element, if it is known.
+    fn known_of(&self, number: u32) -> Option<u32>
         ensures { result ≡ known_at self.now.known.items number }
     {
         self.known.get(number as usize).copied().flatten()
@@ -192,7 +157,7 @@ impl Walk {
         let over = self.style_of(inputs, lists, cache, parent)?;
         let size = cache.size;
         let style = cache.styler.child(inputs, number, over, size)?;
-        self.meet(lists, cache, number, style);
+        self.meet(inputs.doc, lists, cache, number, style)?;
         self.hand_on(cache, number, style, lists.is_matched(number))
     }
 
@@ -218,40 +183,58 @@ impl Walk {
         ensures fits { Fits (sources_seen inputs.now.sheets.now) cache.new.size inputs.now.prepared.now
             cache.new.styler }
     {
-        if let Some(new) = self.known_of(number) {
-            return Ok(new.style);
+        if let Some(style) = self.known_of(number) {
+            return Ok(style as usize);
         }
         let kept = lists.kept_style(number).unwrap();
         let style = cache.styler.adopt(kept)?;
-        let new = NewStyle {
-            style,
-            differs: false,
-        };
-        self.learn(number, new);
+        self.learn(number, style)?;
         Ok(style)
     }
 
-    /// Learns the new style of an element, by its number in the table.
-    fn meet(&mut self, lists: &Lists<'_>, cache: &StyleCache, number: u32, style: usize)
+    /// Meets an element that is cascaded, with its new style, by its number in the table. If that is another
+    /// than the kept one, its children are cascaded.
+    fn meet(
+        &mut self,
+        doc: &Doc,
+        lists: &Lists<'_>,
+        cache: &StyleCache,
+        number: u32,
+        style: usize,
+    ) -> Result<(), NoMemory>
+        requires element { IsElement doc.now.elements number }
+        requires due { HasRoom doc.now.elements self.old.due.room }
         requires room { number < length self.old.known.items }
         requires style { style < length cache.now.styler.table }
         ensures { (own : Computed) → slice_get cache.now.styler.table style ≡ Some own
-            → Learns number (record { style = style; differs = not (is_style own (slot_at lists.now.kept.now number)) })
-            self.old self.new }
+            → OnOk result (Meets doc.now.elements number style (not (is_style own (slot_at lists.now.kept.now number)))
+            self.old self.new) }
     {
         let differs = lists.is_other_style(number, cache.styler.style(style));
-        self.learn(number, NewStyle { style, differs });
+        self.cascade_later(doc.children(number), differs);
+        self.learn(number, style)
     }
 
-    /// Keeps what is known of an element.
-    fn learn(&mut self, number: u32, new: NewStyle)
-        requires { number < length self.old.known.items }
-        ensures { Learns number new self.old self.new }
+    /// Adds elements to those that are cascaded, if a style differs.
+    fn cascade_later(&mut self, numbers: &[u32], differs: bool)
+        requires { AreBelow self.old.due.room numbers.now }
+        ensures { Widens numbers.now differs self.old self.new }
     {
-        if new.differs {
-            self.differs = true;
+        if differs {
+            self.due.add_all(numbers);
         }
-        self.known[number as usize] = Some(new);
+    }
+
+    /// Keeps the number of the new style of an element. Where it doesn't fit, no memory holds so many.
+    fn learn(&mut self, number: u32, style: usize) -> Result<(), NoMemory>
+        requires { number < length self.old.known.items }
+        ensures { OnOk result (Learns number style self.old self.new) }
+    {
+        let Ok(style) = u32::try_from(style) else {
+            return Err(NoMemory);
+        };
+        self.known[number as usize] = Some(style);
+        Ok(())
     }
 
     /// Hands an element on with its new style, by its number in the table.
@@ -273,5 +256,24 @@ impl Walk {
             matched,
         })?;
         Ok(())
+    }
+}
+
+/// Adds the elements whose rules are to be matched, to an empty set.
+fn add_matched(doc: &Doc, lists: &Lists<'_>, due: &mut ElementSet)
+    requires room { HasRoom doc.now.elements due.old.room }
+    requires empty { due.old.items ≡ [] }
+    ensures matched { (x : ℕ) → IsElement doc.now.elements x
+        → is_in x due.new.items ≡ (lists.now.is_fresh || is_in x lists.now.marks.now.items) }
+    ensures room { due.new.room ≡ due.old.room }
+{
+    if lists.is_fresh {
+        due.add_all(doc.in_tree_order());
+        return;
+    }
+    for x in lists.marks.as_slice() {
+        if doc.contains(*x) {
+            due.add(*x);
+        }
     }
 }

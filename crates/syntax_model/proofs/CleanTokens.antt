@@ -10,13 +10,13 @@ use Rattle.syntax_model.specs.Preprocess.{is_clean, is_preprocessed, preprocesse
 use Rattle.syntax_model.specs.TextUnits.{Run, TextUnit, character_of, ends_url, escape, hex_len, hex_number, len_of, name_unit, run, starts_escape, string_escape, string_unit, url_unit}
 use Rattle.syntax_model.specs.Numbers.{number_len}
 use Rattle.syntax_model.specs.Pieces.{Piece, Production, at_keyword_production, hash_production, ident_production, mark_production, number_production, string_production, ident_piece, is_line_feed}
-use Rattle.syntax_model.specs.Pieces.{mark_kind, name_in, name_len, number_piece, plain, quote_follows, production_at, production_len, production_tokens, starts_ident, string_piece, token_of}
-use Rattle.syntax_model.specs.Pieces.{url_piece}
-use Rattle.syntax_model.specs.TokensIn.{tokens_from, tokens_in}
+use Rattle.syntax_model.specs.Pieces.{mark_kind, name_in, name_len, number_piece, plain, quote_follows, production_at, production_tokens, starts_ident, string_piece, token_of, url_piece}
+use Rattle.syntax_model.specs.TokensIn.{tokens_in}
 use Rattle.syntax_model.specs.Written.{is_clean_token, no_null}
 use Rattle.syntax_model.proofs.CleanLemmas.{IsClean}
 use Rattle.syntax_model.proofs.MarkReads.{mark_any}
 use Rattle.syntax_model.proofs.PieceLemmas.{url_any}
+use Rattle.syntax_model.proofs.TokenReads.{all_tokens}
 
 -- what is left of such a text is one
 drop_clean : (n : ℕ) (text : Characters) → IsClean text → IsClean (drop n text)
@@ -126,14 +126,6 @@ module _ (start c : ℕ) (cs : Characters) (h : IsClean (c ∷ cs)) where
   production_clean mark_production = and_from _ _ (mark_clean c (and_parts (is_clean c) _ h).0) refl
   production_clean production = refl
 
-tokens_clean : (n start : ℕ) (text : Characters) → IsClean text → list_all is_clean_token (tokens_from n start text) ≡ true
-tokens_clean zero start text h = refl
-tokens_clean (suc n) start [] h = refl
-tokens_clean (suc n) start (c ∷ cs) h =
-    let taken : ℕ = production_len (production_at (c ∷ cs)) c cs in
-    list_all-append is_clean_token (production_tokens (production_at (c ∷ cs)) start c cs) (tokens_from n (start + taken) (drop taken (c ∷ cs)))
-    ∙ and_from _ _ (production_clean start c cs h (production_at (c ∷ cs))) (tokens_clean n (start + taken) (drop taken (c ∷ cs)) (drop_clean taken (c ∷ cs) h))
-
 -- what is preprocessed is so
 pub after_clean : (is_after_cr : Bool) (text : Characters) → is_preprocessed (preprocessed_after is_after_cr text) ≡ true
 after_clean is_after_cr [] = refl
@@ -146,5 +138,5 @@ after_clean is_after_cr (c ∷ cs) =
 
 -- The tokens of a preprocessed text hold no U+0000 and are no delims that preprocessing would change.
 pub text_tokens_clean : (text : Characters) → list_all is_clean_token (tokens_in (preprocessed text)) ≡ true
-unfolding tokens_in
-text_tokens_clean text = tokens_clean (length (preprocessed text)) 0 (preprocessed text) (after_clean false text)
+text_tokens_clean text =
+    all_tokens is_clean_token IsClean drop_clean (λ start c cs h. production_clean start c cs h (production_at (c ∷ cs))) (preprocessed text) (after_clean false text)

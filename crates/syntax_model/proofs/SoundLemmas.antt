@@ -1,9 +1,8 @@
 -- Each token of a text is sound, but a bad string, a bad url and a `\` alone.
-use Rattle.std.proofs.Common.{◌≡◌, ℕ, zero, suc, ◌+◌, Bool, true, false, eqb, [], ◌∷◌, length, drop, refl, sym, ap, ◌∙◌, inl, inr}
+use Rattle.std.proofs.Common.{◌≡◌, ℕ, ◌+◌, Bool, true, false, eqb, [], ◌∷◌, drop, refl, sym, ap, ◌∙◌, inl, inr}
 use Rattle.std.specs.Prelude.{◌&&◌, ◌||◌, not, codes}
 use Rattle.std.specs.List.{list_all}
 use Rattle.std.proofs.lemmas.Bool.{and_from, and_left, cases_Bool, cond_both, cond-false, eq-eqb, not_from_false, or_from, or_left, or_parts, or_right}
-use Rattle.std.proofs.lemmas.List.Folds.{list_all-append}
 use Rattle.base_model.specs.Lists.{is_nil}
 use Rattle.base_model.specs.Text.{Characters, is_word}
 use Rattle.syntax_model.specs.Letters.{begins, is_name_start}
@@ -12,13 +11,14 @@ use Rattle.syntax_model.specs.Numbers.{number_len, starts_number}
 use Rattle.syntax_model.specs.Token.{Token, hash, delim}
 use Rattle.syntax_model.specs.TokenKinds.{is_delim}
 use Rattle.syntax_model.specs.Pieces.{Piece, Production, ident_piece, is_line_feed, mark_kind, mark_production, name_in, name_len, named, number_piece, plain, quote_follows, production_at}
-use Rattle.syntax_model.specs.Pieces.{production_len, production_tokens, starts_ident, starts_name, string_piece, token_of, url_piece}
-use Rattle.syntax_model.specs.TokensIn.{tokens_from, tokens_in}
+use Rattle.syntax_model.specs.Pieces.{production_tokens, starts_ident, starts_name, string_piece, token_of, url_piece}
+use Rattle.syntax_model.specs.TokensIn.{tokens_in}
 use Rattle.syntax_model.specs.Written.{is_broken, is_delim_char, is_sound}
 use Rattle.syntax_model.proofs.MarkReads.{Alone, alone, mark_any, mark_at, no_number_before}
 use Rattle.syntax_model.proofs.NameFacts.{ident_name_some, name_in_some, no_ident_written}
 use Rattle.syntax_model.proofs.PieceLemmas.{production_any, url_any}
 use Rattle.syntax_model.proofs.TokenEndLemmas.{at_end, ends_token}
+use Rattle.syntax_model.proofs.TokenReads.{all_tokens}
 use Rattle.syntax_model.proofs.SpellingLemmas.{number_alone, spelling_as}
 
 -- broken or sound
@@ -103,15 +103,6 @@ production_known start c cs =
     (λ h. and_from _ _ (one_known c cs h) refl)
     refl
 
-tokens_known : (n start : ℕ) (text : Characters) → list_all is_known (tokens_from n start text) ≡ true
-tokens_known zero start text = refl
-tokens_known (suc n) start [] = refl
-tokens_known (suc n) start (c ∷ cs) =
-    let taken : ℕ = production_len (production_at (c ∷ cs)) c cs in
-    list_all-append is_known (production_tokens (production_at (c ∷ cs)) start c cs) (tokens_from n (start + taken) (drop taken (c ∷ cs)))
-    ∙ and_from _ _ (production_known start c cs) (tokens_known n (start + taken) (drop taken (c ∷ cs)))
-
 -- Each token of a text is sound, or one of these.
 pub sound_tokens : (text : Characters) → list_all is_known (tokens_in text) ≡ true
-unfolding tokens_in
-sound_tokens text = tokens_known (length text) 0 text
+sound_tokens text = all_tokens is_known (λ _. Unit) (λ _ _ good. good) (λ start c cs _. production_known start c cs) text tt

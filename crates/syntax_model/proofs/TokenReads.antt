@@ -1,13 +1,15 @@
 -- One step of the reader: a text whose first piece is known reads as that token, and then as what is after it.
-use Rattle.std.proofs.Common.{◌≡◌, ℕ, suc, ◌+◌, ◌<◌, Bool, true, false, List, [], ◌∷◌, ◌++◌, length, drop, map, refl, sym, ap, ◌∙◌, arith}
+use Rattle.std.proofs.Common.{◌≡◌, ℕ, zero, suc, ◌+◌, ◌<◌, Bool, true, false, List, [], ◌∷◌, ◌++◌, length, drop, map, refl, sym, ap, ◌∙◌, arith}
 use Rattle.std.proofs.lemmas.List.{drop_at, length-append}
-use Rattle.std.proofs.lemmas.Bool.{false≢true}
+use Rattle.std.specs.List.{list_all}
+use Rattle.std.proofs.lemmas.Bool.{and_from, false≢true}
+use Rattle.std.proofs.lemmas.List.Folds.{list_all-append}
 use Rattle.base_model.specs.Text.{Characters}
 use Rattle.syntax_model.specs.Token.{Said, Token, said, whitespace}
 use Rattle.syntax_model.specs.TextUnits.{Run, TextUnit, len_of, said_of}
 use Rattle.syntax_model.specs.Pieces.{Piece, Production, comment_production, ident_production, number_production, ident_piece, number_piece, piece_of, plain, production_at, production_len}
 use Rattle.syntax_model.specs.Pieces.{production_tokens, token_of}
-use Rattle.syntax_model.specs.TokensIn.{tokens_from}
+use Rattle.syntax_model.specs.TokensIn.{tokens_from, tokens_in}
 use Rattle.syntax_model.proofs.NameLemmas.{ReadsRun}
 
 -- The text reads as a token that says this, and then as the rest does.
@@ -72,3 +74,20 @@ module _ {text rest : Characters} {token : Said} (production : Production) (none
         ap (map said) (one_step n start production none (text ++ rest) (omega (arith, some, length-append text rest)) at ∙ ap (after_piece n start (text ++ rest)) is)
         ∙ ap (λ left. token ∷ map said (tokens_from n (start + length text) left)) (drop_at text rest (length text) refl);
   }
+
+-- what is true of the tokens of each piece is true of all tokens of a text
+module _ (p : Token → Bool) (Good : Characters → Type 0) (left : (n : ℕ) (text : Characters) → Good text → Good (drop n text)) where
+  abbrev OfPieces : Type 0
+  OfPieces = (start c : ℕ) (cs : Characters) → Good (c ∷ cs) → list_all p (production_tokens (production_at (c ∷ cs)) start c cs) ≡ true
+
+  all_from : OfPieces → (n start : ℕ) (text : Characters) → Good text → list_all p (tokens_from n start text) ≡ true
+  all_from each zero start text good = refl
+  all_from each (suc n) start [] good = refl
+  all_from each (suc n) start (c ∷ cs) good =
+      let taken : ℕ = production_len (production_at (c ∷ cs)) c cs in
+      list_all-append p (production_tokens (production_at (c ∷ cs)) start c cs) (tokens_from n (start + taken) (drop taken (c ∷ cs)))
+      ∙ and_from _ _ (each start c cs good) (all_from each n (start + taken) (drop taken (c ∷ cs)) (left taken (c ∷ cs) good))
+
+  pub all_tokens : OfPieces → (text : Characters) → Good text → list_all p (tokens_in text) ≡ true
+  unfolding tokens_in
+  all_tokens each text good = all_from each (length text) 0 text good

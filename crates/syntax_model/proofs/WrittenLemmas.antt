@@ -40,7 +40,7 @@ module _ (t : Token) (more : Characters) where
   no_blank_begins whitespace sound other = absurd (false≢true (sym other))
   no_blank_begins kind sound other = refl
 
--- nothing is written after a token that ends itself
+-- no comment is written after a token that ends itself
 no_gap : (kind : TokenKind) (tokens : List Token) → ends_itself kind ≡ true → gap kind tokens ≡ []
 no_gap kind [] ends = refl
 no_gap kind (next ∷ tokens) ends = rw ends

@@ -5,9 +5,9 @@ use Rattle.invalidation_map.specs.Marks.{IsGrown}
 use Rattle.invalidation_map.proofs.KeyLemmas.{hits}
 use Rattle.invalidation_map.proofs.marker.mark_by_touch.Given as goal
 
-abbrev pub invariant-loop-row : goal.invariant-loop-row
-invariant-loop-row l = record {
-  grown : IsGrown (λ x. list_any (λ row. hits l.doc.elements l.touched l.dependencies.shared (touch_seen l.touch) row x) (take l.row-index l.row-items)) l.initial.marks l.marks;
+abbrev pub invariant-loop-place : goal.invariant-loop-place
+invariant-loop-place l = record {
+  grown : IsGrown (λ x. list_any (λ row. hits l.doc.elements l.touched l.dependencies.shared (touch_seen l.touch) row x) (take l.place l.dependencies.rows.items)) l.initial.marks l.marks;
   from : l.from.room ≡ l.initial.from.room;
   next : l.next.room ≡ l.initial.from.room;
 }

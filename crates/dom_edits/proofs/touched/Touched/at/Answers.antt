@@ -11,7 +11,7 @@ returns-then-contains c =
     let k = touch_seen c.args.touch.now in
     record {
       elements = λ y.
-          ap (is_in y) c.as_slice.ensures.value
+          ap (is_in y) c.as_slice.ensures
           ∙ at_given c.self.inside.touches.items c.self.inside.elements.items c.args.self.now k true c.self.view_is (ap (λ list. list_any (same_touch k) (map touch_seen list)) (sym c.deref.ensures.value) ∙ (sym c.contains.ensures ∙ c.if-contains.true)) y;
     }
 

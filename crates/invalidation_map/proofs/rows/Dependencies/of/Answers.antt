@@ -1,16 +1,21 @@
-use Rattle.std.proofs.Common.{List, ap, flat_map, rules, subst, ◌∙◌}
-use Rattle.std.specs.List.Sorted.{IsPermutation}
+use Rattle.std.proofs.Common.{List, ap, flat_map, rules, subst, sym, ◌∙◌}
+use Rattle.std.specs.List.Sorted.{IsNonDecreasingBy, IsPermutation}
 use Rattle.std.proofs.lemmas.List.{take_all}
 use Rattle.std.proofs.lemmas.List.Sorted.{All-permutation, IsNonDecreasingBy-from_sort_by_key, IsPermutation-map}
 use Rattle.selector_types.specs.View.{selectors_of}
 use Rattle.invalidation_map.specs.Rows.{Row, rows_of}
 use Rattle.invalidation_map.specs.SharedRows.{IsWithin, row_seen, rows_seen}
+use Rattle.invalidation_map.specs.KeyBuckets.{spread}
+use Rattle.invalidation_map.proofs.BucketLemmas.{keys_sorted}
 use Rattle.invalidation_map.proofs.KeyLemmas.{key_at}
 use Rattle.invalidation_map.proofs.rows.Dependencies.of.Goals as goal
 
-pub invariant_of-result-clause-sorted : goal.invariant_of-result-clause-sorted
-invariant_of-result-clause-sorted c =
-    IsNonDecreasingBy-from_sort_by_key key_at _ c.in_ok-sort_by_key.ensures.sorted (λ a r q k. search rules)
+pub of-requires : goal.of-requires
+of-requires c =
+    subst (IsNonDecreasingBy spread) (sym c.in_ok-keys_of.ensures)
+    (keys_sorted spread key_at _
+    (subst (IsNonDecreasingBy (λ row. spread (key_at row))) (sym c.deref-2.ensures.value)
+    (IsNonDecreasingBy-from_sort_by_key (λ row. spread (key_at row)) _ c.in_ok-sort_by_key.ensures.sorted (λ a r q k. search rules))))
 
 pub invariant_of-result-clause-within : goal.invariant_of-result-clause-within
 invariant_of-result-clause-within c =

@@ -1,4 +1,4 @@
-use Rattle.std.proofs.Common.{◌≡◌, Bool, true, [], not, map, sym, ap, ◌∙◌}
+use Rattle.std.proofs.Common.{◌≡◌, ◌<◌, ℕ, Bool, true, List, [], length, not, map, sym, ap, subst, ◌∙◌}
 use Rattle.std.proofs.lemmas.Option.{slice_get_within}
 use Rattle.std.proofs.lemmas.Result.{on_ok_weaker}
 use Rattle.value_model.specs.Style.{Style, font_size_of}
@@ -11,9 +11,8 @@ use Rattle.session_model.proofs.KeepsLemmas.{root_element}
 use Rattle.session_model.proofs.OpenLemmas.{root-cascaded, size-root}
 use Rattle.style_session.specs.Lent.{lent}
 use Rattle.style_session.specs.SessionView.{slot_at}
-use Rattle.style_session.specs.declared.walk.NewStyle.{NewStyle}
-use Rattle.style_session.specs.declared.walk.Walk.{Walk}
-use Rattle.style_session.proofs.WalkLemmas.{is_new, met-cascaded, met-none, met-passed, size_differs-root, walk-bare, walk-begun, walk-handed}
+use Rattle.style_session.specs.Walking.{Widens}
+use Rattle.style_session.proofs.WalkLemmas.{all-below, has_met-widens, met-cascaded, met-none, met-passed, size_differs-root, walk-bare, walk-begun, walk-handed, walk-meets}
 use Rattle.style_session.proofs.WalkLentLemmas.{kept-found, kept-is, lent-kept, root-kept}
 use Rattle.style_session.proofs.walk.Walk.begin.Goals as goal
 
@@ -58,8 +57,21 @@ returns-then-not-is_matched-clause-fits c =
 
 -- it is matched
 
+pub cascade_later-requires : goal.cascade_later-requires
+cascade_later-requires c =
+    all-below c.args.inputs.now.doc.now.elements c.args.self.now.due.room c.in_tree_order.result.now c.requires.bare.due_room c.in_tree_order.ensures.order
+
+pub meet-requires-clause-element : goal.meet-requires-clause-element
+meet-requires-clause-element c = root_element c.args.inputs.now.doc.now.elements c.args.root c.requires.root
+
+pub meet-requires-clause-due : goal.meet-requires-clause-due
+meet-requires-clause-due c = λ y there.
+    subst (λ n. y < n) (sym c.cascade_later.ensures.room) (c.requires.bare.due_room y there)
+
 pub meet-requires-clause-room : goal.meet-requires-clause-room
-meet-requires-clause-room c = c.requires.bare.room c.args.root (root_element c.args.inputs.now.doc.now.elements c.args.root c.requires.root)
+meet-requires-clause-room c =
+    subst (λ n. c.args.root < n) (sym (ap (λ v. length v.items) c.cascade_later.ensures.known))
+    (c.requires.bare.room c.args.root (root_element c.args.inputs.now.doc.now.elements c.args.root c.requires.root))
 
 pub meet-requires-clause-style : goal.meet-requires-clause-style
 meet-requires-clause-style c = slice_get_within c.root.new.self.styler.table c.in_ok-style.style _ c.in_ok-style.ensures.style
@@ -79,11 +91,12 @@ returns-clause-walk c =
     let at = c.in_ok-style.ensures.style in
     let sized = c.in_ok-style.ensures.size in
     let kept = lent-kept inputs lists r c.requires.sound (root_element doc r c.requires.root) in
-    let new : NewStyle = record { style = c.in_ok-style.style; differs = not (is_style own slot) } in
     let one : Styled = record { number = r; style = own; matched = true } in
-    let walk = walk-begun st c.root.new.self r new c.is_other_size-self.result c.args.self.now c.meet.new.self c.requires.bare sized
-    (c.is_other_size-self.ensures ∙ size_differs-root st r c.root.new.self.size slot c.requires.root sized kept)
-    (c.meet.ensures own at) (is_new st c.root.new.self.styler.table r c.in_ok-style.style slot at kept) in
+    let begun = walk-begun st c.root.new.self c.is_other_size-differs.result c.args.self.now c.cascade_later.new.self c.requires.bare sized
+    (c.is_other_size-differs.ensures ∙ size_differs-root st r c.root.new.self.size slot c.requires.root sized kept)
+    (subst (λ (order : List ℕ). Widens order c.is_other_size-differs.result c.args.self.now c.cascade_later.new.self) c.in_tree_order.ensures.order c.cascade_later.ensures) in
+    let walk = walk-meets st c.root.new.self r c.in_ok-style.style (not (is_style own slot)) c.cascade_later.new.self c.meet.new.self c.requires.sound.valid begun
+    (c.in_ok-meet.ensures own at) at (ap (λ o. not (is_style own o)) (sym kept)) in
     on_ok_weaker c.hand_on.result (λ handed. walk-handed st c.root.new.self one c.meet.new.self c.hand_on.new.self handed walk) (c.hand_on.ensures own at)
 
 pub returns-clause-met : goal.returns-clause-met
@@ -94,13 +107,14 @@ returns-clause-met c =
     let r = c.args.root in
     let st = lent inputs lists in
     let own = style_in st.scene r in
+    let slot = slot_at lists.kept.now r in
     let at = c.in_ok-style.ensures.style in
+    let kept = lent-kept inputs lists r c.requires.sound (root_element doc r c.requires.root) in
     let matched : is_matched st r ≡ true = sym (c.is_matched.ensures inputs.doc.now inputs.sheets.now (root_element doc r c.requires.root)) ∙ c.if-not-is_matched.false in
-    let new : NewStyle = record { style = c.in_ok-style.style; differs = not (is_style own (slot_at lists.kept.now r)) } in
-    let was : Walk = record c.args.self.now { size_differs = c.is_other_size-self.result } in
     let one : Bool → Styled = λ b. record { number = r; style = own; matched = b } in
     on_ok_weaker c.hand_on.result
-    (λ handed. met-cascaded st [] r new (one true) was c.meet.new.self c.hand_on.new.self
-    (root-cascaded st c.requires.sound.valid c.requires.keeps r c.requires.root ∙ matched) (ap one (sym matched))
-    (c.meet.ensures own at) handed (met-none st was c.requires.bare.styled))
+    (λ handed. met-cascaded st [] r c.in_ok-style.style (not (is_style own slot)) (one true) c.cascade_later.new.self c.meet.new.self c.hand_on.new.self c.requires.sound.valid
+    (root-cascaded st c.requires.sound.valid c.requires.keeps r c.requires.root ∙ matched) (ap one (sym matched)) (ap (λ o. not (is_style own o)) (sym kept))
+    (c.in_ok-meet.ensures own at) handed
+    (has_met-widens st c.in_tree_order.result.now c.is_other_size-differs.result c.args.self.now c.cascade_later.new.self c.cascade_later.ensures c.requires.bare.styled))
     (c.hand_on.ensures own at)

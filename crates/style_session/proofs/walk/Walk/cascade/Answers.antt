@@ -9,10 +9,15 @@ use Rattle.session_model.specs.Walk.{Styled}
 use Rattle.style_session.specs.Lent.{lent}
 use Rattle.style_session.specs.SessionView.{slot_at}
 use Rattle.style_session.specs.declared.style_cache.StyleCache.{StyleCache}
-use Rattle.style_session.specs.declared.walk.NewStyle.{NewStyle}
-use Rattle.style_session.proofs.WalkLemmas.{is_new, met-cascaded, walk-grown, walk-handed, walk-learns}
+use Rattle.style_session.proofs.WalkLemmas.{met-cascaded, walk-grown, walk-handed, walk-meets}
 use Rattle.style_session.proofs.WalkLentLemmas.{child-over, lent-kept, sources-texts}
 use Rattle.style_session.proofs.walk.Walk.cascade.Goals as goal
+
+pub meet-requires-clause-due : goal.meet-requires-clause-due
+meet-requires-clause-due c = c.in_ok-over.ensures.walk.due_room
+
+pub meet-requires-clause-room : goal.meet-requires-clause-room
+meet-requires-clause-room c = c.in_ok-over.ensures.walk.room c.args.number c.requires.element
 
 pub meet-requires-clause-style : goal.meet-requires-clause-style
 meet-requires-clause-style c =
@@ -38,14 +43,14 @@ returns-clause-walk c =
     let parent : parent_of doc x ≡ Some p = sym c.parent.ensures.parent ∙ c.unwrap-parent.ensures in
     let at : slice_get c.child.new.self.table c.in_ok-style.style ≡ Some own =
     c.in_ok-style.ensures.style (style_in st.scene p) c.in_ok-over.ensures.style
-    ∙ ap Some (child-over doc (sources_seen sheets) (sources_of (map kept_seen sheets.sheets.items)) c.style_of.new.cache.size x p (sources-texts sheets c.requires.texts) c.requires.sound.valid parent c.in_ok-over.ensures.walk.size) in
+    ∙ ap Some (child-over doc (sources_seen sheets) (sources_of (map kept_seen sheets.sheets.items)) c.style_of.new.cache.size x p
+    (sources-texts sheets c.requires.texts) c.requires.sound.valid parent c.in_ok-over.ensures.walk.size) in
     let cache : StyleCache = record c.style_of.new.cache { styler = c.child.new.self } in
-    let new : NewStyle = record { style = c.in_ok-style.style; differs = not (is_style own slot) } in
     let one : Styled = record { number = x; style = own; matched = c.is_matched.result } in
-    let walk = walk-learns st cache x new c.style_of.new.self c.meet.new.self
+    let kept = lent-kept inputs lists x c.requires.sound c.requires.element in
+    let walk = walk-meets st cache x c.in_ok-style.style (not (is_style own slot)) c.style_of.new.self c.meet.new.self c.requires.sound.valid
     (walk-grown st c.style_of.new.cache cache c.style_of.new.self c.in_ok-style.ensures.kept refl c.in_ok-over.ensures.walk)
-    (c.meet.ensures own at)
-    (is_new st c.child.new.self.table x c.in_ok-style.style slot at (lent-kept inputs lists x c.requires.sound c.requires.element)) in
+    (c.in_ok-meet.ensures own at) at (ap (λ o. not (is_style own o)) (sym kept)) in
     on_ok_weaker c.hand_on.result (λ handed. walk-handed st cache one c.meet.new.self c.hand_on.new.self handed walk) (c.hand_on.ensures own at)
 
 pub returns-clause-met : goal.returns-clause-met
@@ -61,9 +66,13 @@ returns-clause-met c front has =
     let parent : parent_of doc x ≡ Some p = sym c.parent.ensures.parent ∙ c.unwrap-parent.ensures in
     let at : slice_get c.child.new.self.table c.in_ok-style.style ≡ Some own =
     c.in_ok-style.ensures.style (style_in st.scene p) c.in_ok-over.ensures.style
-    ∙ ap Some (child-over doc (sources_seen sheets) (sources_of (map kept_seen sheets.sheets.items)) c.style_of.new.cache.size x p (sources-texts sheets c.requires.texts) c.requires.sound.valid parent c.in_ok-over.ensures.walk.size) in
-    let new : NewStyle = record { style = c.in_ok-style.style; differs = not (is_style own (slot_at lists.kept.now x)) } in
+    ∙ ap Some (child-over doc (sources_seen sheets) (sources_of (map kept_seen sheets.sheets.items)) c.style_of.new.cache.size x p
+    (sources-texts sheets c.requires.texts) c.requires.sound.valid parent c.in_ok-over.ensures.walk.size) in
+    let kept = lent-kept inputs lists x c.requires.sound c.requires.element in
     let one : Bool → Styled = λ matched. record { number = x; style = own; matched = matched } in
     on_ok_weaker c.hand_on.result
-    (λ handed. met-cascaded st front x new (one c.is_matched.result) c.style_of.new.self c.meet.new.self c.hand_on.new.self c.requires.cascaded (ap one (c.is_matched.ensures inputs.doc.now sheets c.requires.element)) (c.meet.ensures own at) handed (c.in_ok-over.ensures.met front has))
+    (λ handed. met-cascaded st front x c.in_ok-style.style (not (is_style own (slot_at lists.kept.now x)))
+    (one c.is_matched.result) c.style_of.new.self c.meet.new.self c.hand_on.new.self c.requires.sound.valid c.requires.cascaded
+    (ap one (c.is_matched.ensures inputs.doc.now sheets c.requires.element)) (ap (λ o. not (is_style own o)) (sym kept)) (c.in_ok-meet.ensures own at) handed
+    (c.in_ok-over.ensures.met front has))
     (c.hand_on.ensures own at)

@@ -3,7 +3,7 @@ use Rattle.std.proofs.lemmas.List.Sorted.{IsPartitionPoint-from_clause}
 use Rattle.dom_edits.specs.declared.touch.Touch.{Touch}
 use Rattle.dom_edits.specs.TouchView.{touch_key, touch_seen}
 use Rattle.dom_edits.proofs.TouchLemmas.{after_all, among-seen, before_all, met_among, near_among, none_left, parted}
-use Rattle.dom_edits.proofs.touched.contains.Goals as goal
+use Rattle.dom_edits.proofs.touched.is_among_sorted.Goals as goal
 
 pub returns-then-key : goal.returns-then-key
 returns-then-key c =

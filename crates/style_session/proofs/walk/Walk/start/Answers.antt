@@ -1,0 +1,44 @@
+use Rattle.std.proofs.Common.{◌≡◌, ◌+◌, ℕ, Option, Some, None, length, replicate, refl, ap, ◌∙◌, arith}
+use Rattle.std.proofs.lemmas.List.{length-replicate}
+use Rattle.invalidation_map.specs.Members.{Members}
+use Rattle.style_session.specs.Walking.{known_at}
+use Rattle.style_session.proofs.WalkLemmas.{known-replicate}
+use Rattle.style_session.proofs.WalkLentLemmas.{matched-seen}
+use Rattle.style_session.proofs.walk.Walk.start.Goals as goal
+
+-- a clone of None is None
+none_clone : (C : Option ℕ → Type 0) → ((v : ℕ) → C (Some v) → ⊥) → (y : Option ℕ) → C y → y ≡ None
+none_clone C never None h = refl
+none_clone C never (Some v) h = absurd (never v h)
+
+pub add_matched-requires-clause-room : goal.add_matched-requires-clause-room
+add_matched-requires-clause-room c = λ x there.
+    let near = c.last-last.ensures.numbered x there in
+    let long : c.in_ok-due.due.room ≡ c.last-last.result + 1 = ap (λ (m : Members). m.room) c.in_ok-due.ensures in
+    omega arith
+
+pub add_matched-requires-clause-empty : goal.add_matched-requires-clause-empty
+add_matched-requires-clause-empty c = ap (λ (m : Members). m.items) c.in_ok-due.ensures
+
+pub returns : goal.returns
+returns c =
+    let doc = c.args.inputs.now.doc.now in
+    let lists = c.args.lists.now in
+    let due = c.add_matched.new.due in
+    let places = c.last-last.result + 1 in
+    let none : c.in_ok-vec.field-0.items ≡ replicate places None = c.in_ok-vec.ensures.items_if_clones_equal (none_clone _ (λ v g. g)) in
+    record {
+      room = λ x there.
+          let near = c.last-last.ensures.numbered x there in
+          omega (arith, ap length none, length-replicate {A = Option ℕ} places None);
+      due_room = λ x there.
+          let near = c.last-last.ensures.numbered x there in
+          let long : c.in_ok-due.due.room ≡ c.last-last.result + 1 = ap (λ (m : Members). m.room) c.in_ok-due.ensures in
+          let same : due.room ≡ c.in_ok-due.due.room = c.add_matched.ensures.room in
+          omega arith;
+      known = λ x. ap (λ items. known_at items x) none ∙ known-replicate places x;
+      due = λ x there.
+          c.add_matched.ensures.matched x there
+          ∙ matched-seen doc c.args.inputs.now.sheets.now lists.marks.now.items lists.is_fresh lists.kept.now x there;
+      styled = c.new-2.ensures.items;
+    }

@@ -1,0 +1,10 @@
+use Rattle.std.proofs.Common.{◌≡◌, ℕ, take}
+use Rattle.scene_model.specs.Lookups.{IsElement}
+use Rattle.scene_model.specs.Numbers.{is_in}
+use Rattle.style_session.proofs.walk.add_matched.Given as goal
+
+abbrev pub invariant-loop-x : goal.invariant-loop-x
+invariant-loop-x l = record {
+  matched : (y : ℕ) → IsElement l.doc.elements y → is_in y l.due.items ≡ is_in y (take l.x-index l.lists.marks.now.items);
+  room : l.due.room ≡ l.initial.due.room;
+}
