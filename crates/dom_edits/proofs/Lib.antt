@@ -1,4 +1,5 @@
 pub mod TouchLemmas
+pub mod TouchNameLemmas
 mod ClassLemmas
 mod WordLemmas
 mod LimitLemmas

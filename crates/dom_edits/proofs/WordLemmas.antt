@@ -1,10 +1,9 @@
 -- Sets of words that grow.
-use Rattle.std.proofs.Common.{◌≡◌, ℕ, ◌<◌, ◌≤◌, nat_le, false, cond, List, [], ◌∷◌, ◌++◌, refl, ap, ◌∙◌}
-use Rattle.std.proofs.lemmas.Bool.{le-leb, lt-leb}
+use Rattle.std.proofs.Common.{◌≡◌, false, cond, List, [], ◌∷◌, ◌++◌, Option, Some, None, option_map, refl, sym, subst, ap, ◌∙◌}
+use Rattle.std.specs.Option.{IfSome}
 use Rattle.scene_model.specs.Element.{Characters}
 use Rattle.stylo_base.specs.NameList.{interned, is_among}
 use Rattle.dom_tree.specs.Classes.{distinct_from}
-use Rattle.dom_edits.specs.WordSets.{few}
 
 distinct-last : (found xs : List Characters) (w : Characters) → distinct_from found (xs ++ w ∷ []) ≡ interned (distinct_from found xs) w
 distinct-last found [] w = refl
@@ -17,12 +16,11 @@ interned_new xs w h = ap (λ b. cond b xs (xs ++ w ∷ [])) h
 pub once_more : (xs : List Characters) (w : Characters) → distinct_from [] xs ≡ xs → is_among w xs ≡ false → distinct_from [] (xs ++ w ∷ []) ≡ xs ++ w ∷ []
 once_more xs w once h = distinct-last [] xs w ∙ (ap (λ l. interned l w) once ∙ interned_new xs w h)
 
--- the index of so many words
-abbrev pub index_of : ℕ → List Characters → List Characters
-index_of n xs = cond (nat_le n few) [] xs
+-- an index, with one word more
+pub index_grown : (index new : Option (List Characters)) (xs longer : List Characters) (w : Characters) → is_among w xs ≡ false → longer ≡ xs ++ w ∷ [] → new ≡ option_map (λ l. interned l w) index → IfSome index (λ l. l ≡ xs) → IfSome new (λ l. l ≡ longer)
+index_grown None new xs longer w apart e f h = subst (λ o. IfSome o (λ l. l ≡ longer)) (sym f) tt
+index_grown (Some l) new xs longer w apart e f h = subst (λ o. IfSome o (λ l. l ≡ longer)) (sym f) (ap (λ k. interned k w) h ∙ (interned_new xs w apart ∙ sym e))
 
-pub index_few : (n : ℕ) (xs : List Characters) → n ≤ few → index_of n xs ≡ []
-index_few n xs h = ap (λ b. cond b [] xs) (le-leb n few h)
-
-pub index_many : (n : ℕ) (xs : List Characters) → few < n → index_of n xs ≡ xs
-index_many n xs h = ap (λ b. cond b [] xs) (lt-leb n few h)
+pub map_twice : {A : Type 0} (f : A → List Characters) (w : Characters) (index : Option A) → option_map (λ a. interned (f a) w) index ≡ option_map (λ l. interned l w) (option_map f index)
+map_twice f w None = refl
+map_twice f w (Some a) = refl

@@ -1,3 +1,4 @@
+pub mod TouchNames
 pub mod TouchView
 pub mod EditView
 pub mod WordSets

@@ -5,12 +5,15 @@ mod applying;
 mod edits;
 mod refusals;
 mod touch;
+mod touch_name;
 mod touched;
 mod value_touches;
+mod word;
 mod word_set;
 
 pub use applying::apply;
 pub use edits::{DocEdit, Edit};
 pub use refusals::refusal;
 pub use touch::Touch;
+pub use touch_name::TouchName;
 pub use touched::Touched;

@@ -1,22 +1,22 @@
 //! What an edit can touch at an element.
 
 ghost use Rattle.std.specs.Prelude.{◌≡◌};
-ghost use Rattle.base_model.specs.Text.{same_text};
 ghost use Rattle.stylo_base.specs.StateView.{state_seen};
 ghost use Rattle.edit_model.specs.TouchedBy.{same_state, same_touch};
 ghost use Rattle.dom_edits.specs.TouchView.{touch_key, touch_seen};
 
-use stylo_base::{Atom, State};
+use crate::touch_name::TouchName;
+use stylo_base::State;
 
 /// What an edit can touch at an element: something that parts of selectors look at.
 #[derive(Drop)]
 pub enum Touch {
     /// The value of the attribute of this name, or whether the element has it.
-    Attribute(Atom),
+    Attribute(TouchName),
     /// Whether the element has this id.
-    Id(Atom),
+    Id(TouchName),
     /// Whether the element has this class.
-    Class(Atom),
+    Class(TouchName),
     /// Whether the element is in this state.
     State(State),
     /// The place of the element among its siblings.
@@ -48,9 +48,9 @@ impl Touch {
         ensures { result ≡ same_touch (touch_seen self.now) (touch_seen other.now) }
     {
         match (self, other) {
-            (Touch::Attribute(name), Touch::Attribute(other)) => is_same_atom(name, other),
-            (Touch::Id(name), Touch::Id(other)) => is_same_atom(name, other),
-            (Touch::Class(name), Touch::Class(other)) => is_same_atom(name, other),
+            (Touch::Attribute(name), Touch::Attribute(other)) => name.is(other),
+            (Touch::Id(name), Touch::Id(other)) => name.is(other),
+            (Touch::Class(name), Touch::Class(other)) => name.is(other),
             (Touch::State(state), Touch::State(other)) => is_same_state(*state, *other),
             (Touch::Positional, Touch::Positional) => true,
             (Touch::Sibling, Touch::Sibling) => true,
@@ -58,16 +58,6 @@ impl Touch {
             _ => false,
         }
     }
-}
-
-/// Whether two atoms have the same text. Most that differ are told apart by their keys.
-fn is_same_atom(one: &Atom, other: &Atom) -> bool
-    ensures { result ≡ same_text one.now other.now }
-{
-    if one.key() != other.key() {
-        return false;
-    }
-    one.as_str() == other.as_str()
 }
 
 /// Whether two states are the same.

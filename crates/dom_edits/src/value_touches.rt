@@ -12,9 +12,11 @@ ghost use Rattle.dom_edits.specs.NameTouches.{name_touches};
 ghost use Rattle.dom_edits.specs.WordSets.{IsWordSet, texts_of};
 
 use crate::touch::Touch;
-use crate::word_set::{WordSet, is_same_text};
+use crate::touch_name::TouchName;
+use crate::word::is_same_text;
+use crate::word_set::WordSet;
 use std::alloc::Global;
-use stylo_base::{Atom, NoMemory, State, Text};
+use stylo_base::{NoMemory, State};
 
 /// So many touches there is room for at once: the attribute, and a few classes before and after.
 const ROOM: usize = 8;
@@ -34,7 +36,7 @@ pub(crate) fn value_touches(
         return Ok(Vec::new(alloc));
     }
     let mut touches = Vec::with_capacity(alloc, ROOM)?;
-    touches.push(Touch::Attribute(atom_of(alloc, name)?))?;
+    touches.push(Touch::Attribute(TouchName::of(alloc, name)?))?;
     push_names(alloc, name, before, now, &mut touches)?;
     Ok(touches)
 }
@@ -88,13 +90,6 @@ fn is_same_value(one: Option<&str>, other: Option<&str>) -> bool
     }
 }
 
-/// The atom of a text.
-fn atom_of(alloc: Global, text: &str) -> Result<Atom, NoMemory>
-    ensures { IfOk result (λ atom. atom ≡ chars text.now) }
-{
-    Ok(Atom::of_text(Text::of_str(alloc, text)?))
-}
-
 /// Appends the ids that two values are.
 fn push_ids(
     alloc: Global,
@@ -121,7 +116,7 @@ fn push_id(alloc: Global, value: &str, touches: &mut Vec<Touch>) -> Result<(), N
         ++ map id (filter (λ text. not (is_empty_text text)) (chars value.now ∷ []))) }
 {
     if !value.is_empty() {
-        touches.push(Touch::Id(atom_of(alloc, value)?))?;
+        touches.push(Touch::Id(TouchName::of(alloc, value)?))?;
     }
     Ok(())
 }
@@ -157,7 +152,7 @@ fn push_missing(
 {
     for word in &from.words {
         if !other.has(word) {
-            touches.push(Touch::Class(atom_of(alloc, word)?))?;
+            touches.push(Touch::Class(TouchName::of_keyed(alloc, word.text, word.key)?))?;
         }
     }
     Ok(())

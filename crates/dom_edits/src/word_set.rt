@@ -1,15 +1,14 @@
 //! The words of a value, each once.
 
-ghost use Rattle.std.specs.Prelude.{◌≡◌, ◌<◌, ◌≤◌, [], IfOk, OnOk, length, map, not, option_map};
-ghost use Rattle.std.specs.List.{list_any};
-ghost use Rattle.std.specs.Str.{bytes_eq, chars};
-ghost use Rattle.base_model.specs.Text.{same_text};
+ghost use Rattle.std.specs.Prelude.{◌≡◌, [], IfOk, OnOk, map, option_map};
+ghost use Rattle.std.specs.Str.{chars};
 ghost use Rattle.stylo_base.specs.NameList.{interned, is_among};
 ghost use Rattle.scene_model.specs.Words.{words};
 ghost use Rattle.dom_tree.specs.Classes.{distinct_from};
 ghost use Rattle.dom_tree.specs.Labels.{class_words};
-ghost use Rattle.dom_edits.specs.WordSets.{IsWordSet, few, texts_of};
+ghost use Rattle.dom_edits.specs.WordSets.{IsWordSet, texts_of};
 
+use crate::word::Word;
 use std::alloc::Global;
 use stylo_base::{Names, NoMemory};
 
@@ -22,9 +21,9 @@ const ROOM: usize = 4;
 /// Words, each once, in the order of their first use.
 #[derive(Drop)]
 pub(crate) struct WordSet<'a> {
-    pub words: Vec<&'a str>,
+    pub words: Vec<Word<'a>>,
     /// The same words, where they are more than a few, else none.
-    pub index: Names,
+    pub index: Option<Box<Names>>,
 }
 
 impl<'a> WordSet<'a> {
@@ -36,82 +35,93 @@ impl<'a> WordSet<'a> {
     {
         let mut set = WordSet {
             words: Vec::with_capacity(alloc, ROOM)?,
-            index: Names::new(alloc),
+            index: None,
         };
         if let Some(value) = value {
-            set.add_words(value)?;
+            set.add_words(alloc, value)?;
         }
         Ok(set)
     }
 
     /// Adds the words of a value.
-    fn add_words(&mut self, value: &'a str) -> Result<(), NoMemory>
+    fn add_words(&mut self, alloc: Global, value: &'a str) -> Result<(), NoMemory>
         requires { IsWordSet self.old }
         ensures words { OnOk result (texts_of self.new ≡ distinct_from (texts_of self.old) (words (chars value.now))) }
         ensures set { OnOk result (IsWordSet self.new) }
     {
         for word in value.split_ascii_whitespace() {
-            self.add(word)?;
+            self.add(alloc, Word::of(word))?;
         }
         Ok(())
     }
 
     /// Whether a word is in the set. It takes no memory.
-    pub fn has(&self, word: &str) -> bool
+    pub fn has(&self, word: &Word) -> bool
         requires { IsWordSet self.now }
-        ensures { result ≡ is_among (chars word.now) (texts_of self.now) }
+        ensures { result ≡ is_among (chars word.now.text.now) (texts_of self.now) }
     {
-        if self.words.len() <= FEW {
-            is_one_of(&self.words, word)
-        } else {
-            self.index.find(word).is_some()
+        match &self.index {
+            None => is_one_of(&self.words, word),
+            Some(index) => index.find(word.text).is_some(),
         }
     }
 
     /// Adds a word, if it is not in the set.
-    fn add(&mut self, word: &'a str) -> Result<(), NoMemory>
+    fn add(&mut self, alloc: Global, word: Word<'a>) -> Result<(), NoMemory>
         requires { IsWordSet self.old }
-        ensures words { OnOk result (texts_of self.new ≡ interned (texts_of self.old) (chars word.now)) }
+        ensures words { OnOk result (texts_of self.new ≡ interned (texts_of self.old) (chars word.entry.text.now)) }
         ensures set { OnOk result (IsWordSet self.new) }
     {
-        if self.has(word) {
+        if self.has(&word) {
             return Ok(());
         }
         if self.words.len() == FEW {
-            name_all(&mut self.index, &self.words)?;
+            self.index = Some(index_of(alloc, &self.words)?);
         }
-        if self.words.len() >= FEW {
-            self.index.intern(word)?;
-        }
+        name_in(&mut self.index, word.text)?;
         self.words.push(word)?;
         Ok(())
     }
 }
 
-/// Whether two texts are the same.
-pub(crate) fn is_same_text(one: &str, other: &str) -> bool
-    ensures { result ≡ same_text (chars one.now) (chars other.now) }
+/// Whether a word is one of some.
+fn is_one_of(words: &[Word], word: &Word) -> bool
+    ensures { result ≡ is_among (chars word.now.text.now) (map (λ word. chars word.text.now) words.now) }
 {
-    one == other
-}
-
-/// Whether a text is one of some.
-fn is_one_of(words: &[&str], text: &str) -> bool
-    ensures { result ≡ is_among (chars text.now) (map (λ word. chars word.now) words.now) }
-{
-    for word in words {
-        if is_same_text(text, word) {
+    for other in words {
+        if word.is(other) {
             return true;
         }
     }
     false
 }
 
+/// An index of some words.
+fn index_of(alloc: Global, words: &[Word]) -> Result<Box<Names>, NoMemory>
+    ensures { IfOk result (λ index.
+        index.value ≡ distinct_from [] (map (λ word. chars word.text.now) words.now)) }
+{
+    let mut names = Names::new(alloc);
+    name_all(&mut names, words)?;
+    Ok(Box::new(alloc, names)?)
+}
+
 /// Gives each of some words a name.
-fn name_all(names: &mut Names, words: &[&str]) -> Result<(), NoMemory>
-    ensures { OnOk result (names.new ≡ distinct_from names.old (map (λ word. chars word.now) words.now)) }
+fn name_all(names: &mut Names, words: &[Word]) -> Result<(), NoMemory>
+    ensures { OnOk result (names.new ≡ distinct_from names.old (map (λ word. chars word.text.now) words.now)) }
 {
     for word in words {
+        names.intern(word.text)?;
+    }
+    Ok(())
+}
+
+/// Gives a word a name in an index, if there is one.
+fn name_in(index: &mut Option<Box<Names>>, word: &str) -> Result<(), NoMemory>
+    ensures { OnOk result (option_map (λ names. names.value) index.new
+        ≡ option_map (λ names. interned names.value (chars word.now)) index.old) }
+{
+    if let Some(names) = index {
         names.intern(word)?;
     }
     Ok(())

@@ -2,11 +2,11 @@
 
 use crate::changes::{change_of, cut, edit_of, made, number, piece, state_named};
 use crate::scene::doc_of;
-use dom_edits::{DocEdit, Touch, Touched, apply, refusal};
+use dom_edits::{DocEdit, Touch, TouchName, Touched, apply, refusal};
 use dom_tree::Doc;
 use std::alloc::Global;
 use std::test::Fail;
-use stylo_base::{Atom, EditRefused, Kind, NoMemory, Text};
+use stylo_base::{EditRefused, Kind, NoMemory, Text};
 
 /// A document with 64 attributes at its second element: `a0` to `a63`.
 fn full(alloc: Global) -> Result<Box<Doc>, NoMemory> {
@@ -158,6 +158,7 @@ set 3 id= / attribute=id
 set 3 id=y / attribute=id id=y
 set 2 k=2 / attribute=k
 set 2 k=1 /
+set 2 class=a sidebar-wide / attribute=class class=b class=sidebar-wide
 unset 2 style /
 set 2 style=a / attribute=style
 on 2 hover /
@@ -172,13 +173,13 @@ fn touch_of(alloc: Global, word: &str) -> Result<Touch, NoMemory> {
     if kind == "state" {
         return Ok(Touch::State(state_named(name)));
     }
-    let atom = Atom::of_text(Text::of_str(alloc, name)?);
+    let name = TouchName::of(alloc, name)?;
     Ok(if kind == "class" {
-        Touch::Class(atom)
+        Touch::Class(name)
     } else if kind == "id" {
-        Touch::Id(atom)
+        Touch::Id(name)
     } else {
-        Touch::Attribute(atom)
+        Touch::Attribute(name)
     })
 }
 

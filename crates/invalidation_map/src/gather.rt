@@ -14,13 +14,13 @@ ghost use Rattle.invalidation_map.specs.RowView.{rows_in};
 
 use crate::key_index::{KeyIndex, spread};
 use crate::rows::Dependencies;
-use crate::selector_key::is_touch_of;
+use crate::selector_key::{is_touch_of, name_of};
 use crate::shared::{DependencyRow, Shared, place_of_key, place_of_path};
 use dependency_map::{Dep, Part, PathStep, deps};
-use dom_edits::Touch;
+use dom_edits::{Touch, TouchName};
 use selector_types::{Key, Selector, Simple, key_of};
 use std::alloc::Global;
-use stylo_base::{Atom, NoMemory, Text};
+use stylo_base::NoMemory;
 
 impl Dependencies {
     /// Those of the selectors of rules: of each rule a list.
@@ -38,7 +38,7 @@ impl Dependencies {
         }
         rows.sort_by_key(|row| spread(row.touch.key()))?;
         let index = KeyIndex::of(alloc, keys_of(alloc, &rows)?)?;
-        let style = Touch::Attribute(Atom::of_text(Text::of_str(alloc, "style")?));
+        let style = Touch::Attribute(TouchName::of(alloc, "style")?);
         Ok(Dependencies {
             rows,
             index,
@@ -146,10 +146,10 @@ fn touch_of(alloc: Global, part: &Part) -> Result<Option<Touch>, NoMemory>
     };
     Ok(match test {
         Simple::Type(_) | Simple::Root => None,
-        Simple::Id(name) => Some(Touch::Id(name.copy(alloc)?)),
-        Simple::Class(name) => Some(Touch::Class(name.copy(alloc)?)),
-        Simple::Attribute(name) => Some(Touch::Attribute(name.copy(alloc)?)),
-        Simple::AttributeCompares { name, .. } => Some(Touch::Attribute(name.copy(alloc)?)),
+        Simple::Id(name) => Some(Touch::Id(name_of(alloc, name)?)),
+        Simple::Class(name) => Some(Touch::Class(name_of(alloc, name)?)),
+        Simple::Attribute(name) => Some(Touch::Attribute(name_of(alloc, name)?)),
+        Simple::AttributeCompares { name, .. } => Some(Touch::Attribute(name_of(alloc, name)?)),
         Simple::Empty => Some(Touch::Empty),
         Simple::Nth(_) | Simple::Only { .. } => Some(Touch::Positional),
         Simple::State(state) => Some(Touch::State(*state)),

@@ -6,7 +6,7 @@ ghost use Rattle.selector_types.specs.SimpleView.{key_seen};
 ghost use Rattle.edit_model.specs.MarkedAfter.{touch_of_key as model_touch_of_key};
 ghost use Rattle.dom_edits.specs.TouchView.{touch_seen};
 
-use dom_edits::Touch;
+use dom_edits::{Touch, TouchName};
 use selector_types::Key;
 use std::alloc::Global;
 use stylo_base::{Atom, NoMemory};
@@ -58,8 +58,8 @@ fn touch_of_key(alloc: Global, key: &Key) -> Result<Option<Touch>, NoMemory>
     ensures { IfOk result (λ touch. option_map touch_seen touch ≡ model_touch_of_key (key_seen key.now)) }
 {
     Ok(match key {
-        Key::Id(name) => Some(Touch::Id(name.copy(alloc)?)),
-        Key::Class(name) => Some(Touch::Class(name.copy(alloc)?)),
+        Key::Id(name) => Some(Touch::Id(name_of(alloc, name)?)),
+        Key::Class(name) => Some(Touch::Class(name_of(alloc, name)?)),
         Key::Type(_) | Key::Any => None,
     })
 }
@@ -69,10 +69,17 @@ pub(crate) fn is_touch_of(key: &Key, touch: &Touch) -> bool
     ensures { result ≡ true → model_touch_of_key (key_seen key.now) ≡ Some (touch_seen touch.now) }
 {
     match (key, touch) {
-        (Key::Id(one), Touch::Id(other)) => is_same_atom(one, other),
-        (Key::Class(one), Touch::Class(other)) => is_same_atom(one, other),
+        (Key::Id(name), Touch::Id(touched)) => touched.is_of(name),
+        (Key::Class(name), Touch::Class(touched)) => touched.is_of(name),
         _ => false,
     }
+}
+
+/// The name of the text of an atom.
+pub(crate) fn name_of(alloc: Global, atom: &Atom) -> Result<TouchName, NoMemory>
+    ensures { IfOk result (λ name. name ≡ atom.now) }
+{
+    TouchName::of(alloc, atom.as_str())
 }
 
 /// Another key of the same text.

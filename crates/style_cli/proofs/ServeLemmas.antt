@@ -26,8 +26,10 @@ use Rattle.session_model.proofs.ListedLemmas.{among-numbers, listed-other}
 use Rattle.session_model.proofs.RestyleLemmas.{kept-others}
 use Rattle.report_text.specs.Lines.{element_line}
 use Rattle.report_text.proofs.AppendLemmas.{alone}
-use Rattle.style_cli.specs.KeptLines.{kept_line}
-use Rattle.style_cli.specs.Printing.{Serves}
+use Rattle.sheet_model.specs.Sources.{sources_of}
+use Rattle.style_cli.specs.KeptLines.{kept_line, kept_run}
+use Rattle.style_cli.specs.Printing.{IsSettled, Serves, line_bytes, lines_bytes}
+use Rattle.style_cli.proofs.SettledLemmas.{kept-settled}
 
 -- what is kept is of elements
 
@@ -155,3 +157,18 @@ serves-kept st old new n own line serves kept made is others = λ x style at. by
 pub kept_bytes : (st : Standing) (lines : List (Option (List ℕ))) (x : ℕ) (style : Style) (line : List ℕ) → Serves st lines → kept_at st x ≡ Some style → kept_line lines x ≡ Some line → line ≡ encode_utf8_all (element_line x (tag_of (elements_of st.scene) x) style)
 kept_bytes st lines x style line serves at is =
     subst (λ o. IsBytes o (bytes_with x (tag_of (elements_of st.scene) x) style)) is (serves x style at)
+
+-- and a run of lines is those of its elements
+pub run_bytes : (st : Standing) (lines : List (Option (List ℕ))) (xs run : List ℕ) → IsSettled st → IsSound st.scene.document → Serves st lines → AllByRecursion (IsElement (elements_of st.scene)) xs
+    → kept_run lines xs ≡ Some run → run ≡ lines_bytes st.scene xs
+run_bytes st lines [] run settled sound serves all is = cc
+run_bytes st lines (x ∷ xs) run settled sound serves all is =
+    by (kept_line lines x) (kept_run lines xs) refl refl (λ rest f. run_bytes st lines xs rest settled sound serves all.1 f)
+  where
+    by : (o p : Option (List ℕ)) → kept_line lines x ≡ o → kept_run lines xs ≡ p → ((rest : List ℕ) → kept_run lines xs ≡ Some rest → rest ≡ lines_bytes st.scene xs) → run ≡ lines_bytes st.scene (x ∷ xs)
+    by None p e f others = absurd (cc)
+    by (Some line) None e f others = absurd (cc)
+    by (Some line) (Some rest) e f others =
+        let own = kept_bytes st lines x (style_in st.scene x) line serves (kept-settled st settled sound x all.0) e in
+        let whole : line ++ rest ≡ run = cc in
+        sym whole ∙ (ap (λ l. l ++ rest) own ∙ ap (λ l. line_bytes (elements_of st.scene) (sources_of st.scene.sheets) x ++ l) (others rest f))

@@ -40,10 +40,12 @@ refused_bytes one = encode_utf8_all (refused_line one.place one.why)
 abbrev pub line_bytes : List Element → Sources → ℕ → List ℕ
 line_bytes doc sources x = encode_utf8_all (line_at doc sources x)
 
--- those of all elements, in tree order
+-- those of some elements, and of all, in tree order
+abbrev pub lines_bytes : Scene → List ℕ → List ℕ
+lines_bytes scene xs = flat_map (line_bytes (elements_of scene) (sources_of scene.sheets)) xs
+
 abbrev pub elements_bytes : Scene → List ℕ
-elements_bytes scene =
-    flat_map (line_bytes (elements_of scene) (sources_of scene.sheets)) (numbers (elements_of scene))
+elements_bytes scene = lines_bytes scene (numbers (elements_of scene))
 
 -- the line of a batch and those of its refused edits
 abbrev pub heading_bytes : ℕ → Heading → List ℕ

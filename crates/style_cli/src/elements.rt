@@ -1,6 +1,7 @@
 //! The lines of the elements.
 
-ghost use Rattle.std.specs.Prelude.{◌≡◌, IsErrOf, OnErr, OnOk};
+ghost use Rattle.std.specs.Prelude.{◌≡◌, ◌<◌, ◌≤◌, IfOk, IsErrOf, OnErr, OnOk, length, take};
+ghost use Rattle.std.specs.List.{AllByRecursion};
 ghost use Rattle.std.specs.Io.KnownBytes.{Appends};
 ghost use Rattle.change_model.specs.Sound.{IsSound};
 ghost use Rattle.io_edges.specs.Cause.{HasCause};
@@ -8,7 +9,7 @@ ghost use Rattle.scene_model.specs.Lookups.{IsElement};
 ghost use Rattle.sheet_model.specs.Sources.{sources_of};
 ghost use Rattle.session_model.specs.Standing.{elements_of, style_in};
 ghost use Rattle.style_cli.specs.Loops.{GrewByFront};
-ghost use Rattle.style_cli.specs.Printing.{IsSettled, Serves, elements_bytes, line_bytes};
+ghost use Rattle.style_cli.specs.Printing.{IsSettled, Serves, elements_bytes, line_bytes, lines_bytes};
 
 use crate::lines::Lines;
 use crate::writing::write_all;
@@ -19,7 +20,7 @@ use style_session::{Session, StyleAnswer};
 use style_value::Style;
 use stylo_base::Text;
 
-/// Writes the line of each element, in tree order. A line that is kept is written as it stands; the
+/// Writes the line of each element, in tree order. Lines that are kept are written as they stand; the
 /// others are made, and kept then if they are to be.
 #[inline(never)]
 pub(crate) fn print_elements<K: Sink>(
@@ -39,15 +40,49 @@ pub(crate) fn print_elements<K: Sink>(
     ensures cause { HasCause (K.faults sink.old) (K.faults sink.new) (IsErrOf result SinkRefused.Failed) }
 {
     let mut line = Text::new(alloc);
-    let order = session.doc().in_tree_order();
-    for index in 0..order.len() {
-        print_element(session, order[index], &mut line, lines, keeps, sink)?;
+    let mut rest = session.doc().in_tree_order();
+    // The proof calls the loop by this label.
+    'printing: while !rest.is_empty() {
+        let count = print_some(session, rest, &mut line, lines, keeps, sink)?;
+        rest = rest.split_at(count).1;
     }
     Ok(())
 }
 
-/// Writes the line of an element: the one that is kept, or else a new one, made in the text that is
-/// lent for it.
+/// Writes the lines of the first of these elements, and says of how many: of those whose lines are kept
+/// and stand one behind the other, by one write, or else of one.
+fn print_some<K: Sink>(
+    session: &Session,
+    numbers: &[u32],
+    line: &mut Text,
+    lines: &mut Lines,
+    keeps: bool,
+    sink: &mut K,
+) -> Result<usize, SinkRefused>
+    requires some { 0 < length numbers.now }
+    requires elements { AllByRecursion (IsElement (elements_of session.now.scene)) numbers.now }
+    requires sound { IsSound session.now.scene.document }
+    requires settled { IsSettled session.now }
+    requires serves { Serves session.now lines.old }
+    ensures count { IfOk result (λ count. count ≤ length numbers.now) }
+    ensures progress { IfOk result (λ count. 0 < count) }
+    ensures ok { IfOk result (λ count. Appends (K.held sink.old) (K.held sink.new)
+        (lines_bytes session.now.scene (take count numbers.now))) }
+    ensures err { OnErr result (GrewByFront (K.held sink.old) (K.held sink.new)
+        (lines_bytes session.now.scene numbers.now)) }
+    ensures serves { OnOk result (Serves session.now lines.new) }
+    ensures cause { HasCause (K.faults sink.old) (K.faults sink.new) (IsErrOf result SinkRefused.Failed) }
+{
+    let (count, kept) = lines.run(numbers);
+    if count > 0 {
+        write_all(sink, kept)?;
+        return Ok(count);
+    }
+    print_element(session, numbers[0], line, lines, keeps, sink)?;
+    Ok(1)
+}
+
+/// Makes the line of an element in the text that is lent for it, keeps it if it is to be, and writes it.
 fn print_element<K: Sink>(
     session: &Session,
     number: u32,
@@ -67,9 +102,6 @@ fn print_element<K: Sink>(
     ensures serves { OnOk result (Serves session.now lines.new) }
     ensures cause { HasCause (K.faults sink.old) (K.faults sink.new) (IsErrOf result SinkRefused.Failed) }
 {
-    if let Some(kept) = lines.get(number) {
-        return write_all(sink, kept);
-    }
     line.clear();
     push_element_line(
         line,

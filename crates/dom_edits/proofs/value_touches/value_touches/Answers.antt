@@ -13,4 +13,4 @@ returns c =
     let before = option_map (λ text. chars text.now) c.args.before in
     let now = option_map (λ text. chars text.now) c.args.now in
     value_touched name before now _ (sym c.is_same_value.ensures ∙ c.if-is_same_value.false)
-    (c.in_ok-push_names.ensures ∙ ap (λ l. l ++ name_touches name before now) (pushed_touch c.in_ok-touches.touches.items _ _ (attribute name) c.in_ok-push.ensures.items (ap attribute c.in_ok-atom_of.ensures) ∙ ap (λ l. map touch_seen l ++ attribute name ∷ []) c.in_ok-touches.ensures.items))
+    (c.in_ok-push_names.ensures ∙ ap (λ l. l ++ name_touches name before now) (pushed_touch c.in_ok-touches.touches.items _ _ (attribute name) c.in_ok-push.ensures.items (ap attribute c.in_ok-of.ensures) ∙ ap (λ l. map touch_seen l ++ attribute name ∷ []) c.in_ok-touches.ensures.items))

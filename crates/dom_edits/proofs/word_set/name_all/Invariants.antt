@@ -5,4 +5,4 @@ use Rattle.dom_edits.proofs.word_set.name_all.Given as goal
 
 abbrev pub invariant-loop-word : goal.invariant-loop-word
 invariant-loop-word l =
-    distinct_from l.names (map (λ word. chars word.now) (drop l.word-index l.words)) ≡ distinct_from l.initial.names (map (λ word. chars word.now) l.words)
+    distinct_from l.names (map (λ word. chars word.text.now) (drop l.word-index l.words)) ≡ distinct_from l.initial.names (map (λ word. chars word.text.now) l.words)

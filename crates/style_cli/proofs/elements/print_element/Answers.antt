@@ -1,31 +1,15 @@
-use Rattle.std.proofs.Common.{OnErr, OnOk, sym, ap, ◌∙◌, subst}
+use Rattle.std.proofs.Common.{sym, ap, ◌∙◌, subst}
 use Rattle.std.specs.Prelude.{encode_utf8_all}
 use Rattle.std.specs.Str.{chars}
-use Rattle.std.specs.Io.KnownBytes.{Appends}
 use Rattle.dom_tree.proofs.ColumnLemmas.{on_ok}
 use Rattle.scene_model.specs.Document.{Document}
 use Rattle.scene_model.specs.Lookups.{tag_of}
 use Rattle.session_model.specs.Standing.{elements_of, style_in}
-use Rattle.style_cli.specs.Loops.{GrewByFront}
 use Rattle.style_cli.specs.Printing.{Serves}
-use Rattle.style_cli.proofs.ServeLemmas.{kept_bytes, made_line, serves-kept}
+use Rattle.style_cli.proofs.ServeLemmas.{made_line, serves-kept}
 use Rattle.style_cli.proofs.SettledLemmas.{kept-settled}
 use Rattle.style_cli.proofs.elements.print_element.Goals as goal
 use Rattle.style_cli.proofs.elements.print_element.Goals.{then-keeps+in_ok-keep, else-keeps}
-
-pub returns-in-Some-clause-ok : goal.returns-in-Some-clause-ok
-returns-in-Some-clause-ok g c =
-    let st = c.args.session.now in
-    let at = kept-settled st c.requires.settled c.requires.sound c.args.number c.requires.element in
-    let line = kept_bytes st c.args.lines.now c.args.number (style_in st.scene c.args.number) c.in-Some.kept.now c.requires.serves at (sym c.in-Some.ensures) in
-    subst (λ l. OnOk c.write_all.result (Appends (g.K.Sink.held c.args.sink.now) (g.K.Sink.held c.write_all.new.sink) l)) line c.write_all.ensures.ok
-
-pub returns-in-Some-clause-err : goal.returns-in-Some-clause-err
-returns-in-Some-clause-err g c =
-    let st = c.args.session.now in
-    let at = kept-settled st c.requires.settled c.requires.sound c.args.number c.requires.element in
-    let line = kept_bytes st c.args.lines.now c.args.number (style_in st.scene c.args.number) c.in-Some.kept.now c.requires.serves at (sym c.in-Some.ensures) in
-    subst (λ l. OnErr c.write_all.result (GrewByFront (g.K.Sink.held c.args.sink.now) (g.K.Sink.held c.write_all.new.sink) l)) line c.write_all.ensures.err
 
 pub returns-clause-serves : goal.returns-clause-serves
 returns-clause-serves g c =
@@ -36,7 +20,7 @@ returns-clause-serves g c =
     let made = made_line n c.clear.new.self c.push_element_line.new.line (chars c.tag.result.now) (tag_of (elements_of st.scene) n) c.style_of.result.now (style_in st.scene n) c.clear.ensures c.in_ok-push_element_line.ensures tag c.style_of.ensures in
     let text = c.as_str.ensures.bytes ∙ ap encode_utf8_all made in
     let bytes = c.as_bytes-bytes.ensures.value ∙ text in
-    on_ok c.write_all-2.result (Serves st c.if-keeps.lines) (elim c.if-keeps.branch [
+    on_ok c.write_all.result (Serves st c.if-keeps.lines) (elim c.if-keeps.branch [
       | then-keeps+in_ok-keep w ↦ subst (Serves st) (sym w.lines-is) (serves-kept st c.args.lines.now w.keep.new.self n (style_in st.scene n) c.as_bytes-bytes.result.now c.requires.serves at bytes w.keep.ensures.own w.keep.ensures.others)
       | else-keeps w ↦ subst (Serves st) (sym w.lines-is) c.requires.serves
     ])

@@ -1,5 +1,5 @@
 use Rattle.std.proofs.Common.{ℕ, ◌<◌, ◌≤◌, List, get_or, length, leb, ltb, rules, sym, ap, subst, arith}
-use Rattle.std.proofs.lemmas.Bool.{leb-false, leb-true, ltb-false, ltb-true}
+use Rattle.std.proofs.lemmas.Bool.{leb-false, ltb-true}
 use Rattle.std.specs.List.Sorted.{IsNonDecreasingBy}
 use Rattle.std.proofs.lemmas.List.Sorted.{IsPartitionPoint-from_clause}
 use Rattle.invalidation_map.specs.KeyBuckets.{spread}

@@ -1,7 +1,9 @@
-use Rattle.std.proofs.Common.{List, ap, flat_map, rules, subst, sym, ◌∙◌}
+use Rattle.std.proofs.Common.{List, ap, codes, flat_map, refl, rules, subst, sym, ◌∙◌}
 use Rattle.std.specs.List.Sorted.{IsNonDecreasingBy, IsPermutation}
 use Rattle.std.proofs.lemmas.List.{take_all}
 use Rattle.std.proofs.lemmas.List.Sorted.{All-permutation, IsNonDecreasingBy-from_sort_by_key, IsPermutation-map}
+use Rattle.stylo_base.proofs.TextLemmas.{chars-ascii}
+use Rattle.edit_model.specs.Touched.{attribute}
 use Rattle.selector_types.specs.View.{selectors_of}
 use Rattle.invalidation_map.specs.Rows.{Row, rows_of}
 use Rattle.invalidation_map.specs.SharedRows.{IsWithin, row_seen, rows_seen}
@@ -20,6 +22,9 @@ of-requires c =
 pub invariant_of-result-clause-within : goal.invariant_of-result-clause-within
 invariant_of-result-clause-within c =
     All-permutation (IsWithin c.loop-selectors.shared) _ _ c.in_ok-sort_by_key.ensures.permutation c.loop-selectors.invariant.within
+
+pub invariant_of-result-clause-styled : goal.invariant_of-result-clause-styled
+invariant_of-result-clause-styled c = ap attribute (c.in_ok-of.ensures ∙ chars-ascii (codes "style") refl)
 
 pub returns : goal.returns
 returns c =
