@@ -23,7 +23,7 @@ fn pair(alloc: Global) -> Result<NodeList, NoMemory> {
 
 fn depths_of(alloc: Global) -> Result<Vec<usize>, NoMemory> {
     let list = pair(alloc)?;
-    list.depths(alloc)
+    Ok(Vec::from_slice(alloc, list.depths())?)
 }
 
 #[test]

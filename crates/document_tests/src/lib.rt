@@ -8,6 +8,8 @@ mod ends;
 #[cfg(test)]
 mod errors;
 #[cfg(test)]
+mod growing;
+#[cfg(test)]
 mod jobs;
 #[cfg(test)]
 mod texts;

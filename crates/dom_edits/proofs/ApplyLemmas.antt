@@ -1,68 +1,71 @@
 -- What an accepted edit touches, as a list in any order.
-use Rattle.std.proofs.Common.{◌≡◌, ◌&&◌, ℕ, Bool, false, not, ◌||◌, List, [], ◌∷◌, Some, None, refl, sym, ap, ◌∙◌, subst}
-use Rattle.std.specs.FinMap as finmap
+use Rattle.std.proofs.Common.{◌≡◌, ◌&&◌, ◌==◌, ℕ, Bool, false, true, List, [], ◌∷◌, Option, Some, None, refl, sym, ap, ◌∙◌, subst}
+use Rattle.std.specs.Prelude.{codes}
 use Rattle.std.specs.List.{AllByRecursion, list_any}
 use Rattle.std.specs.List.Sorted.{IsPermutation}
+use Rattle.std.specs.Option.{option_map_or}
+use Rattle.std.proofs.lemmas.Bool.{and_from, and_parts, false≢true, or_left, or_right}
 use Rattle.std.proofs.lemmas.List.Sorted.{list_any-IsPermutation}
 use Rattle.std.proofs.lemmas.Map.Keys.{IsDistinct-IsPermutation}
-use Rattle.base_model.specs.Text.{Characters}
-use Rattle.scene_model.specs.Element.{Element, State}
 use Rattle.base_model.proofs.Lists.{each_weaker}
-use Rattle.std.proofs.lemmas.Bool.{not-false}
-use Rattle.scene_model.specs.Lookups.{IsElement, attribute_of, is_element, state_of}
 use Rattle.scene_model.specs.Document.{Document}
-use Rattle.change_model.specs.InPlace.{IsInPlace, changed_at, put_state}
-use Rattle.change_model.proofs.InPlace.{here, IsInPlace-attribute, IsInPlace-here, IsInPlace-no_attribute, IsInPlace-state, is_element-map}
-use Rattle.edit_model.proofs.Lists.{each_apart, equal_turned}
-use Rattle.edit_model.proofs.TouchedPairLemmas.{pairs-set, pairs-set_state, pairs-unset, text_turned}
-use Rattle.edit_model.specs.Touched.{Touch}
-use Rattle.edit_model.specs.TouchedBy.{AreTouched, same_pair, touch_code}
-use Rattle.edit_model.specs.Apply.{after}
-use Rattle.edit_model.specs.Edit.{set, set_state, unset}
-use Rattle.edit_model.specs.TouchedPairs.{at_element, state_touches, touched_pairs, value_touches}
+use Rattle.scene_model.specs.Element.{Element}
+use Rattle.scene_model.specs.Lookups.{IsElement, is_element, parent_of}
+use Rattle.scene_model.proofs.Found.{parent_of-element}
+use Rattle.scene_model.proofs.Numbers.{same_number}
+use Rattle.change_model.specs.Sound.{IsSound}
+use Rattle.edit_model.specs.Apply.{after, refusal}
+use Rattle.edit_model.specs.Edit.{DocEdit, IsShaped}
+use Rattle.edit_model.specs.Touched.{Touch, attribute, id, class, state, positional, sibling, empty, attribute_changed, in_both, is_touched, list_changed}
+use Rattle.edit_model.specs.TouchedBy.{AreTouched, is_listed, same_pair, same_touch, touch_code}
+use Rattle.edit_model.specs.TouchedPairs.{touched_pairs}
+use Rattle.edit_model.proofs.Lists.{equal_turned}
+use Rattle.edit_model.proofs.TouchedPairLemmas.{text_turned, touched-pairs}
+use Rattle.dom_edits.proofs.TouchLemmas.{same_self}
 
 same_pair-turned : (p q : Touch × ℕ) → same_pair p q ≡ same_pair q p
 same_pair-turned p q =
     λ i. (equal_turned (touch_code p.0).0 (touch_code q.0).0 i && text_turned (touch_code p.0).1 (touch_code q.0).1 i) && equal_turned p.1 q.1 i
 
 -- the pairs in another order
-pub touched-moved : (before now : List Element) (pairs others : List (Touch × ℕ)) → AreTouched before now pairs → IsPermutation pairs others → AreTouched before now others
+touched-moved : (before now : List Element) (pairs others : List (Touch × ℕ)) → AreTouched before now pairs → IsPermutation pairs others → AreTouched before now others
 touched-moved before now pairs others are moved = record {
   exact = λ touch y. sym (list_any-IsPermutation (same_pair (touch, y)) pairs others moved) ∙ are.exact touch y;
   once = IsDistinct-IsPermutation same_pair same_pair-turned pairs others moved are.once;
 }
 
-none_off : (doc : List Element) (x : ℕ) (touches : List Touch) → IsElement doc x → list_any (λ (pair : Touch × ℕ). not (is_element doc pair.1)) (at_element x touches) ≡ false
-none_off doc x [] there = refl
-none_off doc x (touch ∷ touches) there =
-    ap (λ b. not b || list_any (λ (pair : Touch × ℕ). not (is_element doc pair.1)) (at_element x touches)) there ∙ none_off doc x touches there
+-- what is touched is an element
 
--- they are at the element
-pub each-moved : (doc : List Element) (x : ℕ) (touches : List Touch) (others : List (Touch × ℕ)) → IsElement doc x → IsPermutation (at_element x touches) others → AllByRecursion (λ (pair : Touch × ℕ). IsElement doc pair.1) others
-each-moved doc x touches others there moved =
-    let off = λ (pair : Touch × ℕ). not (is_element doc pair.1) in
-    each_weaker (λ (pair : Touch × ℕ). off pair ≡ false) (λ (pair : Touch × ℕ). IsElement doc pair.1) (λ pair h. not-false (is_element doc pair.1) h) others
-    (each_apart off others (sym (list_any-IsPermutation off (at_element x touches) others moved) ∙ none_off doc x touches there))
+each_listed : (all rest : List (Touch × ℕ)) → ((touch : Touch) (y : ℕ) → is_listed rest touch y ≡ true → is_listed all touch y ≡ true) → AllByRecursion (λ pair. is_listed all pair.0 pair.1 ≡ true) rest
+each_listed all [] h = tt
+each_listed all (pair ∷ rest) h =
+    (h pair.0 pair.1 (or_left (same_pair (pair.0, pair.1) pair) (is_listed rest pair.0 pair.1) (and_from (same_touch pair.0 pair.0) (pair.1 == pair.1) (same_self pair.0) (same_number pair.1))), each_listed all rest (λ touch y i. h touch y (or_right (same_pair (touch, y) pair) (is_listed rest touch y) i)))
 
-pub stays-there : (doc : List Element) (x : ℕ) (f : Element → Element) → IsInPlace f → IsElement doc x → IsElement (changed_at x f doc) x
-stays-there doc x f k there = is_element-map (here x f) (IsInPlace-here x f k).number doc x ∙ there
+pub touched_at : (before now : List Element) (pairs : List (Touch × ℕ)) → AreTouched before now pairs → AllByRecursion (λ (pair : Touch × ℕ). IsElement now pair.1) pairs
+touched_at before now pairs are =
+    each_weaker (λ pair. is_listed pairs pair.0 pair.1 ≡ true) (λ pair. IsElement now pair.1) (λ pair h. element pair.0 pair.1 (sym (are.exact pair.0 pair.1) ∙ h)) pairs (each_listed pairs pairs (λ touch y i. i))
+  where
+    under : (y : ℕ) (o : Option ℕ) → parent_of now y ≡ o → option_map_or (list_changed before now) o false ≡ true → IsElement now y
+    under y None e h = absurd (false≢true h)
+    under y (Some p) e h = parent_of-element now y p e
+
+    both : (y : ℕ) (differs : Bool) → (in_both before now y && differs) ≡ true → IsElement now y
+    both y differs h = (and_parts (is_element before y) (is_element now y) (and_parts (in_both before now y) differs h).0).1
+
+    element : (touch : Touch) (y : ℕ) → is_touched before now touch y ≡ true → IsElement now y
+    element (attribute name) y h = both y _ h
+    element (id name) y h = both y _ (and_parts (attribute_changed before now (codes "id") y) _ h).0
+    element (class name) y h = both y _ h
+    element (state s) y h = both y _ h
+    element positional y h = under y (parent_of now y) refl h
+    element sibling y h = under y (parent_of now y) refl h
+    element empty y h = both y _ h
 
 -- what is told of an edit: its pairs, all at elements
 abbrev pub IsTold : List Element → List Element → List (Touch × ℕ) → Type 0
 IsTold before now told = AreTouched before now told × AllByRecursion (λ (pair : Touch × ℕ). IsElement now pair.1) told
 
-module _ (d now : Document) (x : ℕ) (told : List (Touch × ℕ)) (there : IsElement d.elements x) where
-  pub told-set : (name text : Characters) → now ≡ after d (set x name text) → IsPermutation (touched_pairs d (set x name text)) told → IsTold d.elements now.elements told
-  told-set name text e moved =
-      subst (λ (n : Document). IsTold d.elements n.elements told) (sym e)
-      (touched-moved d.elements (after d (set x name text)).elements (touched_pairs d (set x name text)) told (pairs-set d x name text there) moved, each-moved (after d (set x name text)).elements x (value_touches name (attribute_of d.elements x name) (Some text)) told (stays-there d.elements x (λ e. record e { attrs = finmap.insert e.attrs name text }) (IsInPlace-attribute name text) there) moved)
-
-  pub told-unset : (name : Characters) → now ≡ after d (unset x name) → IsPermutation (touched_pairs d (unset x name)) told → IsTold d.elements now.elements told
-  told-unset name e moved =
-      subst (λ (n : Document). IsTold d.elements n.elements told) (sym e)
-      (touched-moved d.elements (after d (unset x name)).elements (touched_pairs d (unset x name)) told (pairs-unset d x name there) moved, each-moved (after d (unset x name)).elements x (value_touches name (attribute_of d.elements x name) None) told (stays-there d.elements x (λ e. record e { attrs = finmap.remove e.attrs name }) (IsInPlace-no_attribute name) there) moved)
-
-  pub told-set_state : (s : State) (on : Bool) → now ≡ after d (set_state x s on) → IsPermutation (touched_pairs d (set_state x s on)) told → IsTold d.elements now.elements told
-  told-set_state s on e moved =
-      subst (λ (n : Document). IsTold d.elements n.elements told) (sym e)
-      (touched-moved d.elements (after d (set_state x s on)).elements (touched_pairs d (set_state x s on)) told (pairs-set_state d x s on there) moved, each-moved (after d (set_state x s on)).elements x (state_touches s (state_of d.elements x s) on) told (stays-there d.elements x (λ e. record e { states = put_state s on e.states }) (IsInPlace-state s on) there) moved)
+pub told-edit : (d now : Document) (edit : DocEdit) (told : List (Touch × ℕ)) → IsSound d → IsShaped edit → refusal d edit ≡ None → now ≡ after d edit → IsPermutation (touched_pairs d edit) told → IsTold d.elements now.elements told
+told-edit d now edit told sound shaped accepts e moved =
+    let are = touched-moved d.elements (after d edit).elements (touched_pairs d edit) told (touched-pairs d sound edit shaped accepts) moved in
+    subst (λ (n : Document). IsTold d.elements n.elements told) (sym e) (are, touched_at d.elements (after d edit).elements told are)

@@ -1,7 +1,13 @@
 pub mod TouchLemmas
 pub mod TouchNameLemmas
+pub mod TouchedLists
+pub mod DepthLimits
+pub mod ListEdits
+pub mod JudgeLemmas
+pub mod BeyondLemmas
+pub mod SaysLemmas
 mod ClassLemmas
 mod WordLemmas
 mod LimitLemmas
 mod NameLemmas
-mod ApplyLemmas
+pub mod ApplyLemmas

@@ -1,21 +1,25 @@
 //! What an edit of a document does.
 
-ghost use Rattle.std.specs.Prelude.{◌≡◌, IfErr, IfOk, OnErr, OnOk, option_map, unwrap_or};
+ghost use Rattle.std.specs.Prelude.{◌≡◌, IfErr, IfOk, None, OnErr, OnOk, option_map, unwrap_or};
 ghost use Rattle.std.specs.List.{AllByRecursion};
 ghost use Rattle.std.specs.List.Sorted.{IsPermutation};
 ghost use Rattle.std.specs.Str.{chars};
 ghost use Rattle.scene_model.specs.Lookups.{IsElement};
+ghost use Rattle.change_model.specs.Sound.{IsSound};
 ghost use Rattle.stylo_base.specs.StateView.{state_seen};
 ghost use Rattle.stylo_base.specs.declared.refusal.EditRefused.TheVariants.{NoMemory as out_of_memory};
 ghost use Rattle.edit_model.specs.Apply.{after, applied, refusal as model_refusal};
-ghost use Rattle.edit_model.specs.Edit.{set, set_state as model_set_state, unset};
+ghost use Rattle.edit_model.specs.Edit.{IsShaped, set, set_state as model_set_state, unset};
 ghost use Rattle.edit_model.specs.Refusal.{accepted};
 ghost use Rattle.edit_model.specs.TouchedBy.{AreTouched};
 ghost use Rattle.edit_model.specs.TouchedPairs.{touched_pairs};
-ghost use Rattle.dom_edits.specs.EditView.{doc_edit_seen, refusal_answered};
+ghost use Rattle.dom_edits.specs.AcceptedView.{accepted_seen};
+ghost use Rattle.dom_edits.specs.EditView.{doc_edit_seen, element_edit_seen, refusal_answered};
 
-use crate::edits::DocEdit;
-use crate::refusals::accepted_at;
+use crate::accepted::Accepted;
+use crate::edits::{DocEdit, ElementEdit};
+use crate::refusals::{judge, judge_in_place};
+use crate::subtrees::{insert, move_to, remove};
 use crate::touched::Touched;
 use crate::value_touches::{state_touches, value_touches};
 use dom_tree::Doc;
@@ -34,15 +38,52 @@ pub fn apply(alloc: Global, doc: &mut Doc, edit: &DocEdit) -> Result<Touched, Ed
         ≡ unwrap_or (option_map refusal_answered (model_refusal doc.old (doc_edit_seen edit.now))) out_of_memory) }
     ensures kept { OnErr result (doc.new ≡ doc.old) }
 {
-    let x = accepted_at(doc, edit)?;
-    let touched = match edit {
-        DocEdit::Set { name, value, .. } => {
-            set_attribute(alloc, doc, x, name.as_str(), value.as_str())?
-        }
-        DocEdit::Unset { name, .. } => remove_attribute(alloc, doc, x, name.as_str())?,
-        DocEdit::State { state, on, .. } => set_state(alloc, doc, x, *state, *on)?,
-    };
+    let accepted = judge(doc, edit)?;
+    let touched = make(alloc, doc, accepted)?;
     Ok(touched)
+}
+
+/// The same of an edit of one element in place.
+pub fn apply_in_place(
+    alloc: Global,
+    doc: &mut Doc,
+    edit: &ElementEdit,
+) -> Result<Touched, EditRefused>
+    ensures ok { OnOk result (applied doc.old (element_edit_seen edit.now) ≡ accepted doc.new) }
+    ensures touched { IfOk result (λ touched. AreTouched doc.old.elements doc.new.elements touched) }
+    ensures elements { IfOk result (λ touched.
+        AllByRecursion (λ pair. IsElement doc.new.elements pair.1) touched) }
+    ensures refused { IfErr result (λ why. why
+        ≡ unwrap_or (option_map refusal_answered (model_refusal doc.old (element_edit_seen edit.now))) out_of_memory) }
+    ensures kept { OnErr result (doc.new ≡ doc.old) }
+{
+    let accepted = judge_in_place(doc, edit)?;
+    let touched = make(alloc, doc, accepted)?;
+    Ok(touched)
+}
+
+/// Makes an edit that nothing refuses.
+fn make(alloc: Global, doc: &mut Doc, edit: Accepted) -> Result<Touched, NoMemory>
+    requires sound { IsSound doc.old }
+    requires shaped { IsShaped (accepted_seen edit) }
+    requires accepted { model_refusal doc.old (accepted_seen edit) ≡ None }
+    ensures ok { OnOk result (doc.new ≡ after doc.old (accepted_seen edit.entry)) }
+    ensures touched { IfOk result (λ touched.
+        IsPermutation (touched_pairs doc.old (accepted_seen edit.entry)) touched) }
+    ensures kept { OnErr result (doc.new ≡ doc.old) }
+{
+    match edit {
+        Accepted::Insert {
+            parent,
+            index,
+            nodes,
+        } => insert(alloc, doc, parent, index, nodes),
+        Accepted::Remove { x } => remove(alloc, doc, x),
+        Accepted::Move { x, parent, index } => move_to(alloc, doc, x, parent, index),
+        Accepted::Set { x, name, value } => set_attribute(alloc, doc, x, name, value),
+        Accepted::Unset { x, name } => remove_attribute(alloc, doc, x, name),
+        Accepted::State { x, state, on } => set_state(alloc, doc, x, state, on),
+    }
 }
 
 /// Gives an attribute of an element a value.

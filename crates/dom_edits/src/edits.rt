@@ -1,13 +1,100 @@
 //! The edits of a document.
 
 ghost use Rattle.std.specs.Prelude.{◌≡◌};
-ghost use Rattle.dom_edits.specs.EditView.{node_of};
+ghost use Rattle.scene_model.specs.Nodes.{IsNodeList};
+ghost use Rattle.edit_model.specs.Edit.{IsShaped};
+ghost use Rattle.dom_edits.specs.EditView.{doc_edit_seen, kept_count, new_count, nodes_seen};
 
+use dom_tree::NodeList;
 use stylo_base::{State, Text};
 
-/// An edit of a document. It names elements by number.
+/// An edit of a document. It names elements by number. An index is that among the children, from 0.
 #[derive(Drop)]
 pub enum DocEdit {
+    /// Puts nodes in: their root becomes a child of an element, at an index.
+    Insert {
+        parent: u64,
+        index: u64,
+        nodes: NewNodes,
+    },
+    /// Takes an element out, and all that is below it.
+    Remove {
+        node: u64,
+    },
+    /// Moves an element, and all that is below it: it becomes a child of another one, at an index, which counts
+    /// without it.
+    Move {
+        node: u64,
+        parent: u64,
+        index: u64,
+    },
+    /// Gives an attribute of an element a value.
+    Set {
+        node: u64,
+        name: Text,
+        value: Text,
+    },
+    /// Takes an attribute of an element away. That it is absent is no fault.
+    Unset {
+        node: u64,
+        name: Text,
+    },
+    /// Puts an element into a state, or takes it out of it.
+    State {
+        node: u64,
+        state: State,
+        on: bool,
+    },
+}
+
+impl DocEdit {
+    /// How many nodes it puts in. Those that are not kept don't count.
+    pub fn new_count(&self) -> usize
+        ensures count { result ≡ new_count self.now }
+        ensures shaped { IsShaped (doc_edit_seen self.now) }
+    {
+        match self {
+            DocEdit::Insert { nodes, .. } => nodes.count(),
+            _ => 0,
+        }
+    }
+}
+
+/// The nodes of an insertion.
+#[derive(Drop)]
+pub enum NewNodes {
+    /// These.
+    Kept(NodeList),
+    /// Nodes that are not kept, since they will be refused: this limit is the first that one of them passes by
+    /// itself, and an earlier one passes none.
+    Past(NodeLimit),
+}
+
+impl NewNodes {
+    /// How many there are. Those that are not kept don't count.
+    fn count(&self) -> usize
+        ensures count { result ≡ kept_count self.now }
+        ensures shaped { IsNodeList (nodes_seen self.now) }
+    {
+        match self {
+            NewNodes::Kept(nodes) => nodes.len(),
+            NewNodes::Past(_) => 0,
+        }
+    }
+}
+
+/// A limit that a node can pass by itself.
+#[derive(Clone, Copy, Debug, PartialEq, Eq)]
+pub enum NodeLimit {
+    /// That of the number of attributes.
+    Attributes,
+    /// That of the bytes of a value.
+    Value,
+}
+
+/// An edit of one element in place: of an attribute or of a state.
+#[derive(Drop)]
+pub enum ElementEdit {
     /// Gives an attribute of an element a value.
     Set { node: u64, name: Text, value: Text },
     /// Takes an attribute of an element away. That it is absent is no fault.
@@ -16,21 +103,9 @@ pub enum DocEdit {
     State { node: u64, state: State, on: bool },
 }
 
-impl DocEdit {
-    /// The number of the element that it is of.
-    pub(crate) fn node(&self) -> u64
-        ensures { result ≡ node_of self.now }
-    {
-        match self {
-            DocEdit::Set { node, .. } | DocEdit::Unset { node, .. } | DocEdit::State { node, .. } =>
-                *node,
-        }
-    }
-}
-
 /// An edit.
 #[derive(Drop)]
 pub enum Edit {
     /// Of the document.
-    Document(DocEdit),
+    Document(ElementEdit),
 }

@@ -1,9 +1,11 @@
 //! Edits of a document: what refuses one, what it does, and what it touches.
 #![tactic(auto)]
 
+mod accepted;
 mod applying;
 mod edits;
 mod refusals;
+mod subtrees;
 mod touch;
 mod touch_name;
 mod touched;
@@ -11,9 +13,9 @@ mod value_touches;
 mod word;
 mod word_set;
 
-pub use applying::apply;
-pub use edits::{DocEdit, Edit};
-pub use refusals::refusal;
+pub use applying::{apply, apply_in_place};
+pub use edits::{DocEdit, Edit, ElementEdit, NewNodes, NodeLimit};
+pub use refusals::{refusal, refusal_in_place};
 pub use touch::Touch;
 pub use touch_name::TouchName;
 pub use touched::Touched;

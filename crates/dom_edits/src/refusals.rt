@@ -1,55 +1,285 @@
 //! Why an edit of a document is refused.
 
-ghost use Rattle.std.specs.Prelude.{◌≡◌, IfErr, IfOk, None, OnOk, Some, if◌then◌else◌, option_map};
+ghost use Rattle.std.specs.Prelude.{◌≡◌, IfErr, IfOk, None, Some, false, length, option_map};
 ghost use Rattle.std.specs.Str.{chars};
-ghost use Rattle.scene_model.specs.Lookups.{IsElement, is_element};
-ghost use Rattle.edit_model.specs.Apply.{limit_past, refusal as model_refusal};
-ghost use Rattle.edit_model.specs.Edit.{set};
-ghost use Rattle.dom_edits.specs.EditView.{doc_edit_seen, node_of, refusal_answered};
+ghost use Rattle.scene_model.specs.Lookups.{IsElement, children, is_element, parent_of};
+ghost use Rattle.scene_model.specs.Nodes.{IsNodeList};
+ghost use Rattle.change_model.specs.Sound.{IsSound, is_below, without};
+ghost use Rattle.edit_model.specs.Apply.{limit_past, nodes_past as model_nodes_past, refusal as model_refusal};
+ghost use Rattle.edit_model.specs.Edit.{DocEdit as ModelEdit, IsShaped, insert, move, remove, set};
+ghost use Rattle.edit_model.specs.Refusal.{unknown_node};
+ghost use Rattle.dom_edits.specs.EditView.{Says, doc_edit_seen, element_edit_seen, nodes_seen, refusal_answered, refused_by};
+ghost use Rattle.dom_edits.specs.AcceptedView.{IsJudged, accepted_seen};
 
-use crate::edits::DocEdit;
-use dom_tree::Doc;
-use stylo_base::limits::{ATTRIBUTE_LIMIT, VALUE_LIMIT};
+use crate::accepted::Accepted;
+use crate::edits::{DocEdit, ElementEdit, NewNodes, NodeLimit};
+use dom_tree::{Doc, NodeList};
+use stylo_base::limits::{ATTRIBUTE_LIMIT, DEPTH_LIMIT, ELEMENT_LIMIT, NUMBER_LIMIT, VALUE_LIMIT};
 use stylo_base::{EditRefused, Kind};
 
 /// Why an edit is refused: the first refusal in the order of unknown elements, places and limits. None:
 /// it is accepted, where there is memory. It takes no memory.
 pub fn refusal(doc: &Doc, edit: &DocEdit) -> Option<EditRefused>
-    ensures { result ≡ option_map refusal_answered (model_refusal doc.now (doc_edit_seen edit.now)) }
+    ensures refusal { result ≡ option_map refusal_answered (model_refusal doc.now (doc_edit_seen edit.now)) }
+    ensures every { (said : ModelEdit) → Says edit.now said
+        → result ≡ option_map refusal_answered (model_refusal doc.now said) }
 {
-    accepted_at(doc, edit).err()
+    judge(doc, edit).err()
 }
 
-/// The element at which an edit is accepted, or else its refusal.
-pub(crate) fn accepted_at(doc: &Doc, edit: &DocEdit) -> Result<u32, EditRefused>
-    ensures accepted { OnOk result (model_refusal doc.now (doc_edit_seen edit.now) ≡ None) }
-    ensures element { IfOk result (λ x. (x ≡ node_of edit.now) × IsElement doc.now.elements x) }
-    ensures refused { IfErr result (λ why.
-        option_map refusal_answered (model_refusal doc.now (doc_edit_seen edit.now)) ≡ Some why) }
+/// The same of an edit of one element in place.
+pub fn refusal_in_place(doc: &Doc, edit: &ElementEdit) -> Option<EditRefused>
+    ensures { result ≡ option_map refusal_answered (model_refusal doc.now (element_edit_seen edit.now)) }
 {
-    let node = edit.node();
-    let Some(x) = element_of(doc, node) else {
-        return Err(EditRefused::UnknownNode(node));
+    judge_in_place(doc, edit).err()
+}
+
+/// An edit with its numbers, where nothing refuses it, or else its refusal.
+pub(crate) fn judge<'a>(doc: &Doc, edit: &'a DocEdit) -> Result<Accepted<'a>, EditRefused>
+    ensures judged { IsJudged doc.now (doc_edit_seen edit.now) result }
+    ensures shaped { IfOk result (λ accepted. IsShaped (accepted_seen accepted)) }
+    ensures sound { IsSound doc.now }
+{
+    // The order is not asked: the call tells that the document is sound.
+    let _order = doc.in_tree_order();
+    match edit {
+        DocEdit::Insert {
+            parent,
+            index,
+            nodes,
+        } => judge_insertion(doc, *parent, *index, nodes),
+        DocEdit::Remove { node } => judge_removal(doc, *node),
+        DocEdit::Move {
+            node,
+            parent,
+            index,
+        } => judge_move(doc, *node, *parent, *index),
+        DocEdit::Set { node, name, value } => judge_value(
+            doc,
+            *node,
+            name.as_str(),
+            value.as_str(),
+        ),
+        DocEdit::Unset { node, name } => Ok(Accepted::Unset {
+            x: known(doc, *node)?,
+            name: name.as_str(),
+        }),
+        DocEdit::State { node, state, on } => Ok(Accepted::State {
+            x: known(doc, *node)?,
+            state: *state,
+            on: *on,
+        }),
+    }
+}
+
+/// The same of an edit of one element in place.
+pub(crate) fn judge_in_place<'a>(
+    doc: &Doc,
+    edit: &'a ElementEdit,
+) -> Result<Accepted<'a>, EditRefused>
+    ensures judged { IsJudged doc.now (element_edit_seen edit.now) result }
+    ensures shaped { IfOk result (λ accepted. IsShaped (accepted_seen accepted)) }
+    ensures sound { IsSound doc.now }
+{
+    let _order = doc.in_tree_order();
+    match edit {
+        ElementEdit::Set { node, name, value } => {
+            judge_value(doc, *node, name.as_str(), value.as_str())
+        }
+        ElementEdit::Unset { node, name } => Ok(Accepted::Unset {
+            x: known(doc, *node)?,
+            name: name.as_str(),
+        }),
+        ElementEdit::State { node, state, on } => Ok(Accepted::State {
+            x: known(doc, *node)?,
+            state: *state,
+            on: *on,
+        }),
+    }
+}
+
+/// Judges an insertion.
+fn judge_insertion<'a>(
+    doc: &Doc,
+    parent: u64,
+    index: u64,
+    nodes: &'a NewNodes,
+) -> Result<Accepted<'a>, EditRefused>
+    requires { IsSound doc.now }
+    ensures judged { IsJudged doc.now (insert parent index (nodes_seen nodes.now)) result }
+    ensures shaped { IfOk result (λ accepted. IsShaped (accepted_seen accepted)) }
+{
+    let p = known(doc, parent)?;
+    if index > doc.children(p).len() as u64 {
+        return Err(EditRefused::BadPlace);
+    }
+    let nodes = match nodes {
+        NewNodes::Kept(nodes) => nodes,
+        NewNodes::Past(which) => return Err(refusal_by(*which)),
     };
-    let past = match edit {
-        DocEdit::Set { name, value, .. } => past_limit(doc, x, name.as_str(), value.as_str()),
-        DocEdit::Unset { .. } | DocEdit::State { .. } => None,
-    };
-    match past {
+    match past_insertion(doc, p, index as usize, nodes) {
         Some(why) => Err(why),
-        None => Ok(x),
+        None => Ok(Accepted::Insert {
+            parent: p,
+            index: index as usize,
+            nodes,
+        }),
+    }
+}
+
+/// Judges a removal.
+fn judge_removal<'a>(doc: &Doc, node: u64) -> Result<Accepted<'a>, EditRefused>
+    requires { IsSound doc.now }
+    ensures judged { IsJudged doc.now (remove node) result }
+    ensures shaped { IfOk result (λ accepted. IsShaped (accepted_seen accepted)) }
+{
+    let x = known(doc, node)?;
+    match doc.parent(x) {
+        Some(_) => Ok(Accepted::Remove { x }),
+        None => Err(EditRefused::BadPlace),
+    }
+}
+
+/// Judges a move.
+fn judge_move<'a>(
+    doc: &Doc,
+    node: u64,
+    parent: u64,
+    index: u64,
+) -> Result<Accepted<'a>, EditRefused>
+    requires { IsSound doc.now }
+    ensures judged { IsJudged doc.now (move node parent index) result }
+    ensures shaped { IfOk result (λ accepted. IsShaped (accepted_seen accepted)) }
+{
+    let x = known(doc, node)?;
+    let p = known(doc, parent)?;
+    let Some(from) = doc.parent(x) else {
+        return Err(EditRefused::BadPlace);
+    };
+    if doc.is_below(x, p) || index > count_without(doc, x, from, p) as u64 {
+        return Err(EditRefused::BadPlace);
+    }
+    match past_move(doc, x, from, p, index as usize) {
+        Some(why) => Err(why),
+        None => Ok(Accepted::Move {
+            x,
+            parent: p,
+            index: index as usize,
+        }),
+    }
+}
+
+/// Judges a value of an attribute.
+fn judge_value<'a>(
+    doc: &Doc,
+    node: u64,
+    name: &'a str,
+    value: &'a str,
+) -> Result<Accepted<'a>, EditRefused>
+    requires { IsSound doc.now }
+    ensures judged { IsJudged doc.now (set node (chars name.now) (chars value.now)) result }
+    ensures shaped { IfOk result (λ accepted. IsShaped (accepted_seen accepted)) }
+{
+    let x = known(doc, node)?;
+    match past_limit(doc, x, name, value) {
+        Some(why) => Err(why),
+        None => Ok(Accepted::Set { x, name, value }),
     }
 }
 
 /// The element that has a number, if one has.
-fn element_of(doc: &Doc, number: u64) -> Option<u32>
-    ensures { result ≡ (if is_element doc.now.elements number then Some number else None) }
+fn known(doc: &Doc, number: u64) -> Result<u32, EditRefused>
+    ensures known { IfOk result (λ x. (x ≡ number) × IsElement doc.now.elements number) }
+    ensures unknown { IfErr result (λ why. (why ≡ refusal_answered (unknown_node number))
+        × (is_element doc.now.elements number ≡ false)) }
 {
     if number > doc.last() as u64 {
-        return None;
+        return Err(EditRefused::UnknownNode(number));
     }
     let x = number as u32;
-    if doc.contains(x) { Some(x) } else { None }
+    if doc.contains(x) {
+        Ok(x)
+    } else {
+        Err(EditRefused::UnknownNode(number))
+    }
+}
+
+/// The refusal by a limit that a node passes by itself.
+fn refusal_by(which: NodeLimit) -> EditRefused
+    ensures { result ≡ refusal_answered (refused_by which) }
+{
+    match which {
+        NodeLimit::Attributes => { EditRefused::Limit(Kind::Attributes, ATTRIBUTE_LIMIT as u64) }
+        NodeLimit::Value => EditRefused::Limit(Kind::Value, VALUE_LIMIT as u64),
+    }
+}
+
+/// The limit that an insertion would pass first, if it would pass one: of each node by itself, then of elements,
+/// numbers and depth.
+fn past_insertion(doc: &Doc, parent: u32, index: usize, nodes: &NodeList) -> Option<EditRefused>
+    requires sound { IsSound doc.now }
+    requires there { IsElement doc.now.elements parent }
+    ensures past { result ≡ option_map refusal_answered (limit_past doc.now (insert parent index nodes.now)) }
+    ensures shaped { IsNodeList nodes.now }
+{
+    let count = nodes.len();
+    if let Some(which) = past_by_itself(nodes) {
+        return Some(refusal_by(which));
+    }
+    if count > ELEMENT_LIMIT - doc.len() {
+        return Some(EditRefused::Limit(Kind::Elements, ELEMENT_LIMIT as u64));
+    }
+    if count > NUMBER_LIMIT - doc.last() {
+        return Some(EditRefused::Limit(Kind::Numbers, NUMBER_LIMIT as u64));
+    }
+    if nodes.deepest() > (DEPTH_LIMIT as usize).saturating_sub(doc.depth(parent)) {
+        return Some(EditRefused::Limit(Kind::Depth, DEPTH_LIMIT as u64));
+    }
+    None
+}
+
+/// The limit that a node of a list is the first to pass by itself, if one does.
+fn past_by_itself(nodes: &NodeList) -> Option<NodeLimit>
+    ensures { option_map refused_by result ≡ model_nodes_past nodes.now }
+{
+    for index in 0..nodes.len() {
+        if nodes.attribute_count(index) > ATTRIBUTE_LIMIT {
+            return Some(NodeLimit::Attributes);
+        }
+        if nodes.longest_value(index) > VALUE_LIMIT {
+            return Some(NodeLimit::Value);
+        }
+    }
+    None
+}
+
+/// How many children `parent` has besides `x`, which is a child of `from`.
+fn count_without(doc: &Doc, x: u32, from: u32, parent: u32) -> usize
+    requires sound { IsSound doc.now }
+    requires there { IsElement doc.now.elements parent }
+    requires hung { parent_of doc.now.elements x ≡ Some from }
+    requires apart { is_below doc.now.elements x parent ≡ false }
+    ensures { result ≡ length (children (without doc.now.elements x) parent) }
+{
+    let count = doc.children(parent).len();
+    if from == parent { count - 1 } else { count }
+}
+
+/// The limit of depth, if `x` or what is below it would pass it as a child of `parent`.
+fn past_move(doc: &Doc, x: u32, from: u32, parent: u32, index: usize) -> Option<EditRefused>
+    requires sound { IsSound doc.now }
+    requires there { IsElement doc.now.elements parent }
+    requires hung { parent_of doc.now.elements x ≡ Some from }
+    requires apart { is_below doc.now.elements x parent ≡ false }
+    ensures { result ≡ option_map refusal_answered (limit_past doc.now (move x parent index)) }
+{
+    // What is below it becomes as much deeper, or less deep, as itself.
+    let now = doc.depth(x);
+    let later = doc.depth(parent) + 1;
+    if doc.deepest_below(x) + later > DEPTH_LIMIT as usize + now {
+        return Some(EditRefused::Limit(Kind::Depth, DEPTH_LIMIT as u64));
+    }
+    None
 }
 
 /// The limit that would be exceeded once an attribute of `x` has this value, if one would.

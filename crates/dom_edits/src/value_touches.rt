@@ -150,7 +150,7 @@ fn push_missing(
     ensures { OnOk result (map touch_seen touches.new.items ≡ map touch_seen touches.old.items
         ++ map class (filter (λ word. not (is_among word (texts_of other.now))) (texts_of from.now))) }
 {
-    for word in &from.words {
+    for word in from.words.as_slice() {
         if !other.has(word) {
             touches.push(Touch::Class(TouchName::of_keyed(alloc, word.text, word.key)?))?;
         }

@@ -39,6 +39,18 @@ impl<'a> Word<'a> {
     }
 }
 
+impl<'a> Default for Word<'a> {
+    ghost use Rattle.std.specs.Prelude.{[]};
+
+    ghost is_default = { λ word. chars word.text.now ≡ [] };
+
+    /// The empty text. No value has such a word.
+    #[inline]
+    fn default() -> Word<'a> {
+        Word::of("")
+    }
+}
+
 /// Whether two texts are the same.
 pub(crate) fn is_same_text(one: &str, other: &str) -> bool
     ensures { result ≡ same_text (chars one.now) (chars other.now) }

@@ -9,19 +9,17 @@ ghost use Rattle.dom_tree.specs.Labels.{class_words};
 ghost use Rattle.dom_edits.specs.WordSets.{IsWordSet, texts_of};
 
 use crate::word::Word;
+use smallvec::SmallVec;
 use std::alloc::Global;
 use stylo_base::{Names, NoMemory};
 
 /// So many words are looked through one by one. More have an index.
 const FEW: usize = 16;
 
-/// So many words there is room for at once.
-const ROOM: usize = 4;
-
 /// Words, each once, in the order of their first use.
 #[derive(Drop)]
 pub(crate) struct WordSet<'a> {
-    pub words: Vec<Word<'a>>,
+    pub words: SmallVec<Word<'a>, 4>,
     /// The same words, where they are more than a few, else none.
     pub index: Option<Box<Names>>,
 }
@@ -34,7 +32,7 @@ impl<'a> WordSet<'a> {
         ensures set { IfOk result (λ set. IsWordSet set) }
     {
         let mut set = WordSet {
-            words: Vec::with_capacity(alloc, ROOM)?,
+            words: SmallVec::new(alloc),
             index: None,
         };
         if let Some(value) = value {
@@ -61,7 +59,7 @@ impl<'a> WordSet<'a> {
         ensures { result ≡ is_among (chars word.now.text.now) (texts_of self.now) }
     {
         match &self.index {
-            None => is_one_of(&self.words, word),
+            None => is_one_of(self.words.as_slice(), word),
             Some(index) => index.find(word.text).is_some(),
         }
     }
@@ -76,7 +74,7 @@ impl<'a> WordSet<'a> {
             return Ok(());
         }
         if self.words.len() == FEW {
-            self.index = Some(index_of(alloc, &self.words)?);
+            self.index = Some(index_of(alloc, self.words.as_slice())?);
         }
         name_in(&mut self.index, word.text)?;
         self.words.push(word)?;

@@ -4,13 +4,14 @@ use Rattle.std.proofs.Common.{List, [], ◌∷◌, ◌++◌, map, length, find, 
 use Rattle.std.specs.Cmp.Lexicographic.{slice_cmp}
 use Rattle.std.specs.FinMap as finmap
 use Rattle.std.specs.Bool.{Decides}
-use Rattle.std.specs.List.{AllByRecursion, list_any, IsDistinct}
-use Rattle.std.specs.Ordering.{nat_cmp, eq_by_cmp}
-use Rattle.std.specs.Str.{chars}
+use Rattle.std.specs.List.{AllByRecursion, list_all, list_any, IsDistinct}
+use Rattle.std.specs.Ordering.{nat_cmp, eq_by_cmp, is_eq}
+use Rattle.std.specs.declared.cmp.Ordering.{Ordering}
+use Rattle.std.specs.declared.cmp.Ordering.TheVariants.{Less, Equal, Greater}
 use Rattle.std.proofs.lemmas.Bool.{and_from, and_parts, false≢true, false_from_ne_true, not-false, not-true, cond-false, cond_both, eqb-true, ltb-true, ltb-false, eqb-false, eq-eqb, cases_lt}
 use Rattle.std.proofs.lemmas.Cmp.{nat_list_cmp_total}
 use Rattle.std.proofs.lemmas.List.{map-append}
-use Rattle.std.proofs.lemmas.Option.{slice_get_within, get_or_from_slice_get, same_Some}
+use Rattle.std.proofs.lemmas.Option.{none-some, slice_get_within, get_or_from_slice_get, same_Some}
 use Rattle.base_model.specs.Text.{same_text}
 use Rattle.stylo_base.specs.NameList.{StandOnce, is_among}
 use Rattle.stylo_base.proofs.NameLemmas.{is_among-Decides}
@@ -18,10 +19,8 @@ use Rattle.scene_model.specs.Element.{Characters, Attributes}
 use Rattle.scene_model.proofs.Found.{found_any}
 use Rattle.scene_model.proofs.Lists.{each_weaker, each-filter}
 use Rattle.dom_tree.specs.declared.node_columns.AttrRow.{AttrRow}
-use Rattle.dom_tree.specs.declared.nodes.Attr.{Attr}
 use Rattle.dom_tree.specs.ElementNames.{AreNamesOf}
-use Rattle.dom_tree.specs.Kept.{text_of, named_pair, named_attributes, name_text, put_row, without_row, AreAttrs, HaveNames, KeepsTexts}
-use Rattle.dom_tree.specs.View.{pair_of, attributes_of}
+use Rattle.dom_tree.specs.Kept.{text_of, named_pair, named_attributes, name_text, put_row, without_row, AreAttrs, HaveNames, KeepsTexts, IsNamed}
 use Rattle.dom_tree.proofs.NameLemmas.{tied, tied-Decides, tied_turned, text_at, same_name, same_names, below_more_names, still_named, text_kept, text_is, KeepsTexts-more}
 use Rattle.dom_tree.proofs.Places.{rest_at}
 
@@ -163,22 +162,29 @@ over-last : (pairs : List (Characters × Characters)) (pair : Characters × Char
 over-last [] pair found = refl
 over-last (first ∷ pairs) pair found = ap (λ m. finmap.insert m first.0 first.1) (over-last pairs pair found)
 
+-- what holds of each of a list holds of each before the last
+pub each_front : {X : Type 0} (P : X → Type 0) (xs : List X) (x : X) → AllByRecursion P (xs ++ x ∷ []) → AllByRecursion P xs
+each_front P [] x h = tt
+each_front P (y ∷ ys) x h = (h.0, each_front P ys x h.1)
+
 -- the rows of the attributes so far, and those that are left
-pub record AreRowsSoFar (attrs : List Attr) (first : List Characters) (rest : List Attr) (names : List Characters) (rows : List AttrRow) : Type 0 where
-  pub whole : over (map pair_of rest) (named_attributes names rows) ≡ attributes_of attrs
+pub record AreRowsSoFar {X : Type 0} (pair : X → Characters × Characters) (attrs : List X) (first : List Characters) (rest : List X) (names : List Characters) (rows : List AttrRow)
+    : Type 0 where
+  pub whole : over (map pair rest) (named_attributes names rows) ≡ finmap.from_entries (map pair attrs)
   pub are : AreAttrs names rows
   pub kept : KeepsTexts first names
 
 -- no rows yet, and all attributes ahead
-pub no_rows : {attrs rest : List Attr} {names : List Characters} {rows : List AttrRow} → rows ≡ [] → rest ≡ attrs → AreRowsSoFar attrs names rest names rows
-no_rows {rest = rest} {names = names} e f = record {
-  whole = ap (λ l. over (map pair_of rest) (named_attributes names l)) e ∙ (over-empty (map pair_of rest) ∙ ap attributes_of f);
+pub no_rows : {X : Type 0} {pair : X → Characters × Characters} {attrs rest : List X} {names : List Characters} {rows : List AttrRow} → rows ≡ [] → rest ≡ attrs
+    → AreRowsSoFar pair attrs names rest names rows
+no_rows {pair = pair} {rest = rest} {names = names} e f = record {
+  whole = ap (λ l. over (map pair rest) (named_attributes names l)) e ∙ (over-empty (map pair rest) ∙ ap (λ l. finmap.from_entries (map pair l)) f);
   are = subst (AreAttrs names) (sym e) tt;
   kept = λ name l. refl;
 }
 
 -- the rows after one more attribute, whose name and value got names
-module _ {attrs rest : List Attr} {first old : List Characters} {rows : List AttrRow} (so_far : AreRowsSoFar attrs first rest old rows) where
+module _ {X : Type 0} {pair : X → Characters × Characters} {attrs rest : List X} {first old : List Characters} {rows : List AttrRow} (so_far : AreRowsSoFar pair attrs first rest old rows) where
   module _ (mid new : List Characters) (kept : KeepsTexts old mid) (also : KeepsTexts mid new) (once : StandOnce new) where
     grown : KeepsTexts old new
     grown = KeepsTexts-more old mid new kept also
@@ -186,22 +192,22 @@ module _ {attrs rest : List Attr} {first old : List Characters} {rows : List Att
     are_now : AreAttrs new rows
     are_now = AreAttrs-more old new rows grown so_far.are
 
-    module _ (attr : Attr) (name value : ℕ) (is_name : slice_get mid name ≡ Some (chars attr.name.now)) (is_value : slice_get new value ≡ Some (chars attr.value.now)) where
-      named : slice_get new name ≡ Some (chars attr.name.now)
+    module _ (attr : X) (name value : ℕ) (is_name : slice_get mid name ≡ Some (pair attr).0) (is_value : slice_get new value ≡ Some (pair attr).1) where
+      named : slice_get new name ≡ Some (pair attr).0
       named = still_named mid new name is_name also
 
       within : name < length new
       within = slice_get_within new name _ named
 
-      next_map : named_attributes new (put_row name value rows) ≡ finmap.insert (named_attributes old rows) (chars attr.name.now) (chars attr.value.now)
+      next_map : named_attributes new (put_row name value rows) ≡ finmap.insert (named_attributes old rows) (pair attr).0 (pair attr).1
       next_map =
           named_put new once name within value rows are_now
           ∙ λ i. finmap.insert (attributes_kept old new rows grown so_far.are i) (text_is new name _ named i) (text_is new value _ is_value i)
 
-      pub next_row : {shorter : List Attr} {later : List AttrRow} → rest ≡ shorter ++ attr ∷ [] → later ≡ put_row name value rows → AreRowsSoFar attrs first shorter new later
+      pub next_row : {shorter : List X} {later : List AttrRow} → rest ≡ shorter ++ attr ∷ [] → later ≡ put_row name value rows → AreRowsSoFar pair attrs first shorter new later
       next_row {shorter} shown e = record {
-        whole = ap (over (map pair_of shorter)) (ap (named_attributes new) e ∙ next_map) ∙ (sym (over-last (map pair_of shorter) (pair_of attr) (named_attributes old rows))
-            ∙ (ap (λ l. over l (named_attributes old rows)) (sym (map-append pair_of shorter (attr ∷ [])) ∙ ap (map pair_of) (sym shown)) ∙ so_far.whole));
+        whole = ap (over (map pair shorter)) (ap (named_attributes new) e ∙ next_map) ∙ (sym (over-last (map pair shorter) (pair attr) (named_attributes old rows))
+            ∙ (ap (λ l. over l (named_attributes old rows)) (sym (map-append pair shorter (attr ∷ [])) ∙ ap (map pair) (sym shown)) ∙ so_far.whole));
         are = subst (AreAttrs new) (sym e) (AreAttrs-put new name value rows within (slice_get_within new value _ is_value) are_now);
         kept = KeepsTexts-more first old new so_far.kept grown;
       }
@@ -340,6 +346,11 @@ same_map-rows names xs ys once are also e =
 
 -- the names of the rows
 
+-- each row is of names that have texts
+pub rows_are_named : (names : List Characters) (rows : List AttrRow) → AreAttrs names rows → AllByRecursion (IsNamed names) rows
+rows_are_named names [] are = tt
+rows_are_named names (row ∷ rows) are = (are.0, rows_are_named names rows are.2)
+
 pub have_names : (names : List Characters) (rows : List AttrRow) → AreAttrs names rows → HaveNames names rows
 have_names names [] are = tt
 have_names names (row ∷ rows) are = (are.0.0, have_names names rows are.2)
@@ -380,3 +391,47 @@ module _ (names : List Characters) (once : StandOnce names) where
       let new = keyed names row.name once are.0.0 rows are.2 ∙ ap (option_map (text_of names)) (before_all row.name rows are.1) in
       let more = finmap.len-insert nat_list_cmp_total m (text_of names row.name) (text_of names row.value) ∙ ap (λ o. cond (is_some o) (finmap.len m) (finmap.len m + 1)) new in
       omega (arith, rows_counted rows are.2, more)
+
+  -- their values: one whose key is not there comes to the others
+
+  and_turned : (a b c : Bool) → (a && (b && c)) ≡ (b && (a && c))
+  and_turned true true c = refl
+  and_turned true false c = refl
+  and_turned false true c = refl
+  and_turned false false c = refl
+
+  put_first : (p : Characters → Bool) (k v : Characters) (e : Characters × Characters) (es : List (Characters × Characters)) (r : Ordering) → slice_cmp nat_cmp k e.0 ≡ r
+      → finmap.find (slice_cmp nat_cmp) k (e ∷ es) ≡ None
+      → (finmap.find (slice_cmp nat_cmp) k es ≡ None → list_all p (map (λ (f : Characters × Characters). f.1) (finmap.put (slice_cmp nat_cmp) k v es))
+      ≡ (p v && list_all p (map (λ (f : Characters × Characters). f.1) es)))
+      → list_all p (map (λ (f : Characters × Characters). f.1) (finmap.put (slice_cmp nat_cmp) k v (e ∷ es))) ≡ (p v && (p e.1 && list_all p (map (λ (f : Characters × Characters). f.1) es)))
+  put_first p k v e es Less h none step = rw h refl
+  put_first p k v e es Equal h none step =
+      let found : cond (is_eq (slice_cmp nat_cmp k e.0)) (Some e.1) (finmap.find (slice_cmp nat_cmp) k es) ≡ Some e.1 = ap (λ r. cond (is_eq r) (Some e.1) (finmap.find (slice_cmp nat_cmp) k es)) h in
+      absurd (none-some e.1 (sym none ∙ found))
+  put_first p k v e es Greater h none step =
+      let passed : finmap.find (slice_cmp nat_cmp) k es ≡ None = sym (ap (λ r. cond (is_eq r) (Some e.1) (finmap.find (slice_cmp nat_cmp) k es)) h) ∙ none in
+      rw h (ap (λ b. p e.1 && b) (step passed) ∙ and_turned (p e.1) (p v) (list_all p (map (λ (f : Characters × Characters). f.1) es)))
+
+  put_all : (p : Characters → Bool) (k v : Characters) (es : List (Characters × Characters)) → finmap.find (slice_cmp nat_cmp) k es ≡ None
+      → list_all p (map (λ (e : Characters × Characters). e.1) (finmap.put (slice_cmp nat_cmp) k v es)) ≡ (p v && list_all p (map (λ (e : Characters × Characters). e.1) es))
+  put_all p k v [] none = refl
+  put_all p k v (e ∷ es) none = put_first p k v e es (slice_cmp nat_cmp k e.0) refl none (put_all p k v es)
+
+  no_values : (p : Characters → Bool) → list_all p (finmap.values {X = Characters} {R = slice_cmp nat_cmp} finmap.empty) ≡ true
+  no_values p = by (finmap.entries {X = Characters} {R = slice_cmp nat_cmp} finmap.empty)
+      (sym (finmap.len-entries {X = Characters} {R = slice_cmp nat_cmp} finmap.empty) ∙ finmap.len-empty (slice_cmp nat_cmp) Characters)
+    where
+      by : (es : List (Characters × Characters)) → length es ≡ 0 → list_all p (map (λ (e : Characters × Characters). e.1) es) ≡ true
+      by [] h = refl
+      by (e ∷ es) h = absurd (omega (arith, h))
+
+  pub row_values : (p : Characters → Bool) (rows : List AttrRow) → AreAttrs names rows → list_all p (finmap.values (named_attributes names rows)) ≡ list_all (λ row. p (text_of names row.value)) rows
+  row_values p [] are = no_values p
+  row_values p (row ∷ rows) are =
+      let m = named_attributes names rows in
+      let new = keyed names row.name once are.0.0 rows are.2 ∙ ap (option_map (text_of names)) (before_all row.name rows are.1) in
+      ap (λ (es : List (Characters × Characters)). list_all p (map (λ (e : Characters × Characters). e.1) es))
+      (finmap.entries-insert nat_list_cmp_total m (text_of names row.name) (text_of names row.value))
+      ∙ (put_all p (text_of names row.name) (text_of names row.value) (finmap.entries m) (sym (finmap.get-entries m (text_of names row.name)) ∙ new)
+      ∙ ap (λ b. p (text_of names row.value) && b) (row_values p rows are.2))

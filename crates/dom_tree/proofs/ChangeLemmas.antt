@@ -1,36 +1,34 @@
 -- The document once one node is changed in place: its number, its parent and its tag stay.
-use Rattle.std.proofs.Common.{◌≡◌, ◌≢◌, ℕ, zero, suc, ◌+◌, ◌<◌, ◌≤◌, ◌==◌, ◌&&◌, Bool, true, false, nat_lt, nat_le, cond, sym, ap, ◌∙◌, subst, refl, arith}
+use Rattle.std.proofs.Common.{◌≡◌, ◌≢◌, ℕ, zero, suc, ◌+◌, ◌≤◌, ◌==◌, Bool, true, false, cond, sym, ap, ◌∙◌, subst, refl, arith}
 use Rattle.std.proofs.Common.{List, [], ◌∷◌, map, filter_map, length, slice_set, Option, Some, None, slice_get}
 use Rattle.std.specs.FinMap as finmap
 use Rattle.std.specs.Option.{option_map_or}
 use Rattle.std.proofs.lemmas.Bool.{cond-true, cond-false, eq-eqb}
-use Rattle.std.proofs.lemmas.List.{length-map}
-use Rattle.base_model.specs.Limits.{element_limit}
+use Rattle.base_model.specs.Limits.{number_limit}
 use Rattle.stylo_base.specs.NameList.{StandOnce}
 use Rattle.scene_model.specs.Document.{Document}
 use Rattle.scene_model.specs.Element.{Element, Characters, State}
-use Rattle.scene_model.specs.Lookups.{numbers, element_at, is_element}
-use Rattle.scene_model.specs.Nodes.{Node, HaveParentsFrom, IsParentAt, listed, listed_from}
+use Rattle.scene_model.specs.Lookups.{IsElement, element_at, place_of, place_of_type}
+use Rattle.scene_model.specs.Nodes.{Node, listed, listed_from}
 use Rattle.scene_model.proofs.Listed.{numbered}
 use Rattle.scene_model.proofs.Numbers.{differs}
 use Rattle.change_model.specs.InPlace.{changed_at, IsInPlace, put_state}
 use Rattle.change_model.specs.Sound.{IsSound}
 use Rattle.change_model.proofs.Columns.{filter_map-mapped}
-use Rattle.change_model.proofs.InPlace.{here, number-here, IsInPlace-here, element_at-map, numbers-map, is_element-map, children-map, place_of-map, place_of_type-map}
+use Rattle.change_model.proofs.InPlace.{here, number-here, IsInPlace-here, element_at-map, numbers-map, is_element-map, children-map, place_of-map, place_of_type-map, tag_of-map}
 use Rattle.change_model.proofs.InPlace.{IsSound-changed_at, IsInPlace-attribute, IsInPlace-no_attribute, IsInPlace-state}
 use Rattle.dom_tree.specs.declared.labels.Label.{Label}
-use Rattle.dom_tree.specs.declared.links.NodeLink.{NodeLink}
-use Rattle.dom_tree.specs.Kept.{Table, put_node}
+use Rattle.dom_tree.specs.ChildLists.{AreChildren, lists_of}
+use Rattle.dom_tree.specs.Kept.{KeepsTexts, Table, put_node}
 use Rattle.dom_tree.specs.Labels.{AreCuts, AreLabels}
-use Rattle.dom_tree.specs.Links.{AreLinks}
-use Rattle.dom_tree.specs.TypePlaces.{AreTypePlaces}
-use Rattle.dom_tree.specs.Whole.{document, in_order}
-use Rattle.dom_tree.proofs.Parts.{AreSeenAs, AreWhole, Cuts, Lists, Parts}
+use Rattle.dom_tree.specs.SiblingPlaces.{ArePlaces, AreZeros, HasNameBelow}
+use Rattle.dom_tree.specs.Whole.{IsKept, IsWhole, Parts, document, in_order}
+use Rattle.dom_tree.proofs.NameLemmas.{below_more_names}
+use Rattle.dom_tree.proofs.Parts.{AreSeenAs, Cuts, Lists}
 
 -- a change of a node, and of its element
 pub record IsChange (f : Node → Node) (g : Element → Element) : Type 0 where
   pub place : IsInPlace g
-  pub parent : (node : Node) → (f node).parent ≡ node.parent
   pub same : (k : ℕ) (node : Node) → numbered k (f node) ≡ g (numbered k node)
 
 -- the nodes after a change
@@ -85,53 +83,60 @@ module _ {f : Node → Node} {g : Element → Element} (c : IsChange f g) where
       ap (λ l. filter_map (element_at l) order) (listed_put 0 k k nodes (omega arith))
       ∙ filter_map-mapped h (element_at (listed nodes)) (element_at (map h (listed nodes))) order (element_at-map h (number-here (k + 1) g c.place.number) (listed nodes))
 
-  parents_put : (j i : ℕ) (ns : List Node) → HaveParentsFrom j ns → HaveParentsFrom j (put_node i f ns)
-  parents_put j i [] h = tt
-  parents_put j zero (n ∷ ns) h = (subst (IsParentAt j) (sym (c.parent n)) h.0, h.1)
-  parents_put j (suc i) (n ∷ ns) h = subst (HaveParentsFrom j) (sym (put_next f i n ns)) (h.0, parents_put (j + 1) i ns h.1)
-
 -- what follows from the parents and the tags
 
 module _ (h : Element → Element) (k : IsInPlace h) (doc : List Element) where
-  links_mapped : (links : List NodeLink) → AreLinks doc links → AreLinks (map h doc) links
-  links_mapped links are = record {
-    count = are.count ∙ sym (length-map doc h);
-    each = λ x l m. are.each x l (omega (arith, m, length-map doc h))
-        ∙ (λ i. Some (record { children = sym (children-map h k doc x) i; place = sym (place_of-map h k doc x) i }));
-  }
+  there_before : (x : ℕ) → IsElement (map h doc) x → IsElement doc x
+  there_before x is = sym (is_element-map h k.number doc x) ∙ is
 
-  types_mapped : (from_last : Bool) (places : List ℕ) → AreTypePlaces doc from_last places → AreTypePlaces (map h doc) from_last places
-  types_mapped from_last places are = record {
-    count = are.count ∙ sym (length-map doc h);
-    each = λ x l m. are.each x l (omega (arith, m, length-map doc h)) ∙ ap Some (sym (place_of_type-map h k doc from_last x));
-  }
+  children_mapped : {last : ℕ} (lists : List (List ℕ)) → AreChildren last doc lists → AreChildren last (map h doc) lists
+  children_mapped lists are = record { count = are.count; each = λ x is. are.each x (there_before x is) ∙ ap Some (sym (children-map h k doc x)) }
+
+  places_mapped : {last : ℕ} (place later : ℕ → ℕ) (places : List ℕ) → ((x : ℕ) → later x ≡ place x) → ArePlaces last doc place places → ArePlaces last (map h doc) later places
+  places_mapped place later places same are = record { count = are.count; each = λ x is. are.each x (there_before x is) ∙ ap Some (sym (same x)) }
+
+-- more names
+module _ (old new : List Characters) (kept : KeepsTexts old new) where
+  pub zeros_more : {counts : List ℕ} → AreZeros old counts → AreZeros new counts
+  zeros_more {counts} zeros = record { count = zeros.count; few = by (length counts) zeros.few; each = zeros.each }
+    where
+      by : (n : ℕ) → n ≤ length old → n ≤ length new
+      by zero l = omega arith
+      by (suc n) l = let h = below_more_names old new n kept (omega arith) in omega (arith, h)
+
+  pub named_more : {room : ℕ} {tag : Characters} → room ≤ length old → HasNameBelow old room tag → HasNameBelow new room tag
+  named_more few (name, below, at) = (name, below, kept name (omega (arith, few, below)) ∙ at)
 
 -- the whole after a change
 
 -- the names, labels and class lists of a table
-pub record AreLabelled (table : Table) (labels : List Label) (lists : Lists) (cuts : Cuts) : Type 0 where
+pub record AreLabelled (old : List Characters) (table : Table) (labels : List Label) (lists : Lists) (cuts : Cuts) : Type 0 where
+  pub kept : KeepsTexts old table.names
   pub once : StandOnce table.names
   pub labels_of : AreLabels table lists labels
   pub cuts_of : AreCuts table.names lists cuts
 
-module _ {p : Parts} {later : Table} {labels : List Label} {lists : Lists} {cuts : Cuts} (whole : AreWhole p) (are : AreLabelled later labels lists cuts) where
+module _ {p : Parts} {later : Table} {labels : List Label} {lists : Lists} {cuts : Cuts} (whole : IsWhole p) (are : AreLabelled p.table.names later labels lists cuts) where
   abbrev labelled : Parts
   labelled = record p { table = later; labels = labels; lists = lists; cuts = cuts }
 
   -- more of these
-  pub whole_more : later.nodes ≡ p.table.nodes → AreWhole labelled
+  pub whole_more : later.nodes ≡ p.table.nodes → IsWhole labelled
   whole_more e =
       let with_nodes = λ (nodes : List Node). record labelled { table = record later { nodes = nodes } } in
-      subst (λ nodes. AreWhole (with_nodes nodes)) (sym e) (record {
+      subst (λ nodes. IsWhole (with_nodes nodes)) (sym e) (record {
         few = whole.few;
-        shape = whole.shape;
+        given = whole.given;
         sound = whole.sound;
         listed = whole.listed;
         known = whole.known;
-        links_of = whole.links_of;
-        types_before = whole.types_before;
-        types_after = whole.types_after;
-        count = whole.count;
+        apart = whole.apart;
+        children_of = whole.children_of;
+        index_of = whole.index_of;
+        before_of = whole.before_of;
+        after_of = whole.after_of;
+        zeros = zeros_more p.table.names later.names are.kept whole.zeros;
+        tags = λ x is. named_more p.table.names later.names are.kept whole.zeros.few (whole.tags x is);
         once = are.once;
         labels_of = subst (λ nodes. AreLabels (record later { nodes = nodes }) lists labels) e are.labels_of;
         cuts_of = are.cuts_of;
@@ -153,24 +158,31 @@ module _ {p : Parts} {later : Table} {labels : List Label} {lists : Lists} {cuts
     changed : in_order later.nodes p.order ≡ map h old
     changed = ap (λ l. in_order l p.order) e ∙ in_order_put c p.table.nodes p.order k
 
-    pub whole_put : AreWhole labelled
-    whole_put = record {
-      few = subst (λ n. n ≤ element_limit) (sym so_many) whole.few;
-      shape = record {
-        some = subst (λ n. 0 < n) (sym so_many) whole.shape.some;
-        parents = subst (HaveParentsFrom 0) (sym e) (parents_put c 0 k p.table.nodes whole.shape.parents);
-      };
-      sound = subst IsSound (λ i. record { elements = sym changed i; last = sym so_many i }) (IsSound-changed_at (document p.table p.order) (k + 1) g c.place whole.sound);
-      listed = ap numbers changed ∙ (numbers-map h there.number old ∙ whole.listed);
-      known = λ x. ap (λ d. is_element d x) changed ∙ (is_element-map h there.number old x ∙ (whole.known x ∙ ap (λ n. nat_lt 0 x && nat_le x n) (sym so_many)));
-      links_of = subst (λ d. AreLinks d p.links) (sym changed) (links_mapped h there old p.links whole.links_of);
-      types_before = subst (λ d. AreTypePlaces d false p.before) (sym changed) (types_mapped h there old false p.before whole.types_before);
-      types_after = subst (λ d. AreTypePlaces d true p.after) (sym changed) (types_mapped h there old true p.after whole.types_after);
-      count = whole.count ∙ sym so_many;
+    pub whole_put : IsWhole labelled
+    whole_put = subst (IsKept labelled) (sym changed) (record {
+      few = whole.few;
+      given = subst (λ n. n ≤ number_limit) (sym so_many) whole.given;
+      sound = subst (λ n. IsSound (record { elements = map h old; last = n })) (sym so_many) (IsSound-changed_at (document p.table p.order) (k + 1) g c.place whole.sound);
+      listed = numbers-map h there.number old ∙ whole.listed;
+      known = record { count = whole.known.count ∙ sym so_many; each = λ x. is_element-map h there.number old x ∙ whole.known.each x };
+      apart = whole.apart;
+      children_of = again (λ n. AreChildren n (map h old) (lists_of p.flat p.spans)) (children_mapped h there old (lists_of p.flat p.spans) whole.children_of);
+      index_of = again (λ n. ArePlaces n (map h old) (place_of (map h old)) p.index)
+          (places_mapped h there old (place_of old) (place_of (map h old)) p.index (place_of-map h there old) whole.index_of);
+      before_of = again (λ n. ArePlaces n (map h old) (place_of_type (map h old) false) p.before)
+          (places_mapped h there old (place_of_type old false) (place_of_type (map h old) false) p.before (place_of_type-map h there old false) whole.before_of);
+      after_of = again (λ n. ArePlaces n (map h old) (place_of_type (map h old) true) p.after)
+          (places_mapped h there old (place_of_type old true) (place_of_type (map h old) true) p.after (place_of_type-map h there old true) whole.after_of);
+      zeros = zeros_more p.table.names later.names are.kept whole.zeros;
+      tags = λ x is. subst (HasNameBelow later.names (length p.tally)) (sym (tag_of-map h there old x))
+          (named_more p.table.names later.names are.kept whole.zeros.few (whole.tags x (there_before h there old x is)));
       once = are.once;
       labels_of = are.labels_of;
       cuts_of = are.cuts_of;
-    }
+    })
+      where
+        again : (P : ℕ → Type 0) → P (length p.table.nodes) → P (length later.nodes)
+        again P h = subst P (sym so_many) h
 
 -- the document that is seen
 pub document_put : {f : Node → Node} {g : Element → Element} (p : Parts) (later : Table) (k : ℕ) {now : Document} {x : ℕ} → IsChange f g → AreSeenAs p now → later.nodes ≡ put_node k f p.table.nodes
@@ -183,10 +195,10 @@ document_put {f} {g} p later k c view e back =
 -- the three changes
 
 pub IsChange-attribute : (name value : Characters) → IsChange (λ node. record node { attrs = finmap.insert node.attrs name value }) (λ e. record e { attrs = finmap.insert e.attrs name value })
-IsChange-attribute name value = record { place = IsInPlace-attribute name value; parent = λ node. refl; same = λ k node. refl }
+IsChange-attribute name value = record { place = IsInPlace-attribute name value; same = λ k node. refl }
 
 pub IsChange-no_attribute : (name : Characters) → IsChange (λ node. record node { attrs = finmap.remove node.attrs name }) (λ e. record e { attrs = finmap.remove e.attrs name })
-IsChange-no_attribute name = record { place = IsInPlace-no_attribute name; parent = λ node. refl; same = λ k node. refl }
+IsChange-no_attribute name = record { place = IsInPlace-no_attribute name; same = λ k node. refl }
 
 pub IsChange-state : (state : State) (on : Bool) → IsChange (λ node. record node { states = put_state state on node.states }) (λ e. record e { states = put_state state on e.states })
-IsChange-state state on = record { place = IsInPlace-state state on; parent = λ node. refl; same = λ k node. refl }
+IsChange-state state on = record { place = IsInPlace-state state on; same = λ k node. refl }

@@ -1,6 +1,7 @@
 -- What one more node leaves of the columns, and what they show of it.
 use Rattle.std.proofs.Common.{◌≡◌, ◌↔◌, ℕ, Bool, IsTrue, ◌+◌, ◌<◌, ◌≤◌, false, Result, Ok, Err, OnOk, sym, ap, ◌∙◌, subst, subst₂, refl, arith, append-nil, length-append}
 use Rattle.std.proofs.Common.{List, [], ◌∷◌, ◌++◌, map, length, take, drop, get_or, Option, Some, None, IfSome, option_map, slice_get}
+use Rattle.std.specs.List.{AllByRecursion}
 use Rattle.std.specs.FinMap as finmap
 use Rattle.std.specs.Str.{chars}
 use Rattle.std.proofs.lemmas.List.{map-append, length-map, length-drop, take-append-le, take_all, drop-append-le, drop_at}
@@ -16,8 +17,9 @@ use Rattle.dom_tree.specs.declared.node_columns.NodeRow.{NodeRow}
 use Rattle.dom_tree.specs.declared.nodes.NodeInput.{NodeInput}
 use Rattle.dom_tree.specs.ElementNames.{AreNamesOf}
 use Rattle.dom_tree.specs.Kept.{Table, text_of, part_of, named_attributes, name_text, node_seen, IsRow, AreRows, AreAttrs, HaveNames, KeepsTexts}
+use Rattle.dom_tree.specs.SiblingPlaces.{HasNameBelow}
 use Rattle.dom_tree.specs.View.{attributes_of, node_of, states_of}
-use Rattle.dom_tree.proofs.NameLemmas.{KeepsTexts-more, below_more_names, text_kept, text_is}
+use Rattle.dom_tree.proofs.NameLemmas.{KeepsTexts-more, below_more_names, text_at, text_kept, text_is}
 use Rattle.dom_tree.proofs.AttrLemmas.{AreAttrs-more, attributes_kept, found, found_is, found_within, have_names, keyed, row_names, same_map-rows, unkeyed, value_at}
 use Rattle.dom_tree.proofs.Places.{each_at, if_some, read_at}
 
@@ -122,6 +124,15 @@ module _ (old mid new : List Characters) (kept : KeepsTexts old mid) (also : Kee
 pub on_ok : {T E : Type 0} (r : Result T E) (P : Type 0) → P → OnOk r P
 on_ok (Ok x) P h = h
 on_ok (Err e) P h = tt
+
+-- the tag of each node is the text of a name
+pub tags_named : {names : List Characters} (attrs : List AttrRow) (rows : List NodeRow) {table : Table} → AreRows names attrs rows → AreSeen names attrs rows table
+    → AllByRecursion (λ node. HasNameBelow table.names (length table.names) node.tag) table.nodes
+tags_named {names} attrs rows are view = subst (λ (t : Table). AllByRecursion (λ (node : Node). HasNameBelow t.names (length t.names) node.tag) t.nodes) view (each rows are)
+  where
+    each : (rows : List NodeRow) → AreRows names attrs rows → AllByRecursion (λ (node : Node). HasNameBelow names (length names) node.tag) (map (node_seen names attrs) rows)
+    each [] are = tt
+    each (row ∷ rows) are = ((row.tag, are.0.tag, text_at names row.tag are.0.tag), each rows are.1)
 
 -- what the columns show of the node at an index: its row was read
 pub record IsRowAt (names : List Characters) (attrs : List AttrRow) (rows : List NodeRow) (table : Table) (i : ℕ) (row : NodeRow) : Type 0 where

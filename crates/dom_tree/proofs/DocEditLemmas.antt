@@ -10,7 +10,7 @@ use Rattle.change_model.specs.InPlace.{changed_at, put_state, with_state, withou
 use Rattle.dom_tree.specs.declared.labels.Label.{Label}
 use Rattle.dom_tree.specs.Kept.{Table, KeepsTexts, put_node, text_of, with_attr, with_states, without_attr}
 use Rattle.dom_tree.specs.Labels.{AreCuts, IsGiven, IsLabel, KeepsLists}
-use Rattle.dom_tree.specs.Whole.{document}
+use Rattle.dom_tree.specs.Whole.{IsWhole, Parts, document}
 use Rattle.dom_tree.proofs.ChangeLemmas.{IsChange, IsChange-attribute, IsChange-no_attribute, IsChange-state, document_put, put_agree, whole_more, whole_put}
 use Rattle.dom_tree.proofs.ColumnLemmas.{AtIndex}
 use Rattle.dom_tree.proofs.CutLemmas.{cuts_more}
@@ -18,7 +18,7 @@ use Rattle.dom_tree.proofs.EditLemmas.{put_absent}
 use Rattle.dom_tree.proofs.GivenLemmas.{IsGiven-with_attr, IsGiven-without_attr}
 use Rattle.dom_tree.proofs.KeptLemmas.{label_is, node, node_at, told, within}
 use Rattle.dom_tree.proofs.NameLemmas.{text_is}
-use Rattle.dom_tree.proofs.Parts.{AreSeenAs, AreWhole, Cuts, Lists, Parts}
+use Rattle.dom_tree.proofs.Parts.{AreSeenAs, Cuts, Lists}
 use Rattle.dom_tree.proofs.RelabelLemmas.{label_more, labels_more, labels_put, labels_stay}
 
 -- more names, class lists and cuts
@@ -28,12 +28,12 @@ pub record IsMore (p : Parts) (names : List Characters) (lists : Lists) (cuts : 
   pub also : KeepsLists p.lists lists
   pub cut : AreCuts names lists cuts
 
-module _ {p : Parts} (whole : AreWhole p) where
+module _ {p : Parts} (whole : IsWhole p) where
   pub more_names : {names : List Characters} → KeepsTexts p.table.names names → StandOnce names → IsMore p names p.lists p.cuts
   more_names kept once = record { kept = kept; once = once; also = λ k list h. h; cut = cuts_more kept (λ k list h. h) whole.cuts_of }
 
-  pub more_whole : {later : Table} {lists : Lists} {cuts : Cuts} → IsMore p later.names lists cuts → later.nodes ≡ p.table.nodes → AreWhole (record p { table = later; lists = lists; cuts = cuts })
-  more_whole more e = whole_more whole (record { once = more.once; labels_of = labels_more whole.labels_of more.kept more.also e; cuts_of = more.cut }) e
+  pub more_whole : {later : Table} {lists : Lists} {cuts : Cuts} → IsMore p later.names lists cuts → later.nodes ≡ p.table.nodes → IsWhole (record p { table = later; lists = lists; cuts = cuts })
+  more_whole more e = whole_more whole (record { kept = more.kept; once = more.once; labels_of = labels_more whole.labels_of more.kept more.also e; cuts_of = more.cut }) e
 
 module _ {p : Parts} {names : List Characters} {lists : Lists} {cuts : Cuts} (more : IsMore p names lists cuts) where
   pub more_lists : {shown : List Characters} {longer : Lists} {recut : Cuts} → shown ≡ names → KeepsLists lists longer → AreCuts shown longer recut → IsMore p names longer recut
@@ -57,7 +57,7 @@ is_removed name = record { change = IsChange-no_attribute name; gives = IsGiven-
 abbrev with_state_put : State → Bool → Node → Node
 with_state_put state on node = record node { states = put_state state on node.states }
 
-module _ {p : Parts} {now : Document} (whole : AreWhole p) (view : AreSeenAs p now) (x : ℕ) (is : IsElement now.elements x) where
+module _ {p : Parts} {now : Document} (whole : IsWhole p) (view : AreSeenAs p now) (x : ℕ) (is : IsElement now.elements x) where
   -- the number of the element is that of its node and 1
   back : x - 1 + 1 ≡ x
   back = omega (arith, (within whole view x is).0)
@@ -69,8 +69,9 @@ module _ {p : Parts} {now : Document} (whole : AreWhole p) (view : AreSeenAs p n
           nodes ∙ put_agree (with_states new) (with_state_put state on) (x - 1) p.table.nodes (node whole view x is) (node_at whole view x is)
           (ap (λ s. record (node whole view x is) { states = s }) (is_new ∙ ap (put_state state on) (told whole view x is (λ node. was ≡ node.states) seen)))
 
-      pub state_whole : AreWhole (record p { table = later })
+      pub state_whole : IsWhole (record p { table = later })
       state_whole = whole_put whole (record {
+        kept = λ n l. ap (λ t. slice_get t n) names;
         once = subst StandOnce (sym names) whole.once;
         labels_of = labels_stay (with_state_put state on) (x - 1) (λ node. refl) whole.labels_of (λ n l. ap (λ t. slice_get t n) names) (node_at whole view x is) state_put;
         cuts_of = subst (λ n. AreCuts n p.lists p.cuts) (sym names) whole.cuts_of;
@@ -87,13 +88,13 @@ module _ {p : Parts} {now : Document} (whole : AreWhole p) (view : AreSeenAs p n
     pub given_whole : {lists : Lists} {cuts : Cuts} {given : Option Characters} {shown : List Characters} {old : Label} (new : Label)
         → later.nodes ≡ put_node (x - 1) f p.table.nodes → IsMore p later.names lists cuts → given ≡ value → shown ≡ later.names
         → old ≡ get_or p.labels (x - 1) old → ((node after : Node) → IsLabel shown p.lists node old → IsGiven name given node after → IsLabel shown lists after new)
-        → AreWhole (record p { table = later; labels = slice_set p.labels (x - 1) new; lists = lists; cuts = cuts })
+        → IsWhole (record p { table = later; labels = slice_set p.labels (x - 1) new; lists = lists; cuts = cuts })
     given_whole {lists} {given = given} {old = old} new e more is_given same read tells =
         let before = node whole view x is in
         let was = subst (λ n. IsLabel n p.lists before old) (sym same) (label_more more.kept (λ n list h. h) (label_is whole view x is read)) in
         let made = subst (λ n. IsLabel n lists (f before) new) same (tells before (f before) was (subst (λ v. IsGiven name v before (f before)) (sym is_given) (edit.gives before))) in
         let labels = labels_put whole.labels_of more.kept more.also f (x - 1) (node_at whole view x is) e made in
-        whole_put whole (record { once = more.once; labels_of = labels; cuts_of = more.cut }) edit.change (x - 1) e
+        whole_put whole (record { kept = more.kept; once = more.once; labels_of = labels; cuts_of = more.cut }) edit.change (x - 1) e
 
   -- an attribute that it has not
   pub unset_document : (name : Characters) {value : Option Characters} → AtIndex p.table (x - 1) (λ node. value ≡ finmap.get node.attrs name) → value ≡ None

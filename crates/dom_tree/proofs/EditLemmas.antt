@@ -1,7 +1,7 @@
 -- What an edit of one node makes of the columns.
 use Rattle.std.proofs.Common.{◌≡◌, ℕ, zero, suc, ◌+◌, ◌<◌, ◌≤◌, Option, Some, None, IfSome, sym, ap, ◌∙◌, subst, refl, arith, append-nil}
-use Rattle.std.proofs.Common.{List, [], ◌∷◌, ◌++◌, map, length, take, drop, get_or, slice_get, slice_set}
-use Rattle.std.specs.List.{AllByRecursion}
+use Rattle.std.proofs.Common.{Bool, List, [], ◌∷◌, ◌++◌, map, length, take, drop, get_or, slice_get, slice_set}
+use Rattle.std.specs.List.{AllByRecursion, list_all}
 use Rattle.std.specs.FinMap as finmap
 use Rattle.std.specs.Option.{option_map_or}
 use Rattle.std.proofs.lemmas.List.{map-set, map-append, take_all, length-drop, length-take-le}
@@ -14,10 +14,10 @@ use Rattle.dom_tree.specs.declared.span.Span.{Span}
 use Rattle.dom_tree.specs.declared.node_columns.AttrRow.{AttrRow}
 use Rattle.dom_tree.specs.declared.node_columns.NodeRow.{NodeRow}
 use Rattle.dom_tree.specs.declared.nodes.States as code
-use Rattle.dom_tree.specs.Kept.{Table, text_of, part_of, put_node, put_part, put_row, without_row, row_with_part, named_attributes, node_seen}
+use Rattle.dom_tree.specs.Kept.{Table, text_of, part_of, put_node, put_part, put_row, without_row, row_with_part, named_attributes, node_seen, with_parent}
 use Rattle.dom_tree.specs.Kept.{with_attr, with_states, without_attr, IsRow, AreRows, AreAttrs, AreSameNodes}
 use Rattle.dom_tree.specs.View.{states_of}
-use Rattle.dom_tree.proofs.AttrLemmas.{rows_counted, named_put, named_out, AreAttrs-put, AreAttrs-out, remove_absent}
+use Rattle.dom_tree.proofs.AttrLemmas.{row_values, rows_counted, named_put, named_out, AreAttrs-put, AreAttrs-out, remove_absent}
 use Rattle.dom_tree.proofs.ChangeLemmas.{put_is}
 use Rattle.dom_tree.proofs.ColumnLemmas.{AtIndex, IsRowAt, IsWithin, here, last_within, names_are, nodes_kept, once_here, part_last, row_is, rows_kept, seen_at}
 use Rattle.dom_tree.proofs.Places.{if_some, read_at, set_same, taken}
@@ -50,10 +50,22 @@ module _ {names : List Characters} {attrs : List AttrRow} {rows : List NodeRow} 
   pub states_nodes : (states : code.States) → map (node_seen names attrs) (slice_set rows i (record row { states = states })) ≡ put_node i (with_states (states_of states)) table.nodes
   states_nodes states = nodes_put [] (sym (append-nil attrs)) (record row { states = states }) (with_states (states_of states)) refl
 
+  pub parent_nodes : (parent : ℕ) → map (node_seen names attrs) (slice_set rows i (record row { parent = Some parent })) ≡ put_node i (with_parent parent) table.nodes
+  parent_nodes parent = nodes_put [] (sym (append-nil attrs)) (record row { parent = Some parent }) (with_parent parent) refl
+
   pub count_seen : StandOnce table.names → AtIndex table i (λ node. row.attrs.count ≡ finmap.len node.attrs)
   count_seen once =
       if_some (λ (node : Node). row.attrs.count ≡ finmap.len node.attrs) (seen_at at)
       (sym (length-part attrs row.attrs (row_is at).within) ∙ rows_counted names (once_here at once) (part_of attrs row.attrs) (row_is at).attributes)
+
+  -- a test of each of its values
+  pub values_seen : StandOnce table.names → {shown rows_found : List AttrRow} → (passes : Bool) (p : Characters → Bool) → shown ≡ attrs → rows_found ≡ part_of shown row.attrs → passes
+      ≡ list_all (λ r. p (text_of names r.value)) rows_found
+      → AtIndex table i (λ node. passes ≡ list_all p (finmap.values node.attrs))
+  values_seen once passes p same found e =
+      if_some (λ (node : Node). passes ≡ list_all p (finmap.values node.attrs)) (seen_at at)
+      (e ∙ (ap (list_all (λ (r : AttrRow). p (text_of names r.value))) (found ∙ ap (λ (l : List AttrRow). part_of l row.attrs) same)
+      ∙ sym (row_values names (once_here at once) p (part_of attrs row.attrs) (row_is at).attributes)))
 
   -- other attributes, at the end of the flat list
   module _ (more : List AttrRow) {later : List AttrRow} {placed : List NodeRow} (e : later ≡ attrs ++ more) (f : placed ≡ put_part i (next_part attrs more) rows) where

@@ -1,10 +1,9 @@
 -- What is kept answers what is asked of an element.
-use Rattle.std.proofs.Common.{◌≡◌, ◌↔◌, ℕ, ◌+◌, ◌-◌, ◌<◌, ◌≤◌, ◌&&◌, Bool, IsTrue, true, false, cond, not, nat_lt, nat_le, Fits, w32, sym, ap, ◌∙◌, subst, subst₂, refl, arith, ltb-true}
+use Rattle.std.proofs.Common.{◌≡◌, ◌↔◌, ℕ, ◌+◌, ◌-◌, ◌<◌, ◌≤◌, ◌&&◌, Bool, IsTrue, true, false, cond, not, Fits, w32, sym, ap, ◌∙◌, subst₂, refl, arith}
 use Rattle.std.proofs.Common.{List, [], length, codes, Option, Some, None, option_map, option_and_then, is_some, unwrap_or, slice_get, get_or}
 use Rattle.std.specs.FinMap as finmap
 use Rattle.std.specs.Option.{option_map_or}
 use Rattle.std.specs.Str.{chars}
-use Rattle.std.proofs.lemmas.Bool.{leb-true, and_parts}
 use Rattle.std.proofs.lemmas.Option.{same_Some}
 use Rattle.base_model.specs.Text.{is_empty_text, same_text}
 use Rattle.base_model.proofs.Lists.{slice_get_some}
@@ -12,39 +11,37 @@ use Rattle.stylo_base.proofs.TextLemmas.{chars-ascii}
 use Rattle.scene_model.specs.Document.{Document}
 use Rattle.scene_model.specs.Element.{Element, Characters, State, States, has_state}
 use Rattle.scene_model.specs.Lookups.{attribute_of, attributes_of, element_at, is_element, IsElement, parent_of, state_of, tag_of}
-use Rattle.scene_model.specs.Nodes.{IsParentAt, Node, listed}
+use Rattle.scene_model.specs.Nodes.{Node, listed}
 use Rattle.scene_model.proofs.Found.{is_element-at, element_at-filter_map}
-use Rattle.scene_model.proofs.Listed.{parent_at, numbered, element_at-listed_some}
+use Rattle.scene_model.proofs.Listed.{numbered, element_at-listed_some}
 use Rattle.scene_model.proofs.Numbers.{is_in}
 use Rattle.dom_tree.specs.declared.labels.Label.{Label}
 use Rattle.dom_tree.specs.Classes.{list_of}
 use Rattle.dom_tree.specs.ElementNames.{AreNamesOf}
 use Rattle.dom_tree.specs.Kept.{text_of}
 use Rattle.dom_tree.specs.Labels.{IsLabel, class_words, id_text}
-use Rattle.dom_tree.specs.Whole.{in_order}
+use Rattle.dom_tree.specs.Whole.{IsWhole, Parts, in_order}
 use Rattle.dom_tree.proofs.ColumnLemmas.{AtIndex}
-use Rattle.dom_tree.proofs.Parts.{AreSeenAs, AreWhole, Parts}
+use Rattle.dom_tree.proofs.Parts.{AreSeenAs}
 use Rattle.dom_tree.proofs.Places.{at_some, read_at}
 
 kept_some : {X : Type 0} (b : Bool) (o : Option X) → is_some (cond b o None) ≡ true → cond b o None ≡ o
 kept_some true o h = refl
 kept_some false o h = absurd (cc)
 
-element_at-in_order : (nodes : List Node) (order : List ℕ) (x : ℕ) → IsElement (in_order nodes order) x → element_at (in_order nodes order) x ≡ element_at (listed nodes) x
+pub element_at-in_order : (nodes : List Node) (order : List ℕ) (x : ℕ) → IsElement (in_order nodes order) x → element_at (in_order nodes order) x ≡ element_at (listed nodes) x
 unfolding in_order
 element_at-in_order nodes order x h =
     let at = element_at-filter_map (listed nodes) order x in
     at ∙ kept_some (is_in x order) (element_at (listed nodes) x) (ap is_some (sym at) ∙ (sym (is_element-at (in_order nodes order) x) ∙ h))
 
-module _ {p : Parts} {now : Document} (whole : AreWhole p) (view : AreSeenAs p now) (x : ℕ) (is : IsElement now.elements x) where
+module _ {p : Parts} {now : Document} (whole : IsWhole p) (view : AreSeenAs p now) (x : ℕ) (is : IsElement now.elements x) where
   there : IsElement (in_order p.table.nodes p.order) x
   there = ap (λ (d : Document). is_element d.elements x) view ∙ is
 
   -- the number of an element
   pub within : (0 < x) × (x ≤ length p.table.nodes)
-  within =
-      let parts = and_parts (nat_lt 0 x) (nat_le x (length p.table.nodes)) (sym (whole.known x) ∙ there) in
-      (ltb-true 0 x parts.0, leb-true x (length p.table.nodes) parts.1)
+  within = whole.sound.given x there
 
   -- its node, and what is known of it
   pub its_node : (node : Node) × (slice_get p.table.nodes (x - 1) ≡ Some node)
@@ -75,8 +72,8 @@ module _ {p : Parts} {now : Document} (whole : AreWhole p) (view : AreSeenAs p n
   -- it is an element's, so a number follows it
   pub parent_fits : {read : Option ℕ} {parent : ℕ} → read ≡ Some parent → AtIndex p.table (x - 1) (λ node. read ≡ node.parent) → Fits w32 (parent + 1)
   parent_fits {read} {parent} e h =
-      let before : parent < x - 1 = subst (IsParentAt (x - 1)) (sym (told (λ node. read ≡ node.parent) h) ∙ e) (parent_at p.table.nodes (x - 1) node whole.shape node_at) in
-      omega (arith, before, whole.few, within.1)
+      let above : parent_of (in_order p.table.nodes p.order) x ≡ Some (parent + 1) = ap (λ (d : Document). parent_of d.elements x) view ∙ sym (parent_is e h) in
+      omega (arith, whole.given, whole.sound.given (parent + 1) (whole.sound.valid.parents x (parent + 1) above).0)
 
   pub state_is : (states : States) (state : State) → AtIndex p.table (x - 1) (λ node. states ≡ node.states) → has_state states state ≡ state_of now.elements x state
   state_is states state h =
@@ -124,7 +121,7 @@ module _ {p : Parts} {now : Document} (whole : AreWhole p) (view : AreSeenAs p n
     id_is = label_is.id ∙ ap (option_and_then id_text) (named (chars (codes "id")) ∙ ap (attribute_of now.elements x) (chars-ascii (codes "id") refl))
 
 -- the attributes of two elements
-pub same_attributes_are : {p : Parts} {now : Document} (whole : AreWhole p) (view : AreSeenAs p now) (x y : ℕ) (is : IsElement now.elements x) (also : IsElement now.elements y) {b : Bool}
+pub same_attributes_are : {p : Parts} {now : Document} (whole : IsWhole p) (view : AreSeenAs p now) (x y : ℕ) (is : IsElement now.elements x) (also : IsElement now.elements y) {b : Bool}
     → AtIndex p.table (x - 1) (λ n. AtIndex p.table (y - 1) (λ m. IsTrue b ↔ (n.attrs ≡ m.attrs))) → IsTrue b ↔ (attributes_of now.elements x ≡ attributes_of now.elements y)
 same_attributes_are {p} whole view x y is also {b} h =
     let first = told whole view x is (λ n. AtIndex p.table (y - 1) (λ m. IsTrue b ↔ (n.attrs ≡ m.attrs))) h in

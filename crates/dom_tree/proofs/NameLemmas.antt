@@ -39,6 +39,10 @@ tied_turned a b =
     let same = bytes_eq-Decides b a in
     same_from_decides _ _ (tied-Decides a b) (λ e. sym (same.0 e), λ e. same.1 (sym e))
 
+-- a text that got a name, by the name that it had
+pub renamed : (from names : List Characters) (old new : ℕ) {text : Characters} → slice_get names new ≡ Some text → slice_get from old ≡ Some text → slice_get names new ≡ Some (text_of from old)
+renamed from names old new {text} at was = at ∙ ap Some (sym (text_is from old text was))
+
 -- two names of one text are one
 pub same_name : (names : List Characters) (a b : ℕ) → StandOnce names → a < length names → b < length names → text_of names a ≡ text_of names b → a ≡ b
 same_name names a b once l m e = once a b (text_of names b) (text_at names a l ∙ ap Some e) (text_at names b m)

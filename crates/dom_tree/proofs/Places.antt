@@ -1,7 +1,8 @@
 -- Items of a list by their index: after a write, and what holds of each.
 use Rattle.std.proofs.Common.{◌≡◌, ◌≢◌, ℕ, zero, suc, ◌+◌, ◌<◌, List, [], ◌∷◌, ◌++◌, length, take, drop, get_or, slice_set, Option, Some, IfSome, slice_get, sym, ap, ◌∙◌, subst, refl, arith}
 use Rattle.std.specs.List.{AllByRecursion}
-use Rattle.std.proofs.lemmas.List.{drop_more, get_or-set_same, length-set, set-get_or, take_more}
+use Rattle.std.proofs.Math.ListN.{replicate}
+use Rattle.std.proofs.lemmas.List.{drop_more, get_or-replicate, get_or-set_same, length-replicate, length-set, set-get_or, take_more}
 use Rattle.std.proofs.lemmas.Option.{get_or_from_slice_get, same_Some, slice_get-get_or, slice_get_read, slice_get_within}
 use Rattle.base_model.proofs.Lists.{slice_get_some}
 
@@ -22,6 +23,9 @@ module _ {X : Type 0} where
   -- the item that was read at an index
   pub read_at : (xs : List X) {i : ℕ} {x : X} → i < length xs → x ≡ get_or xs i x → slice_get xs i ≡ Some x
   read_at xs {i} {x} l is = slice_get_read xs (length xs) i x refl l is
+
+  pub replicate_at : (n i : ℕ) (x : X) → i < n → slice_get (replicate n x) i ≡ Some x
+  replicate_at n i x l = slice_get_read (replicate n x) n i x (sym (length-replicate n x)) l (sym (get_or-replicate n i x x l))
 
   pub each_at : (P : X → Type 0) (xs : List X) (i : ℕ) (x : X) → AllByRecursion P xs → slice_get xs i ≡ Some x → P x
   each_at P [] i x h e = absurd (cc)

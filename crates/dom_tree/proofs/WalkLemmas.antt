@@ -1,17 +1,16 @@
 -- The walk of a list of nodes: the numbers so far, and what is ahead of it, the next one last.
-use Rattle.std.proofs.Common.{◌≡◌, ℕ, ◌-◌, ◌<◌, ◌≤◌, List, [], ◌∷◌, ◌++◌, flat_map, length, reverse, IfSome, slice_get, sym, ap, ◌∙◌, subst, arith, append_assoc, append-nil, length-append}
+use Rattle.std.proofs.Common.{◌≡◌, ℕ, ◌-◌, ◌<◌, ◌≤◌, List, [], ◌∷◌, ◌++◌, flat_map, length, reverse, Some, slice_get, sym, ap, ◌∙◌, subst, arith, append_assoc, append-nil, length-append}
 use Rattle.std.specs.List.{AllByRecursion}
 use Rattle.std.proofs.lemmas.List.{reverse-append, reverse-reverse}
 use Rattle.std.proofs.lemmas.List.Concat.{flat_map-append}
+use Rattle.std.proofs.lemmas.Option.{same_Some}
 use Rattle.scene_model.specs.Lookups.{children}
 use Rattle.scene_model.specs.Nodes.{Node, IsNodeList, listed, subtree, tree_order}
 use Rattle.scene_model.proofs.Lists.{each_weaker}
-use Rattle.scene_model.proofs.Listed.{length-listed, each_child}
+use Rattle.scene_model.proofs.Listed.{each_child, is_element-listed}
 use Rattle.scene_model.proofs.TreeOrder.{subtree-listed}
-use Rattle.dom_tree.specs.declared.links.NodeLink.{NodeLink}
-use Rattle.dom_tree.specs.Links.{AreLinks}
+use Rattle.dom_tree.specs.ChildLists.{AreChildren}
 use Rattle.base_model.proofs.Lists.{each-append}
-use Rattle.dom_tree.proofs.Places.{at_some}
 
 -- the subtrees of what is ahead
 abbrev pub still : List Node → List ℕ → List ℕ
@@ -30,11 +29,10 @@ walk_begins {list} {order} {ahead} v e f =
     let one : IsWalk list [] (1 ∷ []) = record { inside = ((omega arith, omega (arith, v.some)), tt); whole = append-nil (subtree (listed list) (length list) 1) } in
     subst (λ o. IsWalk list o ahead) (sym e) (subst (IsWalk list []) (sym f) one)
 
--- the children that the links have
-pub linked_children : (list : List Node) (links : List NodeLink) (x : ℕ) (shown : List ℕ) → AreLinks (listed list) links → (0 < x) × (x ≤ length list)
-    → IfSome (slice_get links (x - 1)) (λ link. shown ≡ link.children) → shown ≡ children (listed list) x
-linked_children list links x shown are inside is =
-    at_some (λ (link : NodeLink). shown ≡ link.children) (are.each x inside.0 (omega (arith, length-listed list, inside.1))) is
+-- the children that were read
+read_children : (list : List Node) (lists : List (List ℕ)) (x : ℕ) (shown : List ℕ) → AreChildren (length list) (listed list) lists → (0 < x) × (x ≤ length list)
+    → slice_get lists (x - 1) ≡ Some shown → shown ≡ children (listed list) x
+read_children list lists x shown are inside at = same_Some shown (children (listed list) x) (sym at ∙ are.each x (is_element-listed list x inside.0 inside.1))
 
 module _ {list : List Node} (v : IsNodeList list) {order ahead : List ℕ} (rest : List ℕ) (x : ℕ) (walk : IsWalk list order ahead) (popped : ahead ≡ rest ++ x ∷ []) where
   turned : reverse ahead ≡ x ∷ reverse rest
@@ -56,10 +54,10 @@ module _ {list : List Node} (v : IsNodeList list) {order ahead : List ℕ} (rest
   whole = ap (λ s. order ++ (s ++ still list rest)) (sym (subtree-listed list v x next_inside.0 next_inside.1)) ∙ (ap (λ l. order ++ below l) (sym turned) ∙ walk.whole)
 
   -- its children are put ahead, and it is put down
-  module _ {links : List NodeLink} (numbers : List ℕ) {later next : List ℕ} (are : AreLinks (listed list) links) (seen : IfSome (slice_get links (x - 1)) (λ link. numbers ≡ link.children)) where
+  module _ {lists : List (List ℕ)} (numbers : List ℕ) {later next : List ℕ} (are : AreChildren (length list) (listed list) lists) (seen : slice_get lists (x - 1) ≡ Some numbers) where
     pub walk_goes_on : later ≡ order ++ x ∷ [] → next ≡ rest ++ reverse numbers → IsWalk list later next
     walk_goes_on e f =
-        let same = linked_children list links x numbers are next_inside seen in
+        let same = read_children list lists x numbers are next_inside seen in
         let ahead_is = ap reverse f ∙ (reverse-append rest (reverse numbers) ∙ ap (λ l. l ++ reverse rest) (reverse-reverse numbers ∙ same)) in
         let each = each_weaker (λ y. (x < y) × (y ≤ length list)) (λ y. (0 < y) × (y ≤ length list)) (λ y h. (omega arith, h.1)) kids (each_child list v x) in
         record {

@@ -1,5 +1,5 @@
 -- What the columns of a document stand for, and what holds of what is kept.
-use Rattle.std.specs.Prelude.{◌≡◌, ℕ, ◌+◌, ◌<◌, ◌≤◌, ◌==◌, nat_lt, if◌then◌else◌}
+use Rattle.std.specs.Prelude.{◌≡◌, ℕ, ◌+◌, ◌-◌, ◌<◌, ◌≤◌, ◌==◌, nat_lt, if◌then◌else◌}
 use Rattle.std.specs.Prelude.{List, [], ◌∷◌, map, length, take, drop, refl}
 use Rattle.std.specs.Prelude.{Option, Some, None, unwrap_or, slice_get, slice_set, false, not}
 use Rattle.std.specs.List.{AllByRecursion, filter}
@@ -38,6 +38,10 @@ name_text names row = text_of names row.name
 -- the name of each row has a text
 abbrev pub HaveNames : List Characters → List AttrRow → Type 0
 HaveNames names rows = AllByRecursion (λ row. row.name < length names) rows
+
+-- the name and the value of the row have texts
+abbrev pub IsNamed : List Characters → AttrRow → Type 0
+IsNamed names row = (row.name < length names) × (row.value < length names)
 
 -- the map of rows of attributes
 abbrev pub named_attributes : List Characters → List AttrRow → Attributes
@@ -93,6 +97,11 @@ pub record IsRow (names : List Characters) (attrs : List AttrRow) (row : NodeRow
 abbrev pub AreRows : List Characters → List AttrRow → List NodeRow → Type 0
 AreRows names attrs rows = AllByRecursion (IsRow names attrs) rows
 
+-- a node of a list that is appended to others, of which `last` are before it: its parent is named by index in all, and
+-- that of the root is the one of number p
+abbrev pub kept_node : ℕ → ℕ → Node → Node
+kept_node last p node = record node { parent = Some (option_map_or (λ q. last + q) node.parent (p - 1)) }
+
 -- names that were given keep their texts
 abbrev pub KeepsTexts : List Characters → List Characters → Type 0
 KeepsTexts old new = (name : ℕ) → name < length old → slice_get new name ≡ slice_get old name
@@ -112,6 +121,9 @@ without_attr name node = record node { attrs = finmap.remove node.attrs name }
 abbrev pub with_states : States → Node → Node
 with_states states node = record node { states = states }
 
+abbrev pub with_parent : ℕ → Node → Node
+with_parent parent node = record node { parent = Some parent }
+
 abbrev pub row_with_part : Span → NodeRow → NodeRow
 row_with_part part row = record row { attrs = part }
 
@@ -130,3 +142,11 @@ pub record AreSameNodes (attrs : List AttrRow) (rows : List NodeRow) (packed : L
   pub each : (names : List Characters) → AreRows names attrs rows → AreRows names packed placed
   pub nodes : (names : List Characters) → AreRows names attrs rows
       → map (node_seen names packed) placed ≡ map (node_seen names attrs) rows
+
+-- rows of nodes stay rows, of the same nodes, once there are more names and more attributes
+pub record KeepsRows (names : List Characters) (attrs : List AttrRow) (later : List Characters) (longer : List AttrRow)
+    : Type 0 where
+  pub texts : KeepsTexts names later
+  pub rows : (rows : List NodeRow) → AreRows names attrs rows → AreRows later longer rows
+  pub nodes : (rows : List NodeRow) → AreRows names attrs rows
+      → map (node_seen later longer) rows ≡ map (node_seen names attrs) rows

@@ -5,11 +5,12 @@ use Rattle.std.specs.FinMap as finmap
 use Rattle.std.specs.Option.{option_map_or}
 use Rattle.std.specs.Str.{chars}
 use Rattle.base_model.specs.Text.{is_empty_text, same_text}
+use Rattle.stylo_base.specs.NameList.{StandOnce}
 use Rattle.scene_model.specs.Element.{Characters}
 use Rattle.scene_model.specs.Nodes.{Node}
 use Rattle.dom_tree.specs.declared.labels.Label.{Label}
 use Rattle.dom_tree.specs.Classes.{distinct_words, list_of}
-use Rattle.dom_tree.specs.Kept.{Table, text_of}
+use Rattle.dom_tree.specs.Kept.{KeepsTexts, Table, text_of}
 
 -- an id that is empty is none
 abbrev pub id_text : Characters → Option Characters
@@ -63,3 +64,11 @@ pub record AreCuts (names : List Characters) (lists : List (List Characters)) (c
 -- lists that were appended stay
 abbrev pub KeepsLists : List (List Characters) → List (List Characters) → Type 0
 KeepsLists old new = (k : ℕ) (list : List Characters) → slice_get old k ≡ Some list → slice_get new k ≡ Some list
+
+-- more names, more class lists, and what was cut for them
+pub record HasMore (names : List Characters) (lists : List (List Characters)) (later : List Characters)
+    (longer : List (List Characters)) (cuts : List (Option ℕ)) : Type 0 where
+  pub texts : KeepsTexts names later
+  pub once : StandOnce later
+  pub also : KeepsLists lists longer
+  pub cut : AreCuts later longer cuts

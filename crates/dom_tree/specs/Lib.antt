@@ -5,6 +5,7 @@ pub mod Labels
 pub mod ElementNames
 pub mod NameBits
 pub mod Depths
-pub mod Links
-pub mod TypePlaces
+pub mod ChildLists
+pub mod Turned
+pub mod SiblingPlaces
 pub mod Whole

@@ -14,19 +14,23 @@ ghost use Rattle.dom_tree.specs.ElementNames.{AreNamesOf, names_of};
 ghost use Rattle.dom_tree.specs.Labels.{class_words};
 ghost use Rattle.dom_tree.specs.NameBits.{HasNameBits};
 
+mod depths;
 mod edits;
+mod moves;
+mod spots;
+mod subtrees;
 
 use crate::attribute_names::AttributeNames;
+use crate::child_lists::ChildLists;
 use crate::class_lists::ClassLists;
 use crate::class_names::ClassNames;
 use crate::element_names::ElementNames;
 use crate::labels::{Label, label_nodes};
-use crate::links::Links;
 use crate::name_bits::{bit_if_some, bit_of};
 use crate::node_columns::NodeColumns;
 use crate::nodes::NodeList;
+use crate::sibling_places::SiblingPlaces;
 use crate::start::walk;
-use crate::type_places::{TypePlaces, place_types};
 use std::alloc::Global;
 use std::marker::Model;
 use stylo_base::{Atom, NoMemory, State};
@@ -38,16 +42,19 @@ pub struct Doc {
     /// By number, from 1.
     columns: NodeColumns,
     /// By number, from 1.
-    links: Links,
-    types: TypePlaces,
+    children: ChildLists,
+    /// By number, from 1.
+    places: SiblingPlaces,
     /// By number, from 1.
     labels: Vec<Label>,
     /// The class lists that the labels name.
     lists: ClassLists,
     /// The class list of each value, by its name, if one was cut for it.
     cuts: Vec<Option<u32>>,
-    /// The numbers in tree order.
+    /// The numbers of the elements in tree order.
     order: Vec<u32>,
+    /// By number, from 1: whether it is that of an element.
+    present: Vec<bool>,
 }
 
 impl Model for Doc {
@@ -61,8 +68,20 @@ impl Model for Doc {
 
     ghost view = { λ d. document d.columns d.order.items };
 
-    ghost invariant = { λ d. IsWhole d.columns d.links d.types.before.items d.types.after.items
-        d.labels.items d.lists d.cuts.items d.order.items };
+    ghost invariant = { λ d. IsWhole (record {
+      table = d.columns;
+      spans = d.children.spans.items;
+      flat = d.children.flat.items;
+      index = d.places.index.items;
+      before = d.places.before.items;
+      after = d.places.after.items;
+      tally = d.places.tally.items;
+      labels = d.labels.items;
+      lists = d.lists;
+      cuts = d.cuts.items;
+      order = d.order.items;
+      present = d.present.items;
+    }) };
 }
 
 impl Doc {
@@ -80,27 +99,30 @@ impl Doc {
         requires { length list ≤ element_limit }
         ensures { IfOk result (λ doc. doc ≡ document_of list) }
     {
-        let links = Links::of_list(alloc, &list)?;
-        let order = walk(alloc, &list, &links)?;
+        let children = ChildLists::of_list(alloc, &list)?;
+        let order = walk(alloc, &list, &children)?;
         let columns = list.into_columns();
-        let types = place_types(alloc, &columns, &links)?;
+        let places = SiblingPlaces::of_nodes(alloc, &columns, &children)?;
+        let present = vec![in alloc; true; columns.len()]?;
         let mut lists = ClassLists::new(alloc);
         let mut cuts = Vec::new(alloc);
         let labels = label_nodes(alloc, &columns, &mut lists, &mut cuts)?;
         Ok(Doc {
             columns,
-            links,
-            types,
+            children,
+            places,
             labels,
             lists,
             cuts,
             order,
+            present,
         })
     }
 
     /// How many elements there are.
     pub fn len(&self) -> usize
-        ensures { result ≡ length self.now.elements }
+        ensures len { result ≡ length self.now.elements }
+        ensures few { result ≤ element_limit }
     {
         self.order.len()
     }
@@ -135,7 +157,7 @@ impl Doc {
     pub fn contains(&self, n: u32) -> bool
         ensures { result ≡ is_element self.now.elements n }
     {
-        0 < n && n as usize <= self.columns.len()
+        0 < n && n as usize <= self.present.len() && self.present[n as usize - 1]
     }
 
     /// The number of the parent of `x`. None: it is the root.
@@ -156,7 +178,7 @@ impl Doc {
         ensures children { result.now ≡ children self.now.elements x }
         ensures valid { IsValid self.now.elements }
     {
-        self.links.children(x)
+        self.children.of(x)
     }
 
     /// The sibling index of `x`: how many siblings are before it.
@@ -165,7 +187,7 @@ impl Doc {
         ensures place { result ≡ place_of self.now.elements x }
         ensures valid { IsValid self.now.elements }
     {
-        self.links.place(x)
+        self.places.index[x as usize - 1]
     }
 
     /// The siblings after `x`, in tree order.
@@ -185,7 +207,7 @@ impl Doc {
         requires { IsElement self.now.elements x }
         ensures { result ≡ place_of_type self.now.elements false x }
     {
-        self.types.before[x as usize - 1]
+        self.places.before[x as usize - 1]
     }
 
     /// How many siblings of its type are after `x`.
@@ -193,7 +215,7 @@ impl Doc {
         requires { IsElement self.now.elements x }
         ensures { result ≡ place_of_type self.now.elements true x }
     {
-        self.types.after[x as usize - 1]
+        self.places.after[x as usize - 1]
     }
 
     /// The tag of `x`.

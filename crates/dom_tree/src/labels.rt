@@ -1,13 +1,15 @@
 //! The id and the class list of each element.
 
-ghost use Rattle.std.specs.Prelude.{◌≡◌, ◌<◌, ◌≤◌, IfOk, IfSome, List, OnOk, Some, codes, length, option_and_then, option_map, slice_get};
+ghost use Rattle.std.specs.Prelude.{◌≡◌, ◌<◌, ◌≤◌, ◌+◌, ◌++◌, vec_capacity, vec_len, IfOk, IfSome, List, OnOk, Some, codes, length, option_and_then, option_map, slice_get};
+ghost use Rattle.std.specs.List.{AllByRecursion};
 ghost use Rattle.std.specs.Str.{chars};
 ghost use Rattle.scene_model.specs.Element.{Characters};
 ghost use Rattle.scene_model.specs.Nodes.{Node};
 ghost use Rattle.stylo_base.specs.NameList.{StandOnce};
 ghost use Rattle.dom_tree.specs.Classes.{distinct_words, list_of};
-ghost use Rattle.dom_tree.specs.Kept.{IsNameOf, text_of};
-ghost use Rattle.dom_tree.specs.Labels.{AreCuts, AreLabels, IsGiven, IsLabel, KeepsLists, class_words, id_text};
+ghost use Rattle.dom_tree.specs.Kept.{IsNameOf, KeepsTexts, text_of};
+ghost use Rattle.dom_tree.specs.SiblingPlaces.{HasNameBelow};
+ghost use Rattle.dom_tree.specs.Labels.{AreCuts, AreLabels, HasMore, IsGiven, IsLabel, KeepsLists, class_words, id_text};
 
 use crate::class_lists::ClassLists;
 use crate::node_columns::NodeColumns;
@@ -75,6 +77,97 @@ fn label_rows(
         labels.push(Label { id, classes })?;
     }
     Ok(labels)
+}
+
+/// The labels of the nodes of a list, for columns that they are not among: there their tags, their ids and their
+/// values of `class` get names. The nodes of the columns stay, also where memory runs out.
+pub(crate) fn label_list(
+    alloc: Global,
+    columns: &mut NodeColumns,
+    list: &NodeColumns,
+    lists: &mut ClassLists,
+    cuts: &mut Vec<Option<u32>>,
+) -> Result<Vec<Label>, NoMemory>
+    requires once { StandOnce columns.old.names }
+    requires cuts { AreCuts columns.old.names lists.old cuts.old.items }
+    ensures labels { IfOk result (λ labels.
+        AreLabels (record { names = columns.new.names; nodes = list.now.nodes }) lists.new labels.items) }
+    ensures tags { OnOk result (AllByRecursion
+        (λ node. HasNameBelow columns.new.names (length columns.new.names) node.tag) list.now.nodes) }
+    ensures nodes { columns.new.nodes ≡ columns.old.nodes }
+    ensures more { HasMore columns.old.names lists.old columns.new.names lists.new cuts.new.items }
+{
+    let names = list.names();
+    let asked = Asked {
+        id: names.find("id"),
+        class: names.find("class"),
+    };
+    let mut labels = Vec::with_capacity(alloc, list.len())?;
+    for index in 0..list.len() {
+        let label = label_of(columns, list, index, &asked, lists, cuts)?;
+        labels.push(label)?;
+    }
+    Ok(labels)
+}
+
+/// The label of one of them.
+fn label_of(
+    columns: &mut NodeColumns,
+    list: &NodeColumns,
+    index: usize,
+    asked: &Asked,
+    lists: &mut ClassLists,
+    cuts: &mut Vec<Option<u32>>,
+) -> Result<Label, NoMemory>
+    requires index { index < length list.now.nodes }
+    requires of_list { StandOnce list.now.names }
+    requires id { IsNameOf list.now.names (chars (codes "id")) asked.now.id }
+    requires class { IsNameOf list.now.names (chars (codes "class")) asked.now.class }
+    requires once { StandOnce columns.old.names }
+    requires cuts { AreCuts columns.old.names lists.old cuts.old.items }
+    ensures label { IfOk result (λ label. IfSome (slice_get list.now.nodes index)
+        (λ node. IsLabel columns.new.names lists.new node label)) }
+    ensures tag { OnOk result (IfSome (slice_get list.now.nodes index)
+        (λ node. HasNameBelow columns.new.names (length columns.new.names) node.tag)) }
+    ensures nodes { columns.new.nodes ≡ columns.old.nodes }
+    ensures more { HasMore columns.old.names lists.old columns.new.names lists.new cuts.new.items }
+{
+    let names = list.names();
+    columns.intern(names.text(list.tag(index)))?;
+    let id = renamed(columns, names, list.value(index, asked.id))?;
+    let class = renamed(columns, names, list.value(index, asked.class))?;
+    let id = id_among(columns.names(), id);
+    let classes = classes_for(columns.names(), class, lists, cuts)?;
+    Ok(Label { id, classes })
+}
+
+/// The name among those of columns of the text of a name among others.
+fn renamed(
+    columns: &mut NodeColumns,
+    from: &Names,
+    name: Option<Name>,
+) -> Result<Option<Name>, NoMemory>
+    requires within { IfSome name (λ n. n < length from.now) }
+    requires once { StandOnce columns.old.names }
+    ensures text { IfOk result (λ made.
+        option_map (text_of columns.new.names) made ≡ option_map (text_of from.now) name) }
+    ensures named { IfOk result (λ made. IfSome made (λ n. n < length columns.new.names)) }
+    ensures nodes { columns.new.nodes ≡ columns.old.nodes }
+    ensures kept { KeepsTexts columns.old.names columns.new.names }
+    ensures once { StandOnce columns.new.names }
+{
+    match name {
+        Some(name) => Ok(Some(columns.intern(from.text(name))?)),
+        None => Ok(None),
+    }
+}
+
+/// Appends labels. There is room.
+pub(crate) fn append_labels(labels: &mut Vec<Label>, more: &[Label])
+    requires { vec_len labels.old + length more.now ≤ vec_capacity labels.old }
+    ensures { labels.new.items ≡ labels.old.items ++ more.now }
+{
+    let _done = labels.extend_from_slice(more);
 }
 
 /// What becomes of the label of a node once its attribute `name` has this value, or, with none, once it

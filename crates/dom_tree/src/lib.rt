@@ -2,22 +2,22 @@
 #![tactic(auto)]
 
 mod attribute_names;
+mod child_lists;
 mod class_lists;
 mod class_names;
-mod depths;
 mod doc;
 mod element_names;
 mod labels;
-mod links;
 mod name_bits;
 mod naming;
 mod node_columns;
 mod nodes;
 mod numbers;
 mod runs;
+mod sibling_places;
 mod span;
 mod start;
-mod type_places;
+mod turns;
 mod words;
 
 pub use attribute_names::AttributeNames;

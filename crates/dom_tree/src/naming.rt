@@ -3,7 +3,8 @@
 ghost use Rattle.std.specs.Prelude.{◌≡◌, ◌<◌, ◌≤◌, IfOk, OnErr, OnOk, length, nat_lt};
 ghost use Rattle.std.specs.List.{AllByRecursion, prefix_len};
 ghost use Rattle.dom_tree.specs.View.{attributes_of};
-ghost use Rattle.dom_tree.specs.Kept.{AreAttrs, KeepsTexts, named_attributes, put_row, without_row};
+ghost use Rattle.stylo_base.specs.NameList.{StandOnce};
+ghost use Rattle.dom_tree.specs.Kept.{AreAttrs, IsNamed, KeepsTexts, named_attributes, put_row, without_row};
 
 use crate::node_columns::AttrRow;
 use crate::nodes::Attr;
@@ -24,6 +25,29 @@ pub(crate) fn name_attrs(
     for attr in attrs.iter().rev() {
         let name = names.intern(attr.name)?;
         let value = names.intern(attr.value)?;
+        put(run, name, value)?;
+    }
+    Ok(())
+}
+
+/// Puts the attributes of these rows, which name texts of `from`, into `run`, sorted by name.
+pub(crate) fn rename_attrs(
+    names: &mut Names,
+    run: &mut Vec<AttrRow>,
+    from: &Names,
+    rows: &[AttrRow],
+) -> Result<(), NoMemory>
+    requires named { AllByRecursion (IsNamed from.now) rows.now }
+    requires once { StandOnce names.old }
+    ensures map { OnOk result (named_attributes names.new run.new.items ≡ named_attributes from.now rows.now) }
+    ensures rows { OnOk result (AreAttrs names.new run.new.items) }
+    ensures kept { KeepsTexts names.old names.new }
+    ensures once { StandOnce names.new }
+{
+    run.clear();
+    for row in rows.iter().rev() {
+        let name = names.intern(from.text(row.name))?;
+        let value = names.intern(from.text(row.value))?;
         put(run, name, value)?;
     }
     Ok(())

@@ -1,15 +1,19 @@
 //! What is kept of nodes, in columns: each text once, as a name.
 
-ghost use Rattle.std.specs.Prelude.{◌≡◌, ◌↔◌, ◌<◌, ◌==◌, ◌++◌, ◌∷◌, [], IfSome, IfOk, IsTrue, OnErr, OnOk, Some, find, length, map, option_map, slice_get};
+ghost use Rattle.std.specs.Prelude.{◌≡◌, ◌↔◌, ℕ, ◌<◌, ◌==◌, ◌++◌, ◌∷◌, [], IfSome, IfOk, IsTrue, OnErr, OnOk, Some, encode_utf8_all, find, length, map, nat_le, option_map, slice_get};
 ghost use Rattle.std.specs.Cmp.Lexicographic.{slice_cmp};
 ghost use Rattle.std.specs.Ordering.{nat_cmp};
+ghost use Rattle.std.specs.List.{AllByRecursion, list_all};
 ghost use Rattle.std.specs.FinMap as finmap;
 ghost use Rattle.std.specs.Str.{chars};
 ghost use Rattle.scene_model.specs.Element.{Characters};
 ghost use Rattle.stylo_base.specs.NameList.{StandOnce};
 ghost use Rattle.dom_tree.specs.ElementNames.{AreNamesOf};
+ghost use Rattle.dom_tree.specs.SiblingPlaces.{HasNameBelow};
 ghost use Rattle.dom_tree.specs.View.{node_of, states_of};
-ghost use Rattle.dom_tree.specs.Kept.{AreAttrs, IsNameOf, KeepsTexts, named_pair, put_node, text_of, with_attr, with_states, without_attr};
+ghost use Rattle.dom_tree.specs.Kept.{AreAttrs, IsNameOf, KeepsTexts, named_pair, put_node, text_of, with_attr, with_parent, with_states, without_attr};
+
+mod append;
 
 use crate::attribute_names::AttributeNames;
 use crate::naming::{name_attrs, put, take_out};
@@ -219,6 +223,15 @@ impl NodeColumns {
         self.rows[index].states = states;
     }
 
+    /// Hangs a node below the one at the index `parent`.
+    pub fn set_parent(&mut self, index: usize, parent: u32)
+        requires index { index < length self.old.nodes }
+        ensures names { self.new.names ≡ self.old.names }
+        ensures nodes { self.new.nodes ≡ put_node index (with_parent parent) self.old.nodes }
+    {
+        self.rows[index].parent = Some(parent);
+    }
+
     /// How many nodes there are.
     pub fn len(&self) -> usize
         ensures { result ≡ length self.now.nodes }
@@ -241,6 +254,16 @@ impl NodeColumns {
         ensures { IfSome (slice_get self.now.nodes index) (λ node. result ≡ finmap.len node.attrs) }
     {
         self.rows[index].attrs.count as usize
+    }
+
+    /// How many bytes the longest value of an attribute of a node has. Without attributes it is 0.
+    pub fn longest_value(&self, index: usize) -> usize
+        requires index { index < length self.now.nodes }
+        requires once { StandOnce self.now.names }
+        ensures { (n : ℕ) → IfSome (slice_get self.now.nodes index) (λ node. nat_le result n
+            ≡ list_all (λ text. nat_le (length (encode_utf8_all text)) n) (finmap.values node.attrs)) }
+    {
+        longest_among(&self.names, self.rows[index].attrs.of(&self.attrs))
     }
 
     /// The states of a node.
@@ -315,6 +338,16 @@ impl NodeColumns {
         &self.names
     }
 
+    /// How many texts have names. The tag of each node is one of them.
+    pub fn name_count(&self) -> usize
+        ensures count { result ≡ length self.now.names }
+        ensures once { StandOnce self.now.names }
+        ensures tags { AllByRecursion
+            (λ node. HasNameBelow self.now.names (length self.now.names) node.tag) self.now.nodes }
+    {
+        self.names.len()
+    }
+
     /// Other columns of the same nodes.
     pub fn copy(&self, alloc: Global) -> Result<NodeColumns, NoMemory>
         ensures { IfOk result (λ columns. columns ≡ self.now) }
@@ -342,6 +375,30 @@ fn value_among(rows: &[AttrRow], name: Name) -> Option<Name>
 {
     let row = rows.iter().find(|row| row.name == name)?;
     Some(row.value)
+}
+
+/// How many bytes the text of a name has.
+fn text_len(names: &Names, name: Name) -> usize
+    requires { name < length names.now }
+    ensures { result ≡ length (encode_utf8_all (text_of names.now name)) }
+{
+    names.text(name).len()
+}
+
+/// How many bytes the longest value among rows has. Of none it is 0.
+fn longest_among(names: &Names, rows: &[AttrRow]) -> usize
+    requires { AreAttrs names.now rows.now }
+    ensures { (n : ℕ) → nat_le result n
+        ≡ list_all (λ row. nat_le (length (encode_utf8_all (text_of names.now row.value))) n) rows.now }
+{
+    let mut most = 0;
+    for row in rows {
+        let bytes = text_len(names, row.value);
+        if most < bytes {
+            most = bytes;
+        }
+    }
+    most
 }
 
 /// The value of the name of an atom among rows.

@@ -1,7 +1,10 @@
 //! The list of nodes of a job or an insertion, each after its parent.
 
-ghost use Rattle.std.specs.Prelude.{◌≡◌, ◌<◌, ◌++◌, ◌∷◌, [], Some, None, IfSome, length, IfOk, OnOk, OnErr, slice_get};
+ghost use Rattle.std.specs.Prelude.{◌≡◌, ◌<◌, ◌≤◌, ◌↔◌, ℕ, ◌++◌, ◌∷◌, [], Some, None, IfSome, length, IfOk, OnOk, OnErr, encode_utf8_all, nat_le, slice_get};
+ghost use Rattle.std.specs.FinMap as finmap;
+ghost use Rattle.std.specs.List.{AllByRecursion, list_all};
 ghost use Rattle.scene_model.specs.Nodes.{IsNodeList};
+ghost use Rattle.dom_tree.specs.Depths.{depths_of};
 ghost use Rattle.dom_tree.specs.View.{node_of};
 
 use crate::node_columns::NodeColumns;
@@ -37,11 +40,14 @@ pub struct NodeInput<'a> {
 #[derive(Drop)]
 pub struct NodeList {
     columns: NodeColumns,
+    /// The depth of each node.
+    depths: Vec<usize>,
 }
 
 impl Model for NodeList {
-    ghost use Rattle.std.specs.Prelude.{List};
+    ghost use Rattle.std.specs.Prelude.{◌≡◌, List};
     ghost use Rattle.scene_model.specs.Nodes.{Node, nodes_code, IsNodeList};
+    ghost use Rattle.dom_tree.specs.Depths.{depths_of};
 
     ghost Value = { List Node };
 
@@ -49,7 +55,7 @@ impl Model for NodeList {
 
     ghost view = { λ l. l.columns.nodes };
 
-    ghost invariant = { λ l. IsNodeList l.columns.nodes };
+    ghost invariant = { λ l. IsNodeList l.columns.nodes × (l.depths.items ≡ depths_of l.columns.nodes) };
 }
 
 impl NodeList {
@@ -59,7 +65,8 @@ impl NodeList {
     {
         let mut columns = NodeColumns::new(alloc);
         columns.push(None, root)?;
-        Ok(NodeList { columns })
+        let depths = vec![in alloc; 1; 1]?;
+        Ok(NodeList { columns, depths })
     }
 
     /// Appends a node to the list, as a child of the node at the index `parent`.
@@ -68,7 +75,11 @@ impl NodeList {
         ensures ok { OnOk result (self.new ≡ self.old ++ node_of (Some parent) node.entry ∷ []) }
         ensures err { OnErr result (self.new ≡ self.old) }
     {
-        self.columns.push(Some(parent), node)
+        let depth = self.depths[parent as usize] + 1;
+        self.depths.reserve(1)?;
+        self.columns.push(Some(parent), node)?;
+        self.depths.push_reserved(depth);
+        Ok(())
     }
 
     /// How many nodes there are, from 1.
@@ -87,12 +98,55 @@ impl NodeList {
         self.columns.parent(index)
     }
 
+    /// How many attributes a node has.
+    pub fn attribute_count(&self, index: usize) -> usize
+        requires { index < length self.now }
+        ensures { IfSome (slice_get self.now index) (λ node. result ≡ finmap.len node.attrs) }
+    {
+        // How many names there are is not asked: the call tells that each stands once.
+        let _names = self.columns.name_count();
+        self.columns.attribute_count(index)
+    }
+
+    /// How many bytes the longest value of an attribute of a node has. Without attributes it is 0.
+    pub fn longest_value(&self, index: usize) -> usize
+        requires { index < length self.now }
+        ensures { (n : ℕ) → IfSome (slice_get self.now index) (λ node. nat_le result n
+            ≡ list_all (λ text. nat_le (length (encode_utf8_all text)) n) (finmap.values node.attrs)) }
+    {
+        let _names = self.columns.name_count();
+        self.columns.longest_value(index)
+    }
+
+    /// The depth of each node, in list order. The root has 1.
+    pub fn depths(&self) -> &[usize]
+        ensures { result.now ≡ depths_of self.now }
+    {
+        self.depths.as_slice()
+    }
+
+    /// The greatest depth of a node. The root has 1.
+    pub fn deepest(&self) -> usize
+        ensures { (n : ℕ) → (result ≤ n) ↔ AllByRecursion (λ depth. depth ≤ n) (depths_of self.now) }
+    {
+        greatest(&self.depths)
+    }
+
+    /// What is kept of the nodes, which is lent.
+    pub(crate) fn columns(&self) -> &NodeColumns
+        ensures nodes { result.now.nodes ≡ self.now }
+        ensures shape { IsNodeList self.now }
+    {
+        &self.columns
+    }
+
     /// Another list of the same nodes.
     pub(crate) fn copy(&self, alloc: Global) -> Result<NodeList, NoMemory>
         ensures { IfOk result (λ list. list ≡ self.now) }
     {
         Ok(NodeList {
             columns: self.columns.copy(alloc)?,
+            depths: Vec::from_slice(alloc, &self.depths)?,
         })
     }
 
@@ -101,7 +155,20 @@ impl NodeList {
         ensures nodes { result.nodes ≡ self }
         ensures shape { IsNodeList self }
     {
-        let NodeList { columns } = self;
+        let NodeList { columns, .. } = self;
         columns
     }
+}
+
+/// The greatest of some numbers. Of none it is 0.
+fn greatest(numbers: &[usize]) -> usize
+    ensures { (n : ℕ) → (result ≤ n) ↔ AllByRecursion (λ number. number ≤ n) numbers.now }
+{
+    let mut most = 0;
+    for number in numbers {
+        if most < *number {
+            most = *number;
+        }
+    }
+    most
 }

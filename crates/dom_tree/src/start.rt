@@ -3,18 +3,20 @@
 ghost use Rattle.std.specs.Prelude.{◌≡◌, ◌++◌, ◌≤◌, IfOk, OnOk, length, reverse};
 ghost use Rattle.base_model.specs.Limits.{element_limit};
 ghost use Rattle.scene_model.specs.Nodes.{IsNodeList, listed, tree_order};
-ghost use Rattle.dom_tree.specs.Links.{AreLinks};
+ghost use Rattle.dom_tree.specs.ChildLists.{AreChildren, AreParts, lists_of};
 
-use crate::links::Links;
+use crate::child_lists::ChildLists;
 use crate::nodes::NodeList;
 use std::alloc::Global;
 use stylo_base::NoMemory;
 
 /// The numbers of the nodes of `list` in tree order: a walk from the root that visits what is below a
-/// node before its next sibling. `links` are those of the list.
-pub(crate) fn walk(alloc: Global, list: &NodeList, links: &Links) -> Result<Vec<u32>, NoMemory>
+/// node before its next sibling. `lists` are the children of each.
+pub(crate) fn walk(alloc: Global, list: &NodeList, lists: &ChildLists) -> Result<Vec<u32>, NoMemory>
     requires few { length list.now ≤ element_limit }
-    requires links { AreLinks (listed list.now) links.now }
+    requires parts { AreParts lists.now.flat.items lists.now.spans.items }
+    requires children { AreChildren (length list.now) (listed list.now)
+        (lists_of lists.now.flat.items lists.now.spans.items) }
     ensures order { IfOk result (λ order. order.items ≡ tree_order list.now) }
     ensures shape { IsNodeList list.now }
 {
@@ -23,7 +25,7 @@ pub(crate) fn walk(alloc: Global, list: &NodeList, links: &Links) -> Result<Vec<
     ahead.push(1)?;
     while let Some(x) = ahead.pop() {
         order.push(x)?;
-        append_reversed(&mut ahead, links.children(x))?;
+        append_reversed(&mut ahead, lists.of(x))?;
     }
     Ok(order)
 }

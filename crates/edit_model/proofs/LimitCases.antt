@@ -25,6 +25,7 @@ use Rattle.change_model.specs.ChildLists.{put}
 use Rattle.edit_model.specs.Edit.{DocEdit}
 use Rattle.edit_model.specs.Refusal.{Refusal, limit, LimitKind, tree_depth, unless, past, bytes_of}
 use Rattle.edit_model.specs.Apply.{unknown, is_misplaced, limit_past, refusal, depth_past}
+use Rattle.edit_model.specs.Sizes.{letters, many}
 use Rattle.edit_model.proofs.ExampleCases.{bare}
 
 -- when an amount is past a limit
@@ -41,19 +42,12 @@ by_limit d edit o known placed past = rw (known, placed) past
 
 -- so many letters, each of one byte
 
-pub letters : ℕ → Characters
-letters n = replicate n 97
-
 pub bytes-letters : (n : ℕ) → bytes_of (letters n) ≡ n
 unfolding letters encode
 bytes-letters zero = refl
 bytes-letters (suc n) = ap suc (bytes-letters n)
 
 -- so many attributes
-
-pub many : ℕ → Attributes
-many zero = maps.empty
-many (suc n) = maps.insert (many n) (letters (suc n)) []
 
 length-letters : (n : ℕ) → length (letters n) ≡ n
 unfolding letters
@@ -82,7 +76,7 @@ len-many (suc n) =
 pub alone : Characters → Characters → Attributes
 alone name text = maps.insert maps.empty name text
 
-no_entries : maps.entries {X = Characters} {R = slice_cmp nat_cmp} maps.empty ≡ []
+pub no_entries : maps.entries {X = Characters} {R = slice_cmp nat_cmp} maps.empty ≡ []
 no_entries =
     nil_from_length _ (sym (maps.len-entries {X = Characters} {R = slice_cmp nat_cmp} maps.empty) ∙ maps.len-empty (slice_cmp nat_cmp) Characters)
 

@@ -27,7 +27,8 @@ use Rattle.edit_model.specs.Refusal.{unknown_node, bad_place, limit, element_cou
 use Rattle.edit_model.specs.Apply.{after, unknown, is_misplaced, nodes_past, refusal}
 use Rattle.edit_model.specs.SheetApply.{SheetList, is_of, sheet_refusal}
 use Rattle.edit_model.proofs.ExampleCases.{quiet, bare, node}
-use Rattle.edit_model.proofs.LimitCases.{over, within, by_limit, letters, bytes-letters, many, no_longer_name, len-many, alone, len-alone, values-alone, values-none, length-put, too_deep_below, none_too_deep, chain, wide, IsNodeList-chain, IsNodeList-wide, length-chain, length-wide, depth-chain}
+use Rattle.edit_model.specs.Sizes.{letters, many}
+use Rattle.edit_model.proofs.LimitCases.{over, within, by_limit, bytes-letters, no_longer_name, len-many, alone, len-alone, values-alone, values-none, length-put, too_deep_below, none_too_deep, chain, wide, IsNodeList-chain, IsNodeList-wide, length-chain, length-wide, depth-chain}
 
 abbrev holding : Attributes → Node
 holding attrs = record { parent = None; tag = codes "q"; attrs = attrs; states = quiet }

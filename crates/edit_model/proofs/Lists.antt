@@ -1,9 +1,14 @@
 -- Tests of some item of a list, and lists in which each item stands once.
 use Rattle.std.proofs.Common.{◌≡◌, ℕ, ◌==◌, List, [], ◌∷◌, ◌++◌, map, filter, Bool, true, false, cond, ◌&&◌, ◌||◌, refl, sym, ap, ◌∙◌}
-use Rattle.std.specs.List.{AllByRecursion, IsDistinct, list_any}
-use Rattle.std.proofs.lemmas.Bool.{or_right, eqb-true, false_from_ne_true, false≢true}
+use Rattle.std.specs.List.{AllByRecursion, IsDistinct, list_all, list_any}
+use Rattle.std.proofs.lemmas.Bool.{and_parts, or_right, eqb-true, false_from_ne_true, false≢true}
 use Rattle.base_model.proofs.Lists.{each_weaker, each-map, each-append}
 use Rattle.scene_model.proofs.Numbers.{is_in, same_number, filter_none, each_failed}
+
+pub each_of_all : {X : Type 0} (p : X → Bool) (xs : List X) → list_all p xs ≡ true → AllByRecursion (λ x. p x ≡ true) xs
+each_of_all p [] h = tt
+each_of_all p (x ∷ xs) h =
+    let both = and_parts (p x) (list_all p xs) h in (both.0, each_of_all p xs both.1)
 
 pub any_same : (f g : ℕ → Bool) (xs : List ℕ) → ((x : ℕ) → is_in x xs ≡ true → f x ≡ g x) → list_any f xs ≡ list_any g xs
 any_same f g [] h = refl

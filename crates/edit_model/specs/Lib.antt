@@ -5,6 +5,7 @@ pub mod Steady
 pub mod MarkedAfter
 pub mod Edit
 pub mod Refusal
+pub mod Sizes
 pub mod Apply
 pub mod SheetApply
 pub mod TouchedBy

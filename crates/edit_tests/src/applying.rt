@@ -196,7 +196,7 @@ fn are_touched(alloc: Global, touched: &Touched, x: u32, words: &str) -> Result<
         }
         count = count.saturating_add(1);
     }
-    Ok(count == touched.touches().len())
+    Ok(count == touched.parts().0.len())
 }
 
 /// Whether an edit touches what a line says.

@@ -44,17 +44,23 @@ impl Dice {
     }
 
     /// A number below this one. Below 0: 0.
-    fn below(&mut self, count: u64) -> u64 {
+    pub(crate) fn below(&mut self, count: u64) -> u64 {
         self.rng.next_u64().checked_rem(count).unwrap_or(0)
     }
 
+    /// A number from 0 to this one.
+    pub(crate) fn up_to(&mut self, last: u32) -> u32 {
+        let count = (last as u64).saturating_add(1);
+        u32::try_from(self.below(count)).unwrap_or(0)
+    }
+
     /// A number from 1 to this one.
-    fn number(&mut self, last: u64) -> u64 {
+    pub(crate) fn number(&mut self, last: u64) -> u64 {
         self.below(last).saturating_add(1)
     }
 
     /// One of some texts.
-    fn pick<'a>(&mut self, texts: &'a str) -> &'a str {
+    pub(crate) fn pick<'a>(&mut self, texts: &'a str) -> &'a str {
         let mut count = 0u64;
         for _ in texts.split('|') {
             count = count.saturating_add(1);

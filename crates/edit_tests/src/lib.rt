@@ -10,6 +10,12 @@ mod changes;
 #[cfg(test)]
 mod definition;
 #[cfg(test)]
+mod growing;
+#[cfg(test)]
 mod marking;
 #[cfg(test)]
+mod plain;
+#[cfg(test)]
 mod scene;
+#[cfg(test)]
+mod shuffled;

@@ -16,8 +16,10 @@ use Rattle.edit_model.specs.Dependencies.{reaches}
 use Rattle.edit_model.specs.MarkedAfter.{bears_around}
 use Rattle.edit_model.proofs.AfterLemmas.{never, never_by}
 use Rattle.dom_edits.specs.declared.touch.Touch.{Touch}
+use Rattle.dom_edits.specs.declared.touch.Touch.TheVariants as kinds
 use Rattle.dom_edits.proofs.TouchLemmas.{among-seen, at_given, keys_differ, met_among, same_self}
 use Rattle.dom_edits.specs.TouchView.{AreAllTouches, pairs_at, touch_key, touch_seen}
+use Rattle.dom_edits.specs.TouchedView.{list_touches}
 use Rattle.invalidation_map.specs.declared.shared.DependencyRow.{DependencyRow}
 use Rattle.invalidation_map.specs.declared.shared.Shared.{Shared}
 use Rattle.invalidation_map.specs.Members.{Members}
@@ -183,3 +185,43 @@ module _ (doc : List Element) (pairs : List (model.Touch × ℕ)) where
   by_all_touches style touches i rows m n all l grown =
       grown_same (λ x. style x || list_any (λ (touch : Touch). marks_by_touch doc pairs rows (touch_seen touch) x) (take i touches)) (λ x. style x || list_any (λ row. marks_by_row doc pairs row x) rows) m n
       (λ x. ap (λ b. style x || b) (ap (list_any (λ (touch : Touch). marks_by_touch doc pairs rows (touch_seen touch) x)) (take_all i touches l) ∙ by_touches touches all x rows)) grown
+
+-- the three touches of lists
+abbrev pub code_touches : List Touch
+code_touches = kinds.Empty ∷ kinds.Positional ∷ kinds.Sibling ∷ []
+
+-- what the three touches of lists add, one after the other
+pub grown_three : (f : model.Touch → ℕ → Bool) (m n o q : Members) → IsGrown (f model.empty) m n → IsGrown (f model.positional) n o → IsGrown (f model.sibling) o q → IsGrown (λ x. list_any (λ touch. f touch x) list_touches) m q
+grown_three f m n o q first second third = record {
+  room = third.room ∙ (second.room ∙ first.room);
+  each = λ x.
+      third.each x
+      ∙ (ap (λ b. b || f model.sibling x) (second.each x ∙ ap (λ b. b || f model.positional x) (first.each x))
+      ∙ turned (is_in x m.items) (f model.empty x) (f model.positional x) (f model.sibling x));
+}
+  where
+    turned : (a b c d : Bool) → (((a || b) || c) || d) ≡ (a || (b || (c || (d || false))))
+    turned true b c d = refl
+    turned false true c d = refl
+    turned false false true d = refl
+    turned false false false true = refl
+    turned false false false false = refl
+
+-- where lists changed: what the style's rows add, and then those
+pub grown_lists : (style : ℕ → Bool) (by : Touch → ℕ → Bool) (f : model.Touch → ℕ → Bool) (touches : List Touch) (i : ℕ) (m n o : Members) → ((touch : Touch) (x : ℕ) → by touch x ≡ f (touch_seen touch) x) → length touches ≡ 0
+    → IsGrown (λ x. style x || list_any (λ touch. by touch x) (take i touches)) m n → IsGrown (λ x. list_any (λ touch. f touch x) list_touches) n o
+    → IsGrown (λ x. style x || list_any (λ touch. f (touch_seen touch) x) code_touches) m o
+grown_lists style by f touches i m n o same none first second = record {
+  room = second.room ∙ first.room;
+  each = λ x. second.each x ∙ (ap (λ b. b || list_any (λ touch. f touch x) list_touches) (first.each x ∙ ap (λ l. is_in x m.items || (style x || list_any (λ touch. by touch x) l)) (nothing i touches none)) ∙ turned (is_in x m.items) (style x) (list_any (λ touch. f touch x) list_touches));
+}
+  where
+    nothing : (i : ℕ) (l : List Touch) → length l ≡ 0 → take i l ≡ []
+    nothing zero l h = refl
+    nothing (suc i) [] h = refl
+    nothing (suc i) (t ∷ l) h = absurd (omega (arith, h))
+
+    turned : (a b c : Bool) → ((a || (b || false)) || c) ≡ (a || (b || c))
+    turned true b c = refl
+    turned false true c = refl
+    turned false false c = refl

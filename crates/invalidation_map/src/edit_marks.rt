@@ -35,6 +35,9 @@ pub fn marks(
         (flat_map (λ list. selectors_of list.items) selectors.now) x) }
     ensures once { IfOk result (λ v. IsDistinct nat_eq v.items) }
 {
+    // Neither is asked: the calls tell that the document before is sound, and that new nodes are a list.
+    let _order = before.in_tree_order();
+    let _count = edit.new_count();
     let dependencies = Dependencies::of(alloc, selectors)?;
     let last = last_of(after)?;
     let mut marker = Marker::new(alloc, last)?;

@@ -1,6 +1,7 @@
 //! Marks: the elements whose matching an edit may have changed.
 
 ghost use Rattle.std.specs.Prelude.{◌≡◌, ◌+◌, ◌&&◌, ◌||◌, ℕ, IfOk, false};
+ghost use Rattle.std.specs.List.{list_any};
 ghost use Rattle.std.specs.Option.{option_map_or};
 ghost use Rattle.scene_model.specs.Lookups.{IsElement};
 ghost use Rattle.scene_model.specs.Numbers.{is_in};
@@ -10,6 +11,7 @@ ghost use Rattle.selector_types.specs.SimpleView.{key_seen};
 ghost use Rattle.edit_model.specs.TouchedBy.{is_listed};
 ghost use Rattle.edit_model.specs.MarkedAfter.{touch_of_key};
 ghost use Rattle.dom_edits.specs.TouchView.{touch_seen};
+ghost use Rattle.dom_edits.specs.TouchedView.{list_touches};
 ghost use Rattle.invalidation_map.specs.Steps.{AreElements, HasRoom};
 ghost use Rattle.invalidation_map.specs.Rows.{AreTouchedIn, marks_by_row, marks_by_touch};
 ghost use Rattle.invalidation_map.specs.SharedRows.{IsWithin, row_seen};
@@ -89,7 +91,95 @@ impl Marker {
                 marks,
             );
         }
+        let count = touches.len();
+        if count != 0 {
+            return;
+        }
+        mark_by_lists(
+            doc,
+            touched,
+            dependencies,
+            &mut self.from,
+            &mut self.next,
+            marks,
+        );
     }
+}
+
+/// Adds what an edit marks that changes lists of children, if it is such a one: what the rows of its three
+/// touches mark.
+fn mark_by_lists(
+    doc: &Doc,
+    touched: &Touched,
+    dependencies: &Dependencies,
+    from: &mut ElementSet,
+    next: &mut ElementSet,
+    marks: &mut ElementSet,
+)
+    requires valid { IsValid doc.now.elements }
+    requires room { HasRoom doc.now.elements from.old.room }
+    requires next { next.old.room ≡ from.old.room }
+    requires marks { HasRoom doc.now.elements marks.old.room }
+    requires touched { AreAtElements doc.now.elements touched.now }
+    ensures grown { IsGrown (λ x. list_any (λ touch.
+        marks_by_touch doc.now.elements touched.now (rows_in dependencies.now) touch x) list_touches)
+        marks.old marks.new }
+    ensures room { from.new.room ≡ from.old.room }
+    ensures next { next.new.room ≡ from.old.room }
+{
+    mark_at(doc, touched, dependencies, &Touch::Empty, from, next, marks);
+    mark_at(
+        doc,
+        touched,
+        dependencies,
+        &Touch::Positional,
+        from,
+        next,
+        marks,
+    );
+    mark_at(
+        doc,
+        touched,
+        dependencies,
+        &Touch::Sibling,
+        from,
+        next,
+        marks,
+    );
+}
+
+/// Adds what the rows of a touch mark.
+fn mark_at(
+    doc: &Doc,
+    touched: &Touched,
+    dependencies: &Dependencies,
+    touch: &Touch,
+    from: &mut ElementSet,
+    next: &mut ElementSet,
+    marks: &mut ElementSet,
+)
+    requires valid { IsValid doc.now.elements }
+    requires room { HasRoom doc.now.elements from.old.room }
+    requires next { next.old.room ≡ from.old.room }
+    requires marks { HasRoom doc.now.elements marks.old.room }
+    requires touched { AreAtElements doc.now.elements touched.now }
+    ensures grown { IsGrown
+        (marks_by_touch doc.now.elements touched.now (rows_in dependencies.now) (touch_seen touch.now))
+        marks.old marks.new }
+    ensures room { from.new.room ≡ from.old.room }
+    ensures next { next.new.room ≡ from.old.room }
+{
+    let elements = touched.at(touch);
+    mark_by_touch(
+        doc,
+        touched,
+        elements,
+        dependencies,
+        touch,
+        from,
+        next,
+        marks,
+    );
 }
 
 /// Adds what the rows of a touch mark, which is at these elements. It looks at those alone whose touches have

@@ -14,7 +14,7 @@ use Rattle.layer_order.specs.declared.sheet_input.SheetInput.{SheetInput}
 use Rattle.job_json.specs.Words.{is_name}
 use Rattle.stylo_base.specs.declared.refusal.Kind.TheVariants.{Attributes, Depth, Sheets, Batches}
 use Rattle.stylo_base.specs.declared.state.State.TheVariants.{Focus}
-use Rattle.dom_edits.specs.declared.edits.DocEdit.TheVariants.{Set, Unset, State}
+use Rattle.dom_edits.specs.declared.edits.ElementEdit.TheVariants.{Set, Unset, State}
 use Rattle.dom_edits.specs.declared.edits.Edit.TheVariants.{Document}
 use Rattle.job_json.specs.Shape.{states_in, sheet_in, sheets_in}
 use Rattle.job_json.specs.Edits.{batches_in}

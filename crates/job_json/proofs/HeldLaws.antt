@@ -19,7 +19,8 @@ use Rattle.job_json.specs.Shape.{name_in, attrs_in, states_in, node_in, items_in
 use Rattle.job_json.specs.Limits.{Passed, within, past, attrs_past, node_past, nodes_past, nodes_passed}
 use Rattle.job_json.specs.Held.{Held, count_held, depth_below, node_within, held_with, held_next, some_held, held_or, held_at_end, IsHeld}
 use Rattle.job_json.proofs.CheckedLaws.{length-items_in}
-use Rattle.job_json.proofs.DepthLaws.{depths_of-push, length-depths_of}
+use Rattle.dom_tree.proofs.DepthSteps.{depths_long}
+use Rattle.job_json.proofs.DepthLaws.{depths_of-push}
 
 -- ---- the parents that nodes name
 
@@ -113,7 +114,7 @@ module _ (ds : List Data) (d : Data) (list : List Node) (node : Node) (h : Held)
       → nodes_past (items_of (ds ++ d ∷ [])) (depths_of (list ++ node ∷ [])) ≡ option_or (nodes_past (items_of ds) (depths_of list)) (node_past d (depth_below (depths_of list) node.parent))
   past_now few =
       ap (nodes_past (items_of (ds ++ d ∷ []))) (depths_now few)
-      ∙ nodes_past-push ds (depths_of list) d (depth_below (depths_of list) node.parent) (omega (arith, length-items_in node_in 0 ds list before, length-depths_of list))
+      ∙ nodes_past-push ds (depths_of list) d (depth_below (depths_of list) node.parent) (omega (arith, length-items_in node_in 0 ds list before, depths_long list refl))
 
   past_still : 0 < h.more ⊎ element_limit ≤ length list → length (list ++ node ∷ []) ≤ element_limit
       → (h.passed ≡ nodes_past (items_of (ds ++ d ∷ [])) (depths_of (list ++ node ∷ []))) × (is_some h.passed ≡ true)
@@ -133,7 +134,7 @@ module _ (ds : List Data) (d : Data) (list : List Node) (node : Node) (h : Held)
   -- where all nodes before it are kept
   module _ (none : h.more ≡ 0) (room : length list < element_limit) where
     abbrev depth : ℕ
-    depth = depth_below h.depths node.parent
+    depth = depth_below (depths_of h.nodes) node.parent
 
     few_now : length (list ++ node ∷ []) ≤ element_limit
     few_now = omega (arith, length_push list node)
@@ -141,7 +142,7 @@ module _ (ds : List Data) (d : Data) (list : List Node) (node : Node) (h : Held)
     past_here : nodes_past (items_of (ds ++ d ∷ [])) (depths_of (list ++ node ∷ [])) ≡ option_or own (past Depth depth_limit depth)
     past_here =
         let all = held.kept none in
-        past_now few_now ∙ (ap (λ o. option_or o (node_past d (depth_below (depths_of list) node.parent))) all.3 ∙ ap (λ ds. node_past d (depth_below ds node.parent)) (sym all.1))
+        past_now few_now ∙ (ap (λ o. option_or o (node_past d (depth_below (depths_of list) node.parent))) all.2 ∙ ap (λ l. node_past d (depth_below (depths_of l) node.parent)) (sym all.0))
 
     stopped : (passed : Passed) → nodes_past (items_of (ds ++ d ∷ [])) (depths_of (list ++ node ∷ [])) ≡ Some passed
         → IsHeld (ds ++ d ∷ []) (list ++ node ∷ []) (record h { passed = Some passed; more = 1 })
@@ -152,32 +153,27 @@ module _ (ds : List Data) (d : Data) (list : List Node) (node : Node) (h : Held)
     }
 
     kept_on : nodes_past (items_of (ds ++ d ∷ [])) (depths_of (list ++ node ∷ [])) ≡ None
-        → IsHeld (ds ++ d ∷ []) (list ++ node ∷ []) (record h { nodes = h.nodes ++ node ∷ []; depths = h.depths ++ depth ∷ [] })
+        → IsHeld (ds ++ d ∷ []) (list ++ node ∷ []) (record h { nodes = h.nodes ++ node ∷ [] })
     kept_on is =
         let all = held.kept none in
         record {
           count = length_push list node ∙ omega (arith, held.count, length_push h.nodes node);
-          kept = λ e. (
-            ap (λ l. l ++ node ∷ []) all.0,
-            ap (λ ds. ds ++ depth_below ds node.parent ∷ []) all.1 ∙ sym (depths_now few_now),
-            all.2,
-            is,
-          );
+          kept = λ e. (ap (λ l. l ++ node ∷ []) all.0, all.1, is);
           past_it = λ some few. absurd (omega (arith, none));
         }
 
-    by_depth : (deep : Option Passed) → nodes_past (items_of (ds ++ d ∷ [])) (depths_of (list ++ node ∷ [])) ≡ deep → IsHeld (ds ++ d ∷ []) (list ++ node ∷ []) (held_with h depth (within deep node))
+    by_depth : (deep : Option Passed) → nodes_past (items_of (ds ++ d ∷ [])) (depths_of (list ++ node ∷ [])) ≡ deep → IsHeld (ds ++ d ∷ []) (list ++ node ∷ []) (held_with h (within deep node))
     by_depth None is = kept_on is
     by_depth (Some passed) is = stopped passed is
 
-    tried : (a : Option Passed) → own ≡ a → IsHeld (ds ++ d ∷ []) (list ++ node ∷ []) (held_with h depth (node_within (within a node) depth))
+    tried : (a : Option Passed) → own ≡ a → IsHeld (ds ++ d ∷ []) (list ++ node ∷ []) (held_with h (node_within (within a node) depth))
     tried None is = by_depth (past Depth depth_limit depth) (past_here ∙ ap (λ o. option_or o (past Depth depth_limit depth)) is)
     tried (Some passed) is = stopped passed (past_here ∙ ap (λ o. option_or o (past Depth depth_limit depth)) is)
 
   by_room : (some many : Bool) → nat_lt 0 h.more ≡ some → nat_lt (count_held h) element_limit ≡ many
       → IsHeld (ds ++ d ∷ []) (list ++ node ∷ [])
       (cond some (record h { more = h.more + 1 })
-      (cond many (held_with h (depth_below h.depths node.parent) (node_within (within own node) (depth_below h.depths node.parent))) (record h { more = h.more + 1 })))
+      (cond many (held_with h (node_within (within own node) (depth_below (depths_of h.nodes) node.parent))) (record h { more = h.more + 1 })))
   by_room true many some_is many_is = counted (inl (grind (arith, nat_tests)))
   by_room false true some_is many_is =
       let none : h.more ≡ 0 = grind (arith, nat_tests) in
@@ -202,7 +198,7 @@ some_list (node ∷ list) some = refl
 
 module _ (ds : List Data) (list : List Node) (h : Held) (held : IsHeld ds list h) where
   by_more : (n : ℕ) → h.more ≡ n → length list ≤ element_limit → h.passed ≡ nodes_past (items_of ds) (depths_of list)
-  by_more zero e few = let all = held.kept e in all.2 ∙ sym all.3
+  by_more zero e few = let all = held.kept e in all.1 ∙ sym all.2
   by_more (suc n) e few = (held.past_it (omega arith) few).0
 
   by_count : (b : Bool) → nat_le (length list) element_limit ≡ b

@@ -6,7 +6,7 @@ use Rattle.serde_json.specs.Find.{as_str, as_bool}
 use Rattle.base_model.specs.State as model
 use Rattle.stylo_base.specs.declared.state.State.{State}
 use Rattle.stylo_base.specs.declared.state.State.TheVariants.{Hover, Active, Focus}
-use Rattle.dom_edits.specs.declared.edits.DocEdit.TheVariants as doc
+use Rattle.dom_edits.specs.declared.edits.ElementEdit.TheVariants as doc
 use Rattle.dom_edits.specs.declared.edits.Edit.{Edit}
 use Rattle.dom_edits.specs.declared.edits.Edit.TheVariants.{Document}
 use Rattle.job_json.specs.Checked.{Checked, ◌>>=◌, wanted, at_member}

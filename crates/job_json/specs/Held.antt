@@ -15,8 +15,6 @@ pub record Held : Type 0 where
   pub passed : Option Passed
   -- the nodes before that one, and before there are too many
   pub nodes : List Node
-  -- the depth of each of these
-  pub depths : List ℕ
   -- how many nodes come after these
   pub more : ℕ
 
@@ -33,16 +31,16 @@ abbrev pub node_within : {A : Type 0} → Within A → ℕ → Within A
 node_within (Ok node) depth = within (past Depth depth_limit depth) node
 node_within (Err passed) depth = Err passed
 
-abbrev pub held_with : Held → ℕ → Within Node → Held
-held_with h depth (Ok node) = record h { nodes = h.nodes ++ node ∷ []; depths = h.depths ++ depth ∷ [] }
-held_with h depth (Err passed) = record h { passed = Some passed; more = 1 }
+abbrev pub held_with : Held → Within Node → Held
+held_with h (Ok node) = record h { nodes = h.nodes ++ node ∷ [] }
+held_with h (Err passed) = record h { passed = Some passed; more = 1 }
 
 -- one more node, below this parent
 abbrev pub held_next : Held → Option ℕ → Within Node → Held
 held_next h parent node =
     if nat_lt 0 h.more then record h { more = h.more + 1 }
     else if nat_lt (count_held h) element_limit then
-    held_with h (depth_below h.depths parent) (node_within node (depth_below h.depths parent))
+    held_with h (node_within node (depth_below (depths_of h.nodes) parent))
     else record h { more = h.more + 1 }
 
 -- the whole list, which is not to be empty
@@ -61,7 +59,6 @@ held_at_end h = held_or (option_or (past Elements element_limit (count_held h)) 
 pub record IsHeld (ds : List Data) (list : List Node) (h : Held) : Type 0 where
   pub count : length list ≡ count_held h
   pub kept : h.more ≡ 0
-      → (h.nodes ≡ list) × (h.depths ≡ depths_of list) × (h.passed ≡ None)
-      × (nodes_past (items_of ds) (depths_of list) ≡ None)
+      → (h.nodes ≡ list) × (h.passed ≡ None) × (nodes_past (items_of ds) (depths_of list) ≡ None)
   pub past_it : 0 < h.more → length list ≤ element_limit
       → (h.passed ≡ nodes_past (items_of ds) (depths_of list)) × (is_some h.passed ≡ true)

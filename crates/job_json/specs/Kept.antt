@@ -124,7 +124,6 @@ abbrev pub held_of : KeptNodes → Held
 held_of kept = record {
   passed = kept.passed;
   nodes = nodes_or_none kept.list;
-  depths = kept.depths.items;
   more = kept.more;
 }
 

@@ -5,7 +5,7 @@ use Rattle.std.specs.Str.{chars, bytes_eq}
 use Rattle.serde_json.specs.Data.{Data, Members}
 use Rattle.serde_json.specs.Find.{get_member, as_str, as_bool}
 use Rattle.base_model.specs.Limits.{batch_limit}
-use Rattle.dom_edits.specs.declared.edits.DocEdit.TheVariants as doc
+use Rattle.dom_edits.specs.declared.edits.ElementEdit.TheVariants as doc
 use Rattle.dom_edits.specs.declared.edits.Edit.{Edit}
 use Rattle.dom_edits.specs.declared.edits.Edit.TheVariants.{Document}
 use Rattle.job_json.specs.declared.edit.EditParts.{EditParts}

@@ -10,7 +10,7 @@ use crate::checked::Checked;
 use crate::name::name_in;
 use crate::pointer::to_member;
 use crate::states::state_named;
-use dom_edits::{DocEdit, Edit};
+use dom_edits::{Edit, ElementEdit};
 use json::Reader;
 use json_reader::{KeepMembers, Stop, boolean, object, pass, text, whole};
 use std::alloc::Global;
@@ -41,16 +41,16 @@ impl<'a> LentEdit<'a> {
         ensures { IfOk result (λ edit. edit ≡ lent_seen self.entry) }
     {
         let edit = match self {
-            LentEdit::Set { node, name, value } => DocEdit::Set {
+            LentEdit::Set { node, name, value } => ElementEdit::Set {
                 node,
                 name: Text::of_str(alloc, name)?,
                 value: Text::of_str(alloc, value)?,
             },
-            LentEdit::Unset { node, name } => DocEdit::Unset {
+            LentEdit::Unset { node, name } => ElementEdit::Unset {
                 node,
                 name: Text::of_str(alloc, name)?,
             },
-            LentEdit::State { node, state, on } => DocEdit::State { node, state, on },
+            LentEdit::State { node, state, on } => ElementEdit::State { node, state, on },
         };
         Ok(Edit::Document(edit))
     }

@@ -4,6 +4,7 @@ ghost use Rattle.std.specs.Prelude.{◌≡◌, ◌<◌, ◌++◌, ◌∷◌, [],
 ghost use Rattle.json_reader.specs.Taken.{taken, Says};
 ghost use Rattle.base_model.specs.Limits.{element_limit};
 ghost use Rattle.scene_model.specs.Nodes.{IsParentAt};
+ghost use Rattle.dom_tree.specs.Depths.{depths_of};
 ghost use Rattle.dom_tree.specs.View.{node_of};
 ghost use Rattle.job_json.specs.Parts.{nodes_read};
 ghost use Rattle.job_json.specs.Held.{count_held, held_next, held_at_end, depth_below, node_within};
@@ -39,8 +40,6 @@ struct KeptNodes {
     passed: Option<Passed>,
     /// The nodes before that one, and before there are too many. None: there is none yet.
     list: Option<NodeList>,
-    /// The depth of each of these.
-    depths: Vec<usize>,
     /// How many nodes come after these.
     more: usize,
 }
@@ -96,7 +95,6 @@ impl KeptNodes {
         match within(node.input, depth) {
             Ok(input) => {
                 append(alloc, &mut self.list, node.parent, input)?;
-                self.depths.push(depth)?;
             }
             Err(passed) => {
                 self.passed = Some(passed);
@@ -123,13 +121,17 @@ impl KeptNodes {
 
     /// The depth of a node with this parent. The root has 1.
     fn depth_below(&self, parent: Option<usize>) -> usize
-        ensures { result ≡ depth_below self.now.depths.items parent }
+        ensures { result ≡ depth_below (depths_of (nodes_or_none self.now.list)) parent }
     {
         let Some(parent) = parent else {
             return 1;
         };
-        if parent < self.depths.len() {
-            self.depths[parent].saturating_add(1)
+        let Some(list) = &self.list else {
+            return 1;
+        };
+        let depths = list.depths();
+        if parent < depths.len() {
+            depths[parent].saturating_add(1)
         } else {
             1
         }
@@ -195,7 +197,6 @@ pub(crate) fn take_nodes(
         kept: KeptNodes {
             passed: None,
             list: None,
-            depths: Vec::new(alloc),
             more: 0,
         },
         node: NodeParts::new(alloc),

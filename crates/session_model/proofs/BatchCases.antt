@@ -3,7 +3,7 @@ use Rattle.std.proofs.Common.{◌≡◌, ℕ, ◌+◌, List, [], ◌∷◌, filt
 use Rattle.std.specs.List.{list_all, list_any, AllByRecursion}
 use Rattle.std.specs.Option.{option_map_or}
 use Rattle.std.specs.Ordering.{int_eq}
-use Rattle.std.proofs.lemmas.Bool.{and_parts, or_left, or_right, false≢true}
+use Rattle.std.proofs.lemmas.Bool.{or_left, or_right, false≢true}
 use Rattle.base_model.specs.Origin.{Origin}
 use Rattle.base_model.specs.Text.{Characters}
 use Rattle.base_model.specs.Sheet.{Sheet}
@@ -30,6 +30,7 @@ use Rattle.edit_model.specs.Refusal.{Refusal, Outcome, refused, accepted, outcom
 use Rattle.edit_model.specs.Apply.{after, refusal, is_fresh}
 use Rattle.edit_model.specs.Marked.{is_marked}
 use Rattle.edit_model.specs.SheetApply.{number_in, sheets_after, last_after, sheet_refusal}
+use Rattle.edit_model.proofs.Lists.{each_of_all}
 use Rattle.session_model.specs.Marking.{marking_selectors}
 use Rattle.session_model.specs.Same.{same_style}
 use Rattle.session_model.specs.SheetMarks.{is_marked_by_sheets}
@@ -158,11 +159,6 @@ closed_at els matched x = option_map_or (λ p. not (matched p) || matched x) (pa
 
 abbrev pub are_closed : List Element → List ℕ → List ℕ → Bool
 are_closed els marked fresh = list_all (closed_at els (among marked fresh)) (numbers els)
-
-each_of_all : (p : ℕ → Bool) (xs : List ℕ) → list_all p xs ≡ true → AllByRecursion (λ x. p x ≡ true) xs
-each_of_all p [] h = tt
-each_of_all p (x ∷ xs) h =
-    let both = and_parts (p x) (list_all p xs) h in (both.0, each_of_all p xs both.1)
 
 closed_child : (els : List Element) (marked fresh : List ℕ) → are_closed els marked fresh ≡ true → (x p : ℕ) → parent_of els x ≡ Some p → among marked fresh p ≡ true → among marked fresh x ≡ true
 closed_child els marked fresh h x p e m =

@@ -9,7 +9,7 @@
 //! Each function owns one value at most when it returns: what is let go at each way out of it is proved there.
 
 use crate::counting::CountingGate;
-use dom_edits::{DocEdit, Edit};
+use dom_edits::{Edit, ElementEdit};
 use dom_tree::{Attr, NodeInput, NodeList, States};
 use layer_order::Origin;
 use sheet_set::SheetInput;
@@ -247,7 +247,7 @@ fn edit_of(alloc: Global, word: &str, text: &str) -> Result<Edit, NoMemory> {
     let (node, text) = cut(text, ' ');
     let node = number(node);
     if word == "on" || word == "off" {
-        return Ok(Edit::Document(DocEdit::State {
+        return Ok(Edit::Document(ElementEdit::State {
             node,
             state: State::Hover,
             on: word == "on",
@@ -264,14 +264,14 @@ fn edit_of(alloc: Global, word: &str, text: &str) -> Result<Edit, NoMemory> {
 /// An edit that takes an attribute away.
 fn unset_of(alloc: Global, node: u64, name: &str) -> Result<Edit, NoMemory> {
     let name = Text::of_str(alloc, name)?;
-    Ok(Edit::Document(DocEdit::Unset { node, name }))
+    Ok(Edit::Document(ElementEdit::Unset { node, name }))
 }
 
 /// An edit that gives an attribute a value.
 fn set_of(alloc: Global, node: u64, name: &str, value: &str) -> Result<Edit, NoMemory> {
     let name = Text::of_str(alloc, name)?;
     let value = Text::of_str(alloc, value)?;
-    Ok(Edit::Document(DocEdit::Set { node, name, value }))
+    Ok(Edit::Document(ElementEdit::Set { node, name, value }))
 }
 
 /// What comes in a text before the first of a character, and what comes after it.

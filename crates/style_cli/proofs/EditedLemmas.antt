@@ -9,7 +9,7 @@ use Rattle.session_model.specs.Standing.{Standing}
 use Rattle.session_model.specs.Batches as model
 use Rattle.session_model.specs.Batches.{accepted_among, edited_all, onto_refused, refused_from}
 use Rattle.session_model.proofs.BatchLemmas.{accepted-refused}
-use Rattle.dom_edits.specs.declared.edits.DocEdit.TheVariants.{Set, Unset, State}
+use Rattle.dom_edits.specs.declared.edits.ElementEdit.TheVariants.{Set, Unset, State}
 use Rattle.dom_edits.specs.declared.edits.Edit.{Edit}
 use Rattle.dom_edits.specs.declared.edits.Edit.TheVariants.{Document}
 use Rattle.dom_edits.specs.EditView.{edit_seen, refusal_answered}

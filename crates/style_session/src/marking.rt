@@ -6,7 +6,7 @@ ghost use Rattle.scene_model.specs.Lookups.{IsElement};
 ghost use Rattle.stylo_base.specs.declared.refusal.EditRefused.TheVariants.{NoMemory as out_of_memory};
 ghost use Rattle.edit_model.specs.Apply.{applied, refusal as model_refusal};
 ghost use Rattle.edit_model.specs.Refusal.{accepted};
-ghost use Rattle.dom_edits.specs.EditView.{doc_edit_seen, refusal_answered};
+ghost use Rattle.dom_edits.specs.EditView.{element_edit_seen, refusal_answered};
 ghost use Rattle.invalidation_map.specs.Rows.{rows_of};
 ghost use Rattle.invalidation_map.specs.RowView.{rows_in};
 ghost use Rattle.invalidation_map.specs.Steps.{HasRoom};
@@ -15,7 +15,7 @@ ghost use Rattle.session_model.specs.Marking.{selectors_of};
 ghost use Rattle.style_session.specs.Edits.{AddsMarks, AreMarkedToo};
 ghost use Rattle.style_session.specs.Sessions.{CanMark};
 
-use dom_edits::{DocEdit, apply, refusal};
+use dom_edits::{ElementEdit, apply_in_place, refusal_in_place};
 use dom_tree::Doc;
 use invalidation_map::{Dependencies, ElementSet, Marker};
 use sheet_set::Sheets;
@@ -51,22 +51,22 @@ impl Marking {
         alloc: Global,
         doc: &mut Doc,
         marks: &mut ElementSet,
-        edit: &DocEdit,
+        edit: &ElementEdit,
     ) -> Result<(), EditRefused>
         requires room { HasRoom doc.old.elements self.old.marker }
         requires marks { HasRoom doc.old.elements marks.old.room }
-        ensures accepted { OnOk result (applied doc.old (doc_edit_seen edit.now) ≡ accepted doc.new) }
+        ensures accepted { OnOk result (applied doc.old (element_edit_seen edit.now) ≡ accepted doc.new) }
         ensures marked { OnOk result (AddsMarks doc.old.elements doc.new.elements
             (rows_in self.old.dependencies) marks.old marks.new) }
         ensures refused { IfErr result (λ why. why ≡ unwrap_or (option_map refusal_answered
-            (model_refusal doc.old (doc_edit_seen edit.now))) out_of_memory) }
+            (model_refusal doc.old (element_edit_seen edit.now))) out_of_memory) }
         ensures kept { OnErr result (doc.new ≡ doc.old) }
         ensures marks { OnErr result (marks.new ≡ marks.old) }
         ensures elements { (x : ℕ) → IsElement doc.new.elements x → IsElement doc.old.elements x }
         ensures room { marks.new.room ≡ marks.old.room }
         ensures same { self.new ≡ self.old }
     {
-        let touched = apply(alloc, doc, edit)?;
+        let touched = apply_in_place(alloc, doc, edit)?;
         self.marker.mark(doc, &touched, &self.dependencies, marks);
         Ok(())
     }
@@ -80,15 +80,15 @@ pub(crate) fn edit_marked(
     sheets: &Sheets,
     marking: &mut Option<Marking>,
     marks: &mut ElementSet,
-    edit: &DocEdit,
+    edit: &ElementEdit,
 ) -> Result<(), EditRefused>
     requires can_mark { IfSome marking.old (CanMark doc.old (sources_seen sheets.now) marks.old) }
     requires unmarked { marking.old ≡ None → marks.old.items ≡ [] }
-    ensures accepted { OnOk result (applied doc.old (doc_edit_seen edit.now) ≡ accepted doc.new) }
+    ensures accepted { OnOk result (applied doc.old (element_edit_seen edit.now) ≡ accepted doc.new) }
     ensures marked { OnOk result (AreMarkedToo doc.old.elements doc.new.elements (sources_seen sheets.now)
         marks.old.items marks.new.items) }
     ensures refused { IfErr result (λ why. why ≡ unwrap_or (option_map refusal_answered
-        (model_refusal doc.old (doc_edit_seen edit.now))) out_of_memory) }
+        (model_refusal doc.old (element_edit_seen edit.now))) out_of_memory) }
     ensures kept { OnErr result (doc.new ≡ doc.old) }
     ensures marks { OnErr result (marks.new.items ≡ marks.old.items) }
     ensures can_mark { IfSome marking.new (CanMark doc.new (sources_seen sheets.now) marks.new) }
@@ -97,7 +97,7 @@ pub(crate) fn edit_marked(
     if let Some(made) = marking {
         return made.edit(alloc, doc, marks, edit);
     }
-    if let Some(why) = refusal(doc, edit) {
+    if let Some(why) = refusal_in_place(doc, edit) {
         return Err(why);
     }
     let mut made = Marking::of(alloc, doc, sheets)?;

@@ -9,7 +9,7 @@ ghost use Rattle.scene_model.specs.Numbers.{is_in};
 ghost use Rattle.layer_order.specs.View.{sheets_of};
 ghost use Rattle.edit_model.specs.Edit.{of_document};
 ghost use Rattle.edit_model.specs.Refusal.{accepted};
-ghost use Rattle.dom_edits.specs.EditView.{doc_edit_seen, edit_seen};
+ghost use Rattle.dom_edits.specs.EditView.{element_edit_seen, edit_seen};
 ghost use Rattle.session_model.specs.Standing.{edited, elements_of, kept_at, restyled, scene_applied, started};
 ghost use Rattle.style_session.specs.Answers.{IsAnswer, counts_of, refusal_of};
 ghost use Rattle.style_session.specs.SessionView.{scene_seen};
@@ -23,7 +23,7 @@ use crate::first_walk::{FirstStyles, first_styles};
 use crate::lists::Lists;
 use crate::marking::{Marking, edit_marked};
 use crate::style_cache::StyleCache;
-use dom_edits::{DocEdit, Edit};
+use dom_edits::{Edit, ElementEdit};
 use dom_tree::{Doc, NodeList};
 use invalidation_map::ElementSet;
 use io_edges::Gate;
@@ -235,8 +235,8 @@ impl Session {
 }
 
 /// The edit of the document that an edit is.
-fn doc_edit(edit: &Edit) -> &DocEdit
-    ensures { edit_seen edit.now ≡ of_document (doc_edit_seen result.now) }
+fn doc_edit(edit: &Edit) -> &ElementEdit
+    ensures { edit_seen edit.now ≡ of_document (element_edit_seen result.now) }
 {
     match edit {
         Edit::Document(edit) => edit,

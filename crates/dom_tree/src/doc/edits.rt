@@ -88,12 +88,13 @@ impl Doc {
     {
         Ok(Doc {
             columns: self.columns.copy(alloc)?,
-            links: self.links.copy(alloc)?,
-            types: self.types.copy(alloc)?,
+            children: self.children.copy(alloc)?,
+            places: self.places.copy(alloc)?,
             labels: Vec::from_slice(alloc, &self.labels)?,
             lists: self.lists.copy(alloc)?,
             cuts: Vec::from_slice(alloc, &self.cuts)?,
             order: Vec::from_slice(alloc, &self.order)?,
+            present: Vec::from_slice(alloc, &self.present)?,
         })
     }
 

@@ -24,12 +24,12 @@ returns-clause-set c =
     ] in
     let indexed : IfSome (option_map (λ names. names.value) c.if-len-eq-FEW.self.index) (λ l. l ≡ t) = elim c.if-len-eq-FEW.branch [
       | then-len-eq-FEW+in_ok-index_of+in-None-1 w ↦ subst (λ (s : WordSet). IfSome (option_map (λ names. names.value) s.index) (λ l. l ≡ t)) (sym w.self-is)
-          (w.in_ok-index_of.ensures ∙ (ap (λ l. distinct_from [] (map (λ word. chars word.text.now) l)) w.deref.ensures.value ∙ c.requires.once))
+          (w.in_ok-index_of.ensures ∙ (ap (λ l. distinct_from [] (map (λ word. chars word.text.now) l)) w.as_slice.ensures ∙ c.requires.once))
       | then-len-eq-FEW+in_ok-index_of+in-Some-1 w ↦ subst (λ (s : WordSet). IfSome (option_map (λ names. names.value) s.index) (λ l. l ≡ t)) (sym w.self-is)
-          (w.in_ok-index_of.ensures ∙ (ap (λ l. distinct_from [] (map (λ word. chars word.text.now) l)) w.deref.ensures.value ∙ c.requires.once))
+          (w.in_ok-index_of.ensures ∙ (ap (λ l. distinct_from [] (map (λ word. chars word.text.now) l)) w.as_slice.ensures ∙ c.requires.once))
       | else-len-eq-FEW w ↦ subst (λ (s : WordSet). IfSome (option_map (λ names. names.value) s.index) (λ l. l ≡ t)) (sym w.self-is) c.requires.index
     ] in
-    let items : c.push.new.self.items ≡ c.args.self.now.words.items ++ c.args.word ∷ [] = c.in_ok-push.ensures.items ∙ ap (λ v. v.items ++ c.args.word ∷ []) same in
+    let items : c.push.new.self.items ≡ c.args.self.now.words.items ++ c.args.word ∷ [] = c.in_ok-push.ensures.ok ∙ ap (λ v. v.items ++ c.args.word ∷ []) same in
     let texts : map (λ word. chars word.text.now) c.push.new.self.items ≡ t ++ word ∷ [] = ap (map (λ word. chars word.text.now)) items ∙ map-append (λ (word : Word). chars word.text.now) c.args.self.now.words.items (c.args.word ∷ []) in
     record {
       once = ap (distinct_from []) texts ∙ (once_more t word c.requires.once apart ∙ sym texts);
