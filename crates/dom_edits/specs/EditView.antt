@@ -22,8 +22,6 @@ use Rattle.dom_edits.specs.declared.edits.NewNodes.{NewNodes}
 use Rattle.dom_edits.specs.declared.edits.NewNodes.TheVariants.{Kept, Past}
 use Rattle.dom_edits.specs.declared.edits.NodeLimit.{NodeLimit}
 use Rattle.dom_edits.specs.declared.edits.NodeLimit.TheVariants.{Attributes as many_attributes, Value as long_value}
-use Rattle.dom_edits.specs.declared.edits.ElementEdit.{ElementEdit}
-use Rattle.dom_edits.specs.declared.edits.ElementEdit.TheVariants.{Set as SetHere, Unset as UnsetHere, State as StateHere}
 use Rattle.dom_edits.specs.declared.edits.Edit.{Edit}
 use Rattle.dom_edits.specs.declared.edits.Edit.TheVariants.{Document as of_document}
 
@@ -79,13 +77,8 @@ abbrev pub Says : DocEdit → model.DocEdit → Type 0
 Says (Insert parent index new) (model.insert p i nodes) = (parent ≡ p) × (index ≡ i) × AreNewNodes new nodes
 Says edit said = doc_edit_seen edit ≡ said
 
-abbrev pub element_edit_seen : ElementEdit → model.DocEdit
-element_edit_seen (SetHere node name value) = model.set node name value
-element_edit_seen (UnsetHere node name) = model.unset node name
-element_edit_seen (StateHere node state on) = model.set_state node (state_seen state) on
-
 abbrev pub edit_seen : Edit → model.Edit
-edit_seen (of_document edit) = model.of_document (element_edit_seen edit)
+edit_seen (of_document edit) = model.of_document (doc_edit_seen edit)
 
 -- the kind of a limit, as it is answered
 abbrev pub kind_answered : LimitKind → Kind

@@ -14,11 +14,11 @@ ghost use Rattle.edit_model.specs.Refusal.{accepted};
 ghost use Rattle.edit_model.specs.TouchedBy.{AreTouched};
 ghost use Rattle.edit_model.specs.TouchedPairs.{touched_pairs};
 ghost use Rattle.dom_edits.specs.AcceptedView.{accepted_seen};
-ghost use Rattle.dom_edits.specs.EditView.{doc_edit_seen, element_edit_seen, refusal_answered};
+ghost use Rattle.dom_edits.specs.EditView.{doc_edit_seen, refusal_answered};
 
 use crate::accepted::Accepted;
-use crate::edits::{DocEdit, ElementEdit};
-use crate::refusals::{judge, judge_in_place};
+use crate::edits::DocEdit;
+use crate::refusals::judge;
 use crate::subtrees::{insert, move_to, remove};
 use crate::touched::Touched;
 use crate::value_touches::{state_touches, value_touches};
@@ -39,25 +39,6 @@ pub fn apply(alloc: Global, doc: &mut Doc, edit: &DocEdit) -> Result<Touched, Ed
     ensures kept { OnErr result (doc.new ≡ doc.old) }
 {
     let accepted = judge(doc, edit)?;
-    let touched = make(alloc, doc, accepted)?;
-    Ok(touched)
-}
-
-/// The same of an edit of one element in place.
-pub fn apply_in_place(
-    alloc: Global,
-    doc: &mut Doc,
-    edit: &ElementEdit,
-) -> Result<Touched, EditRefused>
-    ensures ok { OnOk result (applied doc.old (element_edit_seen edit.now) ≡ accepted doc.new) }
-    ensures touched { IfOk result (λ touched. AreTouched doc.old.elements doc.new.elements touched) }
-    ensures elements { IfOk result (λ touched.
-        AllByRecursion (λ pair. IsElement doc.new.elements pair.1) touched) }
-    ensures refused { IfErr result (λ why. why
-        ≡ unwrap_or (option_map refusal_answered (model_refusal doc.old (element_edit_seen edit.now))) out_of_memory) }
-    ensures kept { OnErr result (doc.new ≡ doc.old) }
-{
-    let accepted = judge_in_place(doc, edit)?;
     let touched = make(alloc, doc, accepted)?;
     Ok(touched)
 }

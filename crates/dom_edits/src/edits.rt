@@ -92,20 +92,9 @@ pub enum NodeLimit {
     Value,
 }
 
-/// An edit of one element in place: of an attribute or of a state.
-#[derive(Drop)]
-pub enum ElementEdit {
-    /// Gives an attribute of an element a value.
-    Set { node: u64, name: Text, value: Text },
-    /// Takes an attribute of an element away. That it is absent is no fault.
-    Unset { node: u64, name: Text },
-    /// Puts an element into a state, or takes it out of it.
-    State { node: u64, state: State, on: bool },
-}
-
 /// An edit.
 #[derive(Drop)]
 pub enum Edit {
     /// Of the document.
-    Document(ElementEdit),
+    Document(DocEdit),
 }

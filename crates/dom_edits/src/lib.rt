@@ -13,9 +13,9 @@ mod value_touches;
 mod word;
 mod word_set;
 
-pub use applying::{apply, apply_in_place};
-pub use edits::{DocEdit, Edit, ElementEdit, NewNodes, NodeLimit};
-pub use refusals::{refusal, refusal_in_place};
+pub use applying::apply;
+pub use edits::{DocEdit, Edit, NewNodes, NodeLimit};
+pub use refusals::refusal;
 pub use touch::Touch;
 pub use touch_name::TouchName;
 pub use touched::Touched;

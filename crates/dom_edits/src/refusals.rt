@@ -8,11 +8,11 @@ ghost use Rattle.change_model.specs.Sound.{IsSound, is_below, without};
 ghost use Rattle.edit_model.specs.Apply.{limit_past, nodes_past as model_nodes_past, refusal as model_refusal};
 ghost use Rattle.edit_model.specs.Edit.{DocEdit as ModelEdit, IsShaped, insert, move, remove, set};
 ghost use Rattle.edit_model.specs.Refusal.{unknown_node};
-ghost use Rattle.dom_edits.specs.EditView.{Says, doc_edit_seen, element_edit_seen, nodes_seen, refusal_answered, refused_by};
+ghost use Rattle.dom_edits.specs.EditView.{Says, doc_edit_seen, nodes_seen, refusal_answered, refused_by};
 ghost use Rattle.dom_edits.specs.AcceptedView.{IsJudged, accepted_seen};
 
 use crate::accepted::Accepted;
-use crate::edits::{DocEdit, ElementEdit, NewNodes, NodeLimit};
+use crate::edits::{DocEdit, NewNodes, NodeLimit};
 use dom_tree::{Doc, NodeList};
 use stylo_base::limits::{ATTRIBUTE_LIMIT, DEPTH_LIMIT, ELEMENT_LIMIT, NUMBER_LIMIT, VALUE_LIMIT};
 use stylo_base::{EditRefused, Kind};
@@ -25,13 +25,6 @@ pub fn refusal(doc: &Doc, edit: &DocEdit) -> Option<EditRefused>
         → result ≡ option_map refusal_answered (model_refusal doc.now said) }
 {
     judge(doc, edit).err()
-}
-
-/// The same of an edit of one element in place.
-pub fn refusal_in_place(doc: &Doc, edit: &ElementEdit) -> Option<EditRefused>
-    ensures { result ≡ option_map refusal_answered (model_refusal doc.now (element_edit_seen edit.now)) }
-{
-    judge_in_place(doc, edit).err()
 }
 
 /// An edit with its numbers, where nothing refuses it, or else its refusal.
@@ -65,32 +58,6 @@ pub(crate) fn judge<'a>(doc: &Doc, edit: &'a DocEdit) -> Result<Accepted<'a>, Ed
             name: name.as_str(),
         }),
         DocEdit::State { node, state, on } => Ok(Accepted::State {
-            x: known(doc, *node)?,
-            state: *state,
-            on: *on,
-        }),
-    }
-}
-
-/// The same of an edit of one element in place.
-pub(crate) fn judge_in_place<'a>(
-    doc: &Doc,
-    edit: &'a ElementEdit,
-) -> Result<Accepted<'a>, EditRefused>
-    ensures judged { IsJudged doc.now (element_edit_seen edit.now) result }
-    ensures shaped { IfOk result (λ accepted. IsShaped (accepted_seen accepted)) }
-    ensures sound { IsSound doc.now }
-{
-    let _order = doc.in_tree_order();
-    match edit {
-        ElementEdit::Set { node, name, value } => {
-            judge_value(doc, *node, name.as_str(), value.as_str())
-        }
-        ElementEdit::Unset { node, name } => Ok(Accepted::Unset {
-            x: known(doc, *node)?,
-            name: name.as_str(),
-        }),
-        ElementEdit::State { node, state, on } => Ok(Accepted::State {
             x: known(doc, *node)?,
             state: *state,
             on: *on,

@@ -48,12 +48,6 @@ impl Dice {
         self.rng.next_u64().checked_rem(count).unwrap_or(0)
     }
 
-    /// A number from 0 to this one.
-    pub(crate) fn up_to(&mut self, last: u32) -> u32 {
-        let count = (last as u64).saturating_add(1);
-        u32::try_from(self.below(count)).unwrap_or(0)
-    }
-
     /// A number from 1 to this one.
     pub(crate) fn number(&mut self, last: u64) -> u64 {
         self.below(last).saturating_add(1)

@@ -14,8 +14,4 @@ mod growing;
 #[cfg(test)]
 mod marking;
 #[cfg(test)]
-mod plain;
-#[cfg(test)]
 mod scene;
-#[cfg(test)]
-mod shuffled;

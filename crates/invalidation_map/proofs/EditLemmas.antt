@@ -1,13 +1,10 @@
 -- What is known of an edit and of what it touches.
 use Rattle.std.proofs.Common.{◌≡◌, ℕ, ◌||◌, List, [], Option, Some, None, refl, ap, ◌∙◌, subst}
 use Rattle.std.specs.List.Sorted.{IsPermutation}
-use Rattle.stylo_base.specs.StateView.{state_seen}
 use Rattle.scene_model.specs.Document.{Document}
 use Rattle.scene_model.specs.Numbers.{is_in}
 use Rattle.selector_model.specs.Selector.{Selector}
 use Rattle.change_model.specs.Sound.{IsSound}
-use Rattle.change_model.proofs.Fresh.{AreFresh-changed_at}
-use Rattle.change_model.proofs.InPlace.{IsInPlace-attribute, IsInPlace-no_attribute, IsInPlace-state}
 use Rattle.edit_model.specs.Apply.{after, applied, refusal}
 use Rattle.edit_model.specs.Edit.{IsShaped}
 use Rattle.edit_model.specs.Marked.{is_marked}
@@ -17,9 +14,7 @@ use Rattle.edit_model.specs.Touched.{Touch}
 use Rattle.edit_model.specs.TouchedBy.{AreTouched}
 use Rattle.edit_model.proofs.Accepted.{tags-after}
 use Rattle.dom_edits.specs.declared.edits.DocEdit.{DocEdit}
-use Rattle.dom_edits.specs.declared.edits.ElementEdit.{ElementEdit}
-use Rattle.dom_edits.specs.declared.edits.ElementEdit.TheVariants as edits
-use Rattle.dom_edits.specs.EditView.{doc_edit_seen, element_edit_seen}
+use Rattle.dom_edits.specs.EditView.{doc_edit_seen}
 use Rattle.invalidation_map.specs.Members.{Members}
 use Rattle.invalidation_map.specs.Rows.{Row, rows_of}
 use Rattle.invalidation_map.specs.Marks.{AreMarked}
@@ -37,14 +32,6 @@ same_tags before now edit sound shaped h = by (refusal before (doc_edit_seen edi
     by None e k =
         subst (λ (d : Document). SameTags before.elements d.elements) (after_is None (after before (doc_edit_seen edit)) now k) (tags-after before sound (doc_edit_seen edit) shaped e)
     by (Some why) e k = absurd (cc)
-
-pub same_tags-in_place : (before now : Document) (edit : ElementEdit) → applied before (element_edit_seen edit) ≡ accepted now → SameTags before.elements now.elements
-same_tags-in_place before now (edits.Set node name value) h =
-    subst (λ (d : Document). SameTags before.elements d.elements) (after_is _ _ _ h) (AreFresh-changed_at node _ (IsInPlace-attribute name value) before.elements).tag
-same_tags-in_place before now (edits.Unset node name) h =
-    subst (λ (d : Document). SameTags before.elements d.elements) (after_is _ _ _ h) (AreFresh-changed_at node _ (IsInPlace-no_attribute name) before.elements).tag
-same_tags-in_place before now (edits.State node s on) h =
-    subst (λ (d : Document). SameTags before.elements d.elements) (after_is _ _ _ h) (AreFresh-changed_at node _ (IsInPlace-state (state_seen s) on) before.elements).tag
 
 -- so a set that was empty has what is marked
 pub marks_are : (before now : Document) (edit : DocEdit) (pairs : List (Touch × ℕ)) (rows : List Row) (selectors : List Selector) (old new : Members) (shown list : List ℕ) → IsSound before → IsShaped (doc_edit_seen edit) → applied before (doc_edit_seen edit) ≡ accepted now → AreTouched before.elements now.elements pairs → old.items ≡ [] → IsPermutation (rows_of selectors) rows → AreMarked now.elements pairs rows old new → shown ≡ new.items → list ≡ shown → (x : ℕ) → is_in x list ≡ is_marked before.elements now.elements selectors x

@@ -1,4 +1,5 @@
 pub mod SetLemmas
+pub mod RoomLemmas
 pub mod OnwardLemmas
 pub mod LeadLemmas
 pub mod StepLemmas
@@ -12,3 +13,4 @@ pub mod RowLemmas
 pub mod SharedLemmas
 pub mod StepEqLemmas
 pub mod EditLemmas
+pub mod BelowLemmas

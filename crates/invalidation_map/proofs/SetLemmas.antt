@@ -94,7 +94,7 @@ module _ (flags : List Bool) (list : List ℕ) (count x : ℕ) (are : AreFlags f
       ∙ (sym (cond-false (is_in x (take count list)) (shown flags list count) (members (take count list ++ x ∷ []) (length flags)) (sym (are.each x) ∙ unset))
       ∙ ap (λ n. added n x) e))
 
-none_there : (n k : ℕ) → get_or (replicate n false) k false ≡ false
+pub none_there : (n k : ℕ) → get_or (replicate n false) k false ≡ false
 none_there zero k = refl
 none_there (suc n) zero = refl
 none_there (suc n) (suc k) = none_there n k

@@ -1,6 +1,6 @@
 //! Sets of elements that take no memory once they are made.
 
-ghost use Rattle.std.specs.Prelude.{◌≡◌, ◌+◌, ◌<◌, ◌≤◌, ◌^◌, [], IfOk, OnSome, length, nat_eq, slice_get};
+ghost use Rattle.std.specs.Prelude.{◌≡◌, ◌+◌, ◌<◌, ◌==◌, ◌≤◌, ◌^◌, [], IfOk, OnErr, OnOk, OnSome, length, nat_eq, slice_get};
 ghost use Rattle.std.specs.List.{IsDistinct};
 ghost use Rattle.scene_model.specs.Numbers.{is_in};
 ghost use Rattle.invalidation_map.specs.Members.{AreAdded, AreBelow, AreUnset, added};
@@ -44,6 +44,39 @@ impl ElementSet {
             list: vec![in alloc; 0; room]?,
             count: 0,
         })
+    }
+
+    /// Makes room for the numbers up to `last`, where there is not yet. After an error the set is as it was.
+    pub fn grow(&mut self, last: u32) -> Result<(), NoMemory>
+        ensures room { OnOk result (last < self.new.room) }
+        ensures wider { self.old.room ≤ self.new.room }
+        ensures items { self.new.items ≡ self.old.items }
+        ensures kept { OnErr result (self.new ≡ self.old) }
+    {
+        let now = self.flags.len();
+        let room = last as usize + 1;
+        if room <= now {
+            return Ok(());
+        }
+        self.list.reserve(room - now)?;
+        self.flags.resize(room, false)?;
+        // There is room.
+        let _done = self.list.resize(room, 0);
+        Ok(())
+    }
+
+    /// The room: numbers below it can be added.
+    pub fn room(&self) -> usize
+        ensures { result ≡ self.now.room }
+    {
+        self.flags.len()
+    }
+
+    /// Whether no number is in the set.
+    pub fn is_empty(&self) -> bool
+        ensures { result ≡ (length self.now.items == 0) }
+    {
+        self.count == 0
     }
 
     /// Whether `x` is in the set.

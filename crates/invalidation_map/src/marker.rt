@@ -1,11 +1,12 @@
 //! Marks: the elements whose matching an edit may have changed.
 
-ghost use Rattle.std.specs.Prelude.{◌≡◌, ◌+◌, ◌&&◌, ◌||◌, ℕ, IfOk, false};
+ghost use Rattle.std.specs.Prelude.{◌≡◌, ◌+◌, ◌<◌, ◌≤◌, ◌&&◌, ◌||◌, ℕ, IfOk, OnErr, OnOk, false};
 ghost use Rattle.std.specs.List.{list_any};
 ghost use Rattle.std.specs.Option.{option_map_or};
 ghost use Rattle.scene_model.specs.Lookups.{IsElement};
 ghost use Rattle.scene_model.specs.Numbers.{is_in};
 ghost use Rattle.scene_model.specs.Valid.{IsValid};
+ghost use Rattle.change_model.specs.Sound.{is_below};
 ghost use Rattle.selector_model.specs.Bears.{bears as model_bears};
 ghost use Rattle.selector_types.specs.SimpleView.{key_seen};
 ghost use Rattle.edit_model.specs.TouchedBy.{is_listed};
@@ -23,6 +24,7 @@ use crate::paths::walk;
 use crate::rows::Dependencies;
 use crate::selector_key::SelectorKey;
 use crate::shared::{DependencyRow, Shared};
+use crate::steps::add_descendants;
 use dom_edits::{Touch, Touched};
 use dom_tree::Doc;
 use selector_types::Key;
@@ -58,6 +60,38 @@ impl Marker {
             from: ElementSet::new(alloc, last)?,
             next: ElementSet::new(alloc, last)?,
         })
+    }
+
+    /// Makes room for the numbers up to `last`, where there is not yet, and for more than these, so that few
+    /// calls take memory. After an error all is as it was.
+    pub fn grow(&mut self, alloc: Global, last: u32) -> Result<(), NoMemory>
+        ensures room { OnOk result (last < self.new) }
+        ensures wider { self.old ≤ self.new }
+        ensures kept { OnErr result (self.new ≡ self.old) }
+    {
+        if (last as usize) < self.from.room() {
+            return Ok(());
+        }
+        // What is in the sets is not asked between two calls.
+        let grown = Marker::new(alloc, last.saturating_add(last / 2))?;
+        *self = grown;
+        Ok(())
+    }
+
+    /// Adds an element and all below it to a set. It takes no memory.
+    pub fn add_below(&mut self, doc: &Doc, x: u32, into: &mut ElementSet)
+        requires element { IsElement doc.now.elements x }
+        requires room { HasRoom doc.now.elements self.old }
+        requires into { HasRoom doc.now.elements into.old.room }
+        ensures below { IsGrown (is_below doc.now.elements x) into.old into.new }
+        ensures room { self.new ≡ self.old }
+    {
+        // The order is not asked: the call tells that the document is valid.
+        let _order = doc.in_tree_order();
+        self.next.clear();
+        add_descendants(doc, &[x], &mut self.next);
+        into.add(x);
+        into.add_all(self.next.as_slice());
     }
 
     /// Adds the elements that an edit marked. It takes no memory, and looks at no document before the edit.

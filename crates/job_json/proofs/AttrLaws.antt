@@ -24,11 +24,11 @@ Pairs = List (Characters × Characters)
 abbrev pub map_of : Pairs → Attributes
 map_of ps = finmap.from_entries ps
 
-pairs_in-slots : (ms : Members) → pairs_in ms ≡ said_by (slots_of ms)
+pub pairs_in-slots : (ms : Members) → pairs_in ms ≡ said_by (slots_of ms)
 pairs_in-slots no_members = refl
 pairs_in-slots (member key value rest) = ap (λ c. at_member key (wanted (pair_from key (as_str value))) >>= (λ p. c >>= (λ ps. Ok (p ∷ ps)))) (pairs_in-slots rest)
 
-values_past-slots : (ms : Members) → values_past ms ≡ passed_by (slots_of ms)
+pub values_past-slots : (ms : Members) → values_past ms ≡ passed_by (slots_of ms)
 values_past-slots no_members = refl
 values_past-slots (member key value rest) = ap (option_or (value_past (as_str value))) (values_past-slots rest)
 

@@ -1,5 +1,6 @@
 -- What JSON values say, computed.
 use Rattle.std.specs.Prelude.{◌≡◌, ℕ, zero, suc, List, [], ◌∷◌, Bool, true, false, is_some, Option, Some, None, Ok, is_ok, pos, neg_ℤ, Float, replicate, codes}
+use Rattle.std.specs.FinMap as finmap
 use Rattle.std.specs.List.{list_all, list_any}
 use Rattle.std.specs.Result.{result_err}
 use Rattle.std.specs.Str.{chars}
@@ -8,13 +9,15 @@ use Rattle.std.proofs.Common.{refl}
 use Rattle.serde_json.specs.Data.{Data, null, boolean, number, string, array, object, unsigned, negative, float, Items, no_items, item, Members, no_members, member, put}
 use Rattle.base_model.specs.Ascii.{delete}
 use Rattle.scene_model.specs.Ancestors.{ancestors}
-use Rattle.scene_model.specs.Nodes.{scene_of, tree_order}
+use Rattle.scene_model.specs.Nodes.{Node, scene_of, tree_order}
+use Rattle.edit_model.proofs.LimitCases.{values-none}
 use Rattle.layer_order.specs.declared.origin.Origin.TheVariants.{UserAgent, User}
 use Rattle.layer_order.specs.declared.sheet_input.SheetInput.{SheetInput}
-use Rattle.job_json.specs.Words.{is_name}
+use Rattle.job_json.specs.Words.{is_name, no_states}
 use Rattle.stylo_base.specs.declared.refusal.Kind.TheVariants.{Attributes, Depth, Sheets, Batches}
 use Rattle.stylo_base.specs.declared.state.State.TheVariants.{Focus}
-use Rattle.dom_edits.specs.declared.edits.ElementEdit.TheVariants.{Set, Unset, State}
+use Rattle.dom_edits.specs.declared.edits.DocEdit.TheVariants.{Insert, Remove, Move, Set, Unset, State}
+use Rattle.dom_edits.specs.declared.edits.NewNodes.TheVariants.{Kept}
 use Rattle.dom_edits.specs.declared.edits.Edit.TheVariants.{Document}
 use Rattle.job_json.specs.Shape.{states_in, sheet_in, sheets_in}
 use Rattle.job_json.specs.Edits.{batches_in}
@@ -461,7 +464,7 @@ other_op : edit_bad_at (op (codes "Set") ∷ key (codes "node") null ∷ []) ≡
 unfolding chars digits
 other_op = refl
 
-later_op : edit_bad_at (op (codes "remove") ∷ of_node 2 ∷ []) ≡ at (codes "/batches/0/0/op")
+later_op : edit_bad_at (op (codes "remove_sheet") ∷ of_node 2 ∷ []) ≡ at (codes "/batches/0/0/op")
 unfolding chars digits
 later_op = refl
 
@@ -491,6 +494,73 @@ hover flag = obj (op (codes "state") ∷ of_node 1 ∷ state (text (codes "hover
 on_last : batches_bad_at (list (hover (boolean true) ∷ set_b ∷ hover (n 1) ∷ []) ∷ null ∷ []) ≡ at (codes "/batches/0/2/on")
 unfolding chars digits
 on_last = refl
+
+-- child lists
+
+abbrev below : ℕ → List ℕ × Data
+below k = parent (n k)
+
+abbrev index : ℕ → List ℕ × Data
+index k = key (codes "index") (n k)
+
+abbrev insert : List ℕ × Data
+insert = op (codes "insert")
+
+abbrev bare : Option ℕ → Node
+bare named = record { parent = named; tag = codes "p"; attrs = finmap.empty; states = no_states }
+
+abbrev insert_two : Data
+insert_two = obj (insert ∷ below 1 ∷ index 2 ∷ nodes (list (two (n 0))) ∷ [])
+
+inserted : batches_in (Some (list (list (insert_two ∷ []) ∷ []))) ≡ Ok ((Document (Insert 1 2 (Kept (bare None ∷ bare (Some 0) ∷ []))) ∷ []) ∷ [])
+unfolding chars
+inserted = rw (finmap.len-empty, values-none) refl
+
+-- what an edit does not have may hold anything
+abbrev remove_it : Data
+remove_it = obj (nodes (list []) ∷ parent null ∷ of_node 3 ∷ op (codes "remove") ∷ [])
+
+abbrev move_it : Data
+move_it = obj (index 4294967297 ∷ below 5 ∷ nodes null ∷ of_node 3 ∷ op (codes "move") ∷ [])
+
+child_lists_said : batches_in (Some (list (list (remove_it ∷ move_it ∷ []) ∷ []))) ≡ Ok ((Document (Remove 3) ∷ Document (Move 3 5 4294967297) ∷ []) ∷ [])
+child_lists_said = refl
+
+parent_before_index : edit_bad_at (insert ∷ parent null ∷ key (codes "index") null ∷ nodes null ∷ []) ≡ at (codes "/batches/0/0/parent")
+unfolding chars digits
+parent_before_index = refl
+
+index_before_nodes : edit_bad_at (insert ∷ below 1 ∷ key (codes "index") (text (codes "0")) ∷ nodes null ∷ []) ≡ at (codes "/batches/0/0/index")
+unfolding chars digits
+index_before_nodes = refl
+
+no_new_nodes : edit_bad_at (insert ∷ below 1 ∷ index 0 ∷ []) ≡ at (codes "/batches/0/0/nodes")
+unfolding chars digits
+no_new_nodes = refl
+
+empty_new_nodes : edit_bad_at (insert ∷ below 1 ∷ index 0 ∷ nodes (list []) ∷ []) ≡ at (codes "/batches/0/0/nodes")
+unfolding chars digits
+empty_new_nodes = refl
+
+second_new_node : edit_bad_at (insert ∷ below 1 ∷ index 0 ∷ nodes (list (two (n 1))) ∷ []) ≡ at (codes "/batches/0/0/nodes/1/parent")
+unfolding chars digits
+second_new_node = refl
+
+removed_node : edit_bad_at (op (codes "remove") ∷ key (codes "node") null ∷ []) ≡ at (codes "/batches/0/0/node")
+unfolding chars digits
+removed_node = refl
+
+moved_node_first : edit_bad_at (op (codes "move") ∷ parent null ∷ key (codes "index") null ∷ []) ≡ at (codes "/batches/0/0/node")
+unfolding chars digits
+moved_node_first = refl
+
+moved_parent_next : edit_bad_at (op (codes "move") ∷ of_node 2 ∷ key (codes "index") null ∷ []) ≡ at (codes "/batches/0/0/parent")
+unfolding chars digits
+moved_parent_next = refl
+
+moved_index_last : edit_bad_at (op (codes "move") ∷ of_node 2 ∷ below 1 ∷ []) ≡ at (codes "/batches/0/0/index")
+unfolding chars digits
+moved_index_last = refl
 
 -- one batch more than there may be, whatever is in them
 batches_over : (batch : List ℕ) → batches_past (replicate 10_001 batch) ≡ Some (Batches, 10_000)

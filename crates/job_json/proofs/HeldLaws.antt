@@ -57,7 +57,7 @@ parent_said k t p a s (Ok tag) (Some q) (Err path) states node e = absurd (cc)
 parent_said k t p a s (Ok tag) (Some q) (Ok attrs) (Err path) node e = absurd (cc)
 parent_said k t p a s (Ok tag) (Some q) (Ok attrs) (Ok states) node e = let same : record { parent = q; tag = tag; attrs = attrs; states = states } ≡ node = cc in ap (λ (n : Node). Some n.parent) same
 
-parent_of_node : (k : ℕ) (d : Data) (node : Node) → node_in k d ≡ Ok node → IsParentAt k node.parent
+pub parent_of_node : (k : ℕ) (d : Data) (node : Node) → node_in k d ≡ Ok node → IsParentAt k node.parent
 parent_of_node k null node e = absurd (cc)
 parent_of_node k (boolean b) node e = absurd (cc)
 parent_of_node k (number n) node e = absurd (cc)
@@ -69,7 +69,7 @@ parent_of_node k (object ms) node e =
     (parent_said k _ _ _ _ (name_in (get_member (codes "tag") ms)) (option_and_then (parent_at k) named)
     (attrs_in (get_member (codes "attrs") ms)) (states_in (get_member (codes "states") ms)) node e)
 
-first_and_rest : (k : ℕ) (first : Checked Node) (rest : Checked (List Node)) (list : List Node)
+pub first_and_rest : (k : ℕ) (first : Checked Node) (rest : Checked (List Node)) (list : List Node)
     → ((node : Node) → first ≡ Ok node → IsParentAt k node.parent) → ((nodes : List Node) → rest ≡ Ok nodes → HaveParentsFrom (k + 1) nodes)
     → (at_index k first >>= (λ n. rest >>= (λ ns. Ok (n ∷ ns)))) ≡ Ok list → HaveParentsFrom k list
 first_and_rest k (Err path) rest list one more e = absurd (cc)

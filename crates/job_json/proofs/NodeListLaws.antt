@@ -20,12 +20,12 @@ use Rattle.job_json.proofs.HeldLaws.{held_more, held_end}
 
 -- ---- a node after others
 
-record IsNode (c : Checked Node) (passed : Option Passed) (w : Within Node) : Type 0 where
-  node : Node
-  said : c ≡ Ok node
-  limits : w ≡ within passed node
+pub record IsNode (c : Checked Node) (passed : Option Passed) (w : Within Node) : Type 0 where
+  pub node : Node
+  pub said : c ≡ Ok node
+  pub limits : w ≡ within passed node
 
-of_read : (c : Checked Node) (passed : Option Passed) (w : Within Node) → (c >>= (λ node. Ok (within passed node))) ≡ Ok w → IsNode c passed w
+pub of_read : (c : Checked Node) (passed : Option Passed) (w : Within Node) → (c >>= (λ node. Ok (within passed node))) ≡ Ok w → IsNode c passed w
 of_read (Ok node) passed w e = record { node = node; said = refl; limits = cc }
 of_read (Err path) passed w e = absurd (cc)
 
@@ -66,7 +66,7 @@ finished nodes items = nodes >>= (λ list. Ok (within (nodes_passed items list) 
 abbrev of_items : Option Items → Checked (Within (List Node))
 of_items items = finished (wanted items >>= some_nodes) (items_or_none items)
 
-some_bad : (ds : List Data) (path : Characters) → items_in node_in 0 (items_of ds) ≡ Err path → some_nodes (items_of ds) ≡ Err path
+pub some_bad : (ds : List Data) (path : Characters) → items_in node_in 0 (items_of ds) ≡ Err path → some_nodes (items_of ds) ≡ Err path
 some_bad [] path e = absurd (cc)
 some_bad (d ∷ ds) path e = e
 

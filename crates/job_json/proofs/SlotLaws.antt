@@ -2,6 +2,7 @@
 use Rattle.std.proofs.Common.{◌≡◌, ℕ, ◌<◌, ◌≤◌, List, [], ◌∷◌, ◌++◌, length, map, Bool, true, false, ◌&&◌, cond, Ordering, Less, Equal, Greater, nat_cmp}
 use Rattle.std.proofs.Common.{is_eq, Option, Some, None, option_map, refl, sym, ap, ap₂, ◌∙◌, subst, true≢false, arith}
 use Rattle.std.specs.Prelude.{T}
+use Rattle.std.specs.List.{AllByRecursion}
 use Rattle.std.specs.Bool.{MatchBool}
 use Rattle.std.specs.Option.{option_or}
 use Rattle.std.specs.Ordering.{match_ordering, eq_by_cmp, is_lt}
@@ -19,7 +20,7 @@ use Rattle.base_model.proofs.Orderings.{is_equal}
 use Rattle.job_json.specs.declared.slots.Slot.{Slot}
 use Rattle.job_json.specs.declared.slots.Slots.{Slots}
 use Rattle.job_json.specs.Limits.{count_of}
-use Rattle.job_json.specs.Slots.{Pair, slot_pair, put_slot, slots_of, last_at}
+use Rattle.job_json.specs.Slots.{Pair, AreTexts, slot_pair, put_slot, slots_of, last_at}
 use Rattle.job_json.specs.Kept.{AreSlotsOf, AddsSlot}
 
 abbrev pub R : List ℕ → List ℕ → Ordering
@@ -123,14 +124,30 @@ last_is_found (pair ∷ pairs) h key =
     ap (λ o. option_or o (own key pair)) (last_is_found pairs parts.1 key)
     ∙ or_last (eq_by_cmp R key pair.0) pair.1 (find R key pairs) (λ e. ap (λ k. find R k pairs) (tied key pair.0 e) ∙ below_none pair.0 pairs parts.0)
 
+-- ---- texts
+
+all_texts_at : (o : Ordering) (k : List ℕ) (v : Value) (pair : Pair) (pairs more : List Pair) → AreTexts (k, v) → AllByRecursion AreTexts (pair ∷ pairs) → AllByRecursion AreTexts more
+    → AllByRecursion AreTexts (by_order o ((k, v) ∷ pair ∷ pairs) ((pair.0, v) ∷ pairs) (pair ∷ more))
+all_texts_at Less k v pair pairs more here all rest = (here, all)
+all_texts_at Equal k v pair pairs more here all rest = ((all.0.0, here.1), all.1)
+all_texts_at Greater k v pair pairs more here all rest = (all.0, rest)
+
+all_texts : (k : List ℕ) (v : Value) (pairs : List Pair) → AreTexts (k, v) → AllByRecursion AreTexts pairs → AllByRecursion AreTexts (put R k v pairs)
+all_texts k v [] here all = (here, tt)
+all_texts k v (pair ∷ pairs) here all = all_texts_at (R k pair.0) k v pair pairs (put R k v pairs) here all (all_texts k v pairs here all.1)
+
 -- ---- what is kept
 
-module _ (old new : Slots) (slot : Slot) (k : List ℕ) (d : Data) (ms : Members) (kept : AreSlotsOf old ms) (name : slot.name.now ≡ k) (value : option_map (λ t. t.now) slot.value ≡ as_str d) where
+module _ (old new : Slots) (slot : Slot) (k : List ℕ) (d : Data) (ms : Members) (kept : AreSlotsOf old ms) (name : slot.name.now ≡ k) (value : option_map (λ t. t.now) slot.value ≡ as_str d)
+    (texts : AreTexts (slot_pair slot)) where
   rise_now : T (is_sorted R (slots_of (json.put k d ms)))
   rise_now = subst (λ ps. T (is_sorted R ps)) (sym (slots_of-put k d ms)) (is_sorted-put R nat_list_cmp_total k (as_str d) (slots_of ms) kept.rise)
 
   pair_is : slot_pair slot ≡ (k, as_str d)
   pair_is = ap₂ (λ n v. (n, v)) name value
+
+  texts_now : AllByRecursion AreTexts (slots_of (json.put k d ms))
+  texts_now = subst (AllByRecursion AreTexts) (sym (slots_of-put k d ms)) (all_texts k (as_str d) (slots_of ms) (subst AreTexts pair_is texts) kept.texts)
 
   put_is : map slot_pair old.list.items ≡ slots_of ms → map slot_pair (put_slot slot old.list.items) ≡ slots_of (json.put k d ms)
   put_is listed = map-put_slot slot old.list.items ∙ (ap₂ (λ (p : Pair) ps. put R p.0 p.1 ps) pair_is listed ∙ sym (slots_of-put k d ms))
@@ -149,6 +166,7 @@ module _ (old new : Slots) (slot : Slot) (k : List ℕ) (d : Data) (ms : Members
       → ((key : List ℕ) → last_at key (map slot_pair old.list.items) ≡ find R key (slots_of ms)) → AreSlotsOf new (json.put k d ms)
   many_now items are count before = record {
     rise = rise_now;
+    texts = texts_now;
     few = λ e. absurd (true≢false (sym are ∙ e));
     many = λ e. (count, λ key. ap (λ l. last_at key (map slot_pair l)) items ∙ last_now before key);
   }
@@ -164,6 +182,7 @@ module _ (old new : Slots) (slot : Slot) (k : List ℕ) (d : Data) (ms : Members
       let listed = kept.few room in
       record {
         rise = rise_now;
+        texts = texts_now;
         few = λ e. (ap (map slot_pair) adds.0 ∙ put_is listed.0, adds.1 listed.1);
         many = λ e. absurd (true≢false (sym e ∙ are));
       }

@@ -6,14 +6,15 @@ use Rattle.serde_json.specs.Find.{as_str, as_bool}
 use Rattle.base_model.specs.State as model
 use Rattle.stylo_base.specs.declared.state.State.{State}
 use Rattle.stylo_base.specs.declared.state.State.TheVariants.{Hover, Active, Focus}
-use Rattle.dom_edits.specs.declared.edits.ElementEdit.TheVariants as doc
+use Rattle.dom_edits.specs.declared.edits.DocEdit.TheVariants as doc
 use Rattle.dom_edits.specs.declared.edits.Edit.{Edit}
 use Rattle.dom_edits.specs.declared.edits.Edit.TheVariants.{Document}
 use Rattle.job_json.specs.Checked.{Checked, ◌>>=◌, wanted, at_member}
 use Rattle.job_json.specs.Words.{whole, state_named}
 use Rattle.job_json.specs.Shape.{object_in, array_in, member_in, items_in, name_in, text_in}
+use Rattle.job_json.specs.NewNodes.{new_nodes_in}
 
--- the number of an element, there or not
+-- the number of an element or an index, there or not
 abbrev pub number_in : Option Data → Checked ℕ
 number_in value = wanted (option_and_then whole value)
 
@@ -33,6 +34,25 @@ on_in value = wanted (option_and_then as_bool value)
 
 abbrev pub word_in : Option Data → Checked (List ℕ)
 word_in value = wanted (option_and_then as_str value)
+
+abbrev pub insert_of : Members → Checked Edit
+insert_of members = do
+  parent ← member_in (codes "parent") number_in members
+  index ← member_in (codes "index") number_in members
+  nodes ← member_in (codes "nodes") new_nodes_in members
+  Ok (Document (doc.Insert parent index nodes))
+
+abbrev pub remove_of : Members → Checked Edit
+remove_of members = do
+  node ← member_in (codes "node") number_in members
+  Ok (Document (doc.Remove node))
+
+abbrev pub move_of : Members → Checked Edit
+move_of members = do
+  node ← member_in (codes "node") number_in members
+  parent ← member_in (codes "parent") number_in members
+  index ← member_in (codes "index") number_in members
+  Ok (Document (doc.Move node parent index))
 
 abbrev pub set_of : Members → Checked Edit
 set_of members = do
@@ -58,10 +78,13 @@ state_of members = do
 abbrev pub no_edit : Checked Edit
 no_edit = at_member (codes "op") (Err [])
 
--- the edit with this word and these members; child lists and sheets can't be edited yet
+-- the edit with this word and these members; sheets can't be edited yet
 abbrev pub edit_by : List ℕ → Members → Checked Edit
 edit_by word members =
-    if bytes_eq word (codes "set") then set_of members
+    if bytes_eq word (codes "insert") then insert_of members
+    else if bytes_eq word (codes "remove") then remove_of members
+    else if bytes_eq word (codes "move") then move_of members
+    else if bytes_eq word (codes "set") then set_of members
     else if bytes_eq word (codes "unset") then unset_of members
     else if bytes_eq word (codes "state") then state_of members
     else no_edit

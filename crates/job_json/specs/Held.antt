@@ -1,14 +1,18 @@
--- The nodes of a list as they are kept while it is read: as long as they pass no limit.
-use Rattle.std.specs.Prelude.{◌≡◌, ◌<◌, ◌≤◌, is_some, ℕ, ◌+◌, ◌-◌, ◌^◌, nat_lt, true, min, if◌then◌else◌, List, [], ◌∷◌, ◌++◌, length, get_or, Option, Some, None, Ok, Err}
+-- The nodes of a list as they are kept while it is read: as long as they pass no limit. Of an insertion only the limits
+-- that a node passes by itself count.
+use Rattle.std.specs.Prelude.{◌≡◌, ◌<◌, ◌≤◌, is_some, ℕ, ◌+◌, ◌-◌, ◌^◌, nat_lt, true, min, if◌then◌else◌, List, [], ◌∷◌, ◌++◌, length, get_or, Option, Some, None, option_map, Ok, Err}
 use Rattle.std.specs.Option.{option_or}
 use Rattle.serde_json.specs.Data.{Data}
 use Rattle.serde_json.specs.View.{items_of}
 use Rattle.base_model.specs.Limits.{element_limit, depth_limit}
 use Rattle.stylo_base.specs.declared.refusal.Kind.TheVariants.{Elements, Depth}
 use Rattle.scene_model.specs.Nodes.{Node}
+use Rattle.dom_edits.specs.declared.edits.NewNodes.{NewNodes}
+use Rattle.dom_edits.specs.declared.edits.NewNodes.TheVariants.{Kept, Past}
 use Rattle.job_json.specs.Checked.{Checked}
 use Rattle.dom_tree.specs.Depths.{depths_of}
 use Rattle.job_json.specs.Limits.{Passed, Within, within, past, nodes_past}
+use Rattle.job_json.specs.NewNodes.{passed_limit, past_by_itself}
 
 pub record Held : Type 0 where
   -- the limit that a node passes first
@@ -62,3 +66,28 @@ pub record IsHeld (ds : List Data) (list : List Node) (h : Held) : Type 0 where
       → (h.nodes ≡ list) × (h.passed ≡ None) × (nodes_past (items_of ds) (depths_of list) ≡ None)
   pub past_it : 0 < h.more → length list ≤ element_limit
       → (h.passed ≡ nodes_past (items_of ds) (depths_of list)) × (is_some h.passed ≡ true)
+
+-- The nodes of an insertion.
+
+-- one more node
+abbrev pub held_new : Held → Within Node → Held
+held_new h node = if nat_lt 0 h.more then record h { more = h.more + 1 } else held_with h node
+
+-- the whole list, which is not to be empty
+abbrev pub some_new : List Node → Checked NewNodes
+some_new [] = Err []
+some_new (node ∷ nodes) = Ok (Kept (node ∷ nodes))
+
+abbrev pub new_or : Option Passed → Held → Checked NewNodes
+new_or (Some passed) h = Ok (Past (passed_limit passed))
+new_or None h = some_new h.nodes
+
+abbrev pub new_at_end : Held → Checked NewNodes
+new_at_end h = new_or h.passed h
+
+-- This is kept of these nodes.
+pub record IsNewHeld (list : List Node) (h : Held) : Type 0 where
+  pub count : length list ≡ count_held h
+  pub kept : h.more ≡ 0 → (h.nodes ≡ list) × (h.passed ≡ None)
+  pub past : option_map passed_limit h.passed ≡ past_by_itself list
+  pub past_it : 0 < h.more → is_some h.passed ≡ true

@@ -1,7 +1,7 @@
 -- What is kept of a job's objects and arrays while they are read.
 use Rattle.std.specs.Prelude.{◌≡◌, ℕ, ◌+◌, ◌<◌, ◌≤◌, ◌++◌, List, [], ◌∷◌, length, T, true, false, not, ◌&&◌, ◌||◌, nat_lt, if◌then◌else◌, map, MatchBool}
 use Rattle.std.specs.Prelude.{Option, Some, None, option_map, option_and_then, Result, Ok, Err, codes}
-use Rattle.std.specs.List.{list_all}
+use Rattle.std.specs.List.{AllByRecursion, list_all}
 use Rattle.std.specs.Ordering.{nat_cmp}
 use Rattle.std.specs.Cmp.Lexicographic.{slice_cmp}
 use Rattle.std.specs.FinMap.{find, is_sorted}
@@ -23,7 +23,8 @@ use Rattle.job_json.specs.declared.attributes.AttrList.{AttrList}
 use Rattle.job_json.specs.declared.states.StateWords.{StateWords}
 use Rattle.job_json.specs.declared.node.JudgedNode.{JudgedNode}
 use Rattle.job_json.specs.declared.node.NodeParts.{NodeParts}
-use Rattle.job_json.specs.declared.node_list.KeptNodes.{KeptNodes}
+use Rattle.job_json.specs.declared.kept_nodes.KeptNodes.{KeptNodes}
+use Rattle.job_json.specs.declared.new_nodes.NewNodeItems.{NewNodeItems}
 use Rattle.job_json.specs.declared.node_list.Nodes.{Nodes}
 use Rattle.job_json.specs.declared.sheet.LentSheet.{LentSheet}
 use Rattle.job_json.specs.declared.sheet.SheetParts.{SheetParts}
@@ -37,8 +38,9 @@ use Rattle.job_json.specs.Words.{whole, name_of, all_states, is_one, origin_from
 use Rattle.job_json.specs.Shape.{items_in, state_in, states_in, node_in, sheet_in}
 use Rattle.job_json.specs.Limits.{Passed, Within, within, count_of, is_short_text}
 use Rattle.job_json.specs.Parts.{attrs_read, nodes_read, sheets_read, batches_read}
-use Rattle.job_json.specs.Held.{Held, IsHeld}
-use Rattle.job_json.specs.Slots.{Pair, slot_pair, put_slot, slots_of, said_by, passed_by, last_at}
+use Rattle.job_json.specs.NewNodes.{TellsLimits}
+use Rattle.job_json.specs.Held.{Held, IsHeld, IsNewHeld}
+use Rattle.job_json.specs.Slots.{Pair, AreTexts, slot_pair, put_slot, slots_of, said_by, passed_by, last_at}
 
 -- The items of a list as far as they are read: the first bad place, or as many as they are, and what else holds of
 -- them.
@@ -49,6 +51,7 @@ AreRead read (Some path) Holds ds = items_in read 0 (items_of ds) ≡ Err path
 -- the members of an object of attributes
 pub record AreSlotsOf (s : Slots) (ms : Members) : Type 0 where
   pub rise : T (is_sorted (slice_cmp nat_cmp) (slots_of ms))
+  pub texts : AllByRecursion AreTexts (slots_of ms)
   pub few : s.are_many ≡ false → (map slot_pair s.list.items ≡ slots_of ms) × (length s.list.items ≤ attribute_limit)
   pub many : s.are_many ≡ true → (attribute_limit < count_of ms)
       × ((key : List ℕ) → last_at key (map slot_pair s.list.items) ≡ find (slice_cmp nat_cmp) key (slots_of ms))
@@ -95,6 +98,7 @@ pub record IsNodeOf (s : NodeParts) (ms : Members) : Type 0 where
   pub tag : option_map (λ t. chars t.now) s.tag ≡ option_and_then name_of (get_member (codes "tag") ms)
   pub parent : s.parent ≡ named_parent (get_member (codes "parent") ms)
   pub attrs : attrs_kept s.attrs ≡ attrs_read (get_member (codes "attrs") ms)
+  pub limits : TellsLimits (get_member (codes "attrs") ms)
   pub states : map_ok states_of s.states ≡ states_in (get_member (codes "states") ms)
 
 -- the node at an index
@@ -130,6 +134,10 @@ held_of kept = record {
 -- the items of a list of nodes
 abbrev pub AreNodesOf : Nodes → List Data → Type 0
 AreNodesOf s ds = AreRead node_in s.bad (λ list. IsHeld ds list (held_of s.kept)) ds
+
+-- the items of a list of nodes of an insertion
+abbrev pub AreNewNodesOf : NewNodeItems → List Data → Type 0
+AreNewNodesOf s ds = AreRead node_in s.bad (λ list. IsNewHeld list (held_of s.kept)) ds
 
 abbrev pub sheet_seen : LentSheet → SheetInput
 sheet_seen sheet = record { origin = sheet.origin; enabled = sheet.enabled; text = chars sheet.text.now }

@@ -5,21 +5,25 @@ use Rattle.std.specs.Str.{chars, bytes_eq}
 use Rattle.serde_json.specs.Data.{Data, Members}
 use Rattle.serde_json.specs.Find.{get_member, as_str, as_bool}
 use Rattle.base_model.specs.Limits.{batch_limit}
-use Rattle.dom_edits.specs.declared.edits.ElementEdit.TheVariants as doc
+use Rattle.dom_edits.specs.declared.edits.DocEdit.TheVariants as doc
 use Rattle.dom_edits.specs.declared.edits.Edit.{Edit}
 use Rattle.dom_edits.specs.declared.edits.Edit.TheVariants.{Document}
 use Rattle.job_json.specs.declared.edit.EditParts.{EditParts}
 use Rattle.job_json.specs.declared.edit.LentEdit.{LentEdit}
-use Rattle.job_json.specs.declared.edit.LentEdit.TheVariants.{Set, Unset, State}
+use Rattle.job_json.specs.declared.edit.LentEdit.TheVariants.{Insert, Remove, Move, Set, Unset, State}
 use Rattle.job_json.specs.declared.edit_items.EditItems.{EditItems}
 use Rattle.job_json.specs.declared.batch_items.BatchItems.{BatchItems}
 use Rattle.job_json.specs.Checked.{Checked, ◌>>=◌, wanted, at_member}
 use Rattle.job_json.specs.Words.{whole, name_of}
+use Rattle.job_json.specs.NewNodes.{new_nodes_in}
 use Rattle.job_json.specs.Edits.{state_from, no_edit, edit_in, batch_in}
 use Rattle.job_json.specs.Kept.{AreRead}
 
 -- an edit whose texts stand in the input
 abbrev pub lent_seen : LentEdit → Edit
+lent_seen (Insert parent index nodes) = Document (doc.Insert parent index nodes)
+lent_seen (Remove node) = Document (doc.Remove node)
+lent_seen (Move node parent index) = Document (doc.Move node parent index)
 lent_seen (Set node name value) = Document (doc.Set node (chars name.now) (chars value.now))
 lent_seen (Unset node name) = Document (doc.Unset node (chars name.now))
 lent_seen (State node state on) = Document (doc.State node state on)
@@ -28,10 +32,32 @@ lent_seen (State node state on) = Document (doc.State node state on)
 pub record IsEditOf (s : EditParts) (ms : Members) : Type 0 where
   pub op : option_map (λ t. t.now) s.op ≡ option_and_then as_str (get_member (codes "op") ms)
   pub node : s.node ≡ option_and_then whole (get_member (codes "node") ms)
+  pub parent : s.parent ≡ option_and_then whole (get_member (codes "parent") ms)
+  pub index : s.index ≡ option_and_then whole (get_member (codes "index") ms)
+  pub nodes : s.nodes ≡ new_nodes_in (get_member (codes "nodes") ms)
   pub name : option_map (λ t. chars t.now) s.name ≡ option_and_then name_of (get_member (codes "name") ms)
   pub value : option_map (λ t. t.now) s.value ≡ option_and_then as_str (get_member (codes "value") ms)
   pub state : s.state ≡ state_from (get_member (codes "state") ms)
   pub on : s.on ≡ option_and_then as_bool (get_member (codes "on") ms)
+
+abbrev pub insert_kept : EditParts → Checked Edit
+insert_kept s = do
+  parent ← at_member (codes "parent") (wanted s.parent)
+  index ← at_member (codes "index") (wanted s.index)
+  nodes ← at_member (codes "nodes") s.nodes
+  Ok (Document (doc.Insert parent index nodes))
+
+abbrev pub remove_kept : EditParts → Checked Edit
+remove_kept s = do
+  node ← at_member (codes "node") (wanted s.node)
+  Ok (Document (doc.Remove node))
+
+abbrev pub move_kept : EditParts → Checked Edit
+move_kept s = do
+  node ← at_member (codes "node") (wanted s.node)
+  parent ← at_member (codes "parent") (wanted s.parent)
+  index ← at_member (codes "index") (wanted s.index)
+  Ok (Document (doc.Move node parent index))
 
 abbrev pub set_kept : EditParts → Checked Edit
 set_kept s = do
@@ -55,7 +81,10 @@ state_kept s = do
 
 abbrev pub kept_by : List ℕ → EditParts → Checked Edit
 kept_by word s =
-    if bytes_eq word (codes "set") then set_kept s
+    if bytes_eq word (codes "insert") then insert_kept s
+    else if bytes_eq word (codes "remove") then remove_kept s
+    else if bytes_eq word (codes "move") then move_kept s
+    else if bytes_eq word (codes "set") then set_kept s
     else if bytes_eq word (codes "unset") then unset_kept s
     else if bytes_eq word (codes "state") then state_kept s
     else no_edit

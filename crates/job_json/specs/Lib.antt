@@ -1,8 +1,9 @@
 pub mod Checked
 pub mod Words
 pub mod Shape
-pub mod Edits
 pub mod Limits
+pub mod NewNodes
+pub mod Edits
 pub mod JobOf
 pub mod Parts
 pub mod Held

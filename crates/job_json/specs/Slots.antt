@@ -1,9 +1,9 @@
 -- The members of the object of attributes, as they are kept until it ends.
-use Rattle.std.specs.Prelude.{ℕ, if◌then◌else◌, List, [], ◌∷◌, Bool, false, is_some, Option, Some, None, Ok, option_map}
+use Rattle.std.specs.Prelude.{ℕ, if◌then◌else◌, List, [], ◌∷◌, Bool, false, is_some, Option, Some, None, IfSome, Ok, option_map}
 use Rattle.std.specs.Option.{option_or}
 use Rattle.std.specs.Ordering.{nat_cmp, match_ordering, eq_by_cmp}
 use Rattle.std.specs.Cmp.Lexicographic.{slice_cmp}
-use Rattle.std.specs.Str.{bytes_eq}
+use Rattle.std.specs.Str.{bytes_eq, IsUtf8}
 use Rattle.serde_json.specs.Data.{Members, no_members, member}
 use Rattle.serde_json.specs.Find.{as_str}
 use Rattle.scene_model.specs.Element.{Characters}
@@ -18,6 +18,10 @@ Pair = List ℕ × Option (List ℕ)
 
 abbrev pub slot_pair : Slot → Pair
 slot_pair slot = (slot.name.now, option_map (λ t. t.now) slot.value)
+
+-- both are texts in UTF-8
+abbrev pub AreTexts : Pair → Type 0
+AreTexts pair = IsUtf8 pair.0 × IfSome pair.1 IsUtf8
 
 -- the slots, with one at its key
 abbrev pub put_slot : Slot → List Slot → List Slot

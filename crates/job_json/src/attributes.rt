@@ -1,12 +1,13 @@
 //! The attributes of a node.
 
-ghost use Rattle.std.specs.Prelude.{◌≡◌, ◌<◌, length, map, Some, Ok, IfOk, OnOk};
+ghost use Rattle.std.specs.Prelude.{◌≡◌, ◌<◌, length, map, Some, Ok, IfOk, IfSome, OnOk};
 ghost use Rattle.std.specs.Result.{result_map_both};
 ghost use Rattle.std.specs.FinMap as finmap;
 ghost use Rattle.serde_json.specs.Data.{Members, object};
 ghost use Rattle.json_reader.specs.Taken.{taken, Says};
 ghost use Rattle.dom_tree.specs.View.{attributes_of};
 ghost use Rattle.job_json.specs.Checked.{map_ok};
+ghost use Rattle.job_json.specs.NewNodes.{TellsLimits};
 ghost use Rattle.job_json.specs.Slots.{slot_pair};
 ghost use Rattle.job_json.specs.Parts.{attrs_read};
 ghost use Rattle.job_json.specs.Kept.{AreSlotsOf, attrs_kept, filled, slots_read};
@@ -75,6 +76,7 @@ impl<'a> AttrList<'a> {
     pub fn read(&mut self, reader: &mut Reader<'a>, depth: usize) -> Result<(), Stop>
         ensures ok { OnOk result (Says (λ d. attrs_read (Some d)) (attrs_kept self.new)
             (taken depth reader.old) reader.new) }
+        ensures limits { OnOk result (IfSome (taken depth reader.old) (λ read. TellsLimits (Some read.0))) }
         ensures shorter { OnOk result (length reader.new < length reader.old) }
         ensures err { result ≡ Err Stop.NotJson → taken depth reader.old ≡ None }
     {

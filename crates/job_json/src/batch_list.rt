@@ -14,9 +14,13 @@ pub struct BatchList {
 
 impl Model for BatchList {
     ghost use Rattle.std.specs.Prelude.{List, map};
+    ghost use Rattle.std.specs.Coded.{codes};
+    ghost use Rattle.scene_model.specs.Element.{attributes_code};
     ghost use Rattle.dom_edits.specs.declared.edits.Edit.{Edit};
 
     ghost Value = { List (List Edit) };
+
+    ghost coded = { Prim.hlevel (codes, attributes_code) };
 
     ghost view = { λ s. map (λ batch. batch.items) s.list.items };
 }

@@ -4,21 +4,35 @@ ghost use Rattle.std.specs.Prelude.{◌≡◌, ◌<◌, length, None, IfOk, OnOk
 ghost use Rattle.json_reader.specs.Taken.{taken, Says};
 ghost use Rattle.job_json.specs.Checked.{map_ok};
 ghost use Rattle.job_json.specs.Edits.{edit_in};
-ghost use Rattle.job_json.specs.KeptEdits.{lent_seen, set_kept, unset_kept, state_kept, edit_kept};
+ghost use Rattle.job_json.specs.KeptEdits.{lent_seen, insert_kept, remove_kept, move_kept, set_kept, unset_kept, state_kept, edit_kept};
 
 use crate::checked::Checked;
 use crate::name::name_in;
-use crate::pointer::to_member;
+use crate::new_nodes::take_new_nodes;
+use crate::pointer::{in_member, to_member};
 use crate::states::state_named;
-use dom_edits::{Edit, ElementEdit};
+use dom_edits::{DocEdit, Edit, NewNodes};
 use json::Reader;
 use json_reader::{KeepMembers, Stop, boolean, object, pass, text, whole};
 use std::alloc::Global;
 use stylo_base::{NoMemory, State, Text};
 
 /// An edit of the right shape, its texts still in the input.
-#[derive(Clone, Copy)]
+#[derive(Drop)]
 pub(crate) enum LentEdit<'a> {
+    Insert {
+        parent: u64,
+        index: u64,
+        nodes: NewNodes,
+    },
+    Remove {
+        node: u64,
+    },
+    Move {
+        node: u64,
+        parent: u64,
+        index: u64,
+    },
     Set {
         node: u64,
         name: &'a str,
@@ -41,16 +55,35 @@ impl<'a> LentEdit<'a> {
         ensures { IfOk result (λ edit. edit ≡ lent_seen self.entry) }
     {
         let edit = match self {
-            LentEdit::Set { node, name, value } => ElementEdit::Set {
+            LentEdit::Insert {
+                parent,
+                index,
+                nodes,
+            } => DocEdit::Insert {
+                parent,
+                index,
+                nodes,
+            },
+            LentEdit::Remove { node } => DocEdit::Remove { node },
+            LentEdit::Move {
+                node,
+                parent,
+                index,
+            } => DocEdit::Move {
+                node,
+                parent,
+                index,
+            },
+            LentEdit::Set { node, name, value } => DocEdit::Set {
                 node,
                 name: Text::of_str(alloc, name)?,
                 value: Text::of_str(alloc, value)?,
             },
-            LentEdit::Unset { node, name } => ElementEdit::Unset {
+            LentEdit::Unset { node, name } => DocEdit::Unset {
                 node,
                 name: Text::of_str(alloc, name)?,
             },
-            LentEdit::State { node, state, on } => ElementEdit::State { node, state, on },
+            LentEdit::State { node, state, on } => DocEdit::State { node, state, on },
         };
         Ok(Edit::Document(edit))
     }
@@ -59,8 +92,13 @@ impl<'a> LentEdit<'a> {
 /// What is kept of the members of an edit. None: it is not what it must be.
 #[derive(Drop)]
 struct EditParts<'a> {
+    alloc: Global,
     op: Option<&'a str>,
     node: Option<u64>,
+    parent: Option<u64>,
+    index: Option<u64>,
+    /// Or the first bad place.
+    nodes: Checked<NewNodes>,
     name: Option<&'a str>,
     value: Option<&'a str>,
     state: Option<State>,
@@ -76,6 +114,9 @@ impl<'a> KeepMembers<'a> for EditParts<'a> {
         match key {
             "op" => self.op = text(reader, depth)?,
             "node" => self.node = whole(reader, depth)?,
+            "parent" => self.parent = whole(reader, depth)?,
+            "index" => self.index = whole(reader, depth)?,
+            "nodes" => self.nodes = take_new_nodes(self.alloc, reader, depth)?,
             "name" => self.name = name_in(text(reader, depth)?),
             "value" => self.value = text(reader, depth)?,
             "state" => self.state = state_named(text(reader, depth)?),
@@ -98,8 +139,12 @@ pub(crate) fn take_edit<'a>(
     ensures err { result ≡ Err Stop.NotJson → taken depth reader.old ≡ None }
 {
     let mut parts = EditParts {
+        alloc,
         op: None,
         node: None,
+        parent: None,
+        index: None,
+        nodes: Err(Text::new(alloc)),
         name: None,
         value: None,
         state: None,
@@ -108,63 +153,120 @@ pub(crate) fn take_edit<'a>(
     if !object(reader, depth, &mut parts)? {
         return Ok(Err(Text::new(alloc)));
     }
-    Ok(parts.judge(alloc)?)
+    Ok(parts.judge()?)
 }
 
 impl<'a> EditParts<'a> {
     /// The edit of the members: its word first.
-    fn judge(&self, alloc: Global) -> Result<Checked<LentEdit<'a>>, NoMemory>
-        ensures { IfOk result (λ edit. map_ok lent_seen edit ≡ edit_kept self.now) }
+    fn judge(self) -> Result<Checked<LentEdit<'a>>, NoMemory>
+        ensures { IfOk result (λ edit. map_ok lent_seen edit ≡ edit_kept self.entry) }
     {
         let Some(word) = self.op else {
-            return Ok(Err(to_member(alloc, "op")?));
+            return Ok(Err(to_member(self.alloc, "op")?));
         };
         match word {
-            "set" => self.set(alloc),
-            "unset" => self.unset(alloc),
-            "state" => self.state(alloc),
-            _ => Ok(Err(to_member(alloc, "op")?)),
+            "insert" => self.insert(),
+            "remove" => self.remove(),
+            "move" => self.move_to(),
+            "set" => self.set(),
+            "unset" => self.unset(),
+            "state" => self.state(),
+            _ => Ok(Err(to_member(self.alloc, "op")?)),
         }
     }
 
-    fn set(&self, alloc: Global) -> Result<Checked<LentEdit<'a>>, NoMemory>
+    fn insert(self) -> Result<Checked<LentEdit<'a>>, NoMemory>
+        ensures { IfOk result (λ edit. map_ok lent_seen edit ≡ insert_kept self.entry) }
+    {
+        let EditParts {
+            alloc,
+            parent,
+            index,
+            nodes,
+            ..
+        } = self;
+        let Some(parent) = parent else {
+            return Ok(Err(to_member(alloc, "parent")?));
+        };
+        let Some(index) = index else {
+            return Ok(Err(to_member(alloc, "index")?));
+        };
+        match nodes {
+            Ok(nodes) => Ok(Ok(LentEdit::Insert {
+                parent,
+                index,
+                nodes,
+            })),
+            Err(path) => Ok(Err(in_member(alloc, "nodes", &path)?)),
+        }
+    }
+
+    fn remove(&self) -> Result<Checked<LentEdit<'a>>, NoMemory>
+        ensures { IfOk result (λ edit. map_ok lent_seen edit ≡ remove_kept self.now) }
+    {
+        let Some(node) = self.node else {
+            return Ok(Err(to_member(self.alloc, "node")?));
+        };
+        Ok(Ok(LentEdit::Remove { node }))
+    }
+
+    fn move_to(&self) -> Result<Checked<LentEdit<'a>>, NoMemory>
+        ensures { IfOk result (λ edit. map_ok lent_seen edit ≡ move_kept self.now) }
+    {
+        let Some(node) = self.node else {
+            return Ok(Err(to_member(self.alloc, "node")?));
+        };
+        let Some(parent) = self.parent else {
+            return Ok(Err(to_member(self.alloc, "parent")?));
+        };
+        let Some(index) = self.index else {
+            return Ok(Err(to_member(self.alloc, "index")?));
+        };
+        Ok(Ok(LentEdit::Move {
+            node,
+            parent,
+            index,
+        }))
+    }
+
+    fn set(&self) -> Result<Checked<LentEdit<'a>>, NoMemory>
         ensures { IfOk result (λ edit. map_ok lent_seen edit ≡ set_kept self.now) }
     {
         let Some(node) = self.node else {
-            return Ok(Err(to_member(alloc, "node")?));
+            return Ok(Err(to_member(self.alloc, "node")?));
         };
         let Some(name) = self.name else {
-            return Ok(Err(to_member(alloc, "name")?));
+            return Ok(Err(to_member(self.alloc, "name")?));
         };
         let Some(value) = self.value else {
-            return Ok(Err(to_member(alloc, "value")?));
+            return Ok(Err(to_member(self.alloc, "value")?));
         };
         Ok(Ok(LentEdit::Set { node, name, value }))
     }
 
-    fn unset(&self, alloc: Global) -> Result<Checked<LentEdit<'a>>, NoMemory>
+    fn unset(&self) -> Result<Checked<LentEdit<'a>>, NoMemory>
         ensures { IfOk result (λ edit. map_ok lent_seen edit ≡ unset_kept self.now) }
     {
         let Some(node) = self.node else {
-            return Ok(Err(to_member(alloc, "node")?));
+            return Ok(Err(to_member(self.alloc, "node")?));
         };
         let Some(name) = self.name else {
-            return Ok(Err(to_member(alloc, "name")?));
+            return Ok(Err(to_member(self.alloc, "name")?));
         };
         Ok(Ok(LentEdit::Unset { node, name }))
     }
 
-    fn state(&self, alloc: Global) -> Result<Checked<LentEdit<'a>>, NoMemory>
+    fn state(&self) -> Result<Checked<LentEdit<'a>>, NoMemory>
         ensures { IfOk result (λ edit. map_ok lent_seen edit ≡ state_kept self.now) }
     {
         let Some(node) = self.node else {
-            return Ok(Err(to_member(alloc, "node")?));
+            return Ok(Err(to_member(self.alloc, "node")?));
         };
         let Some(state) = self.state else {
-            return Ok(Err(to_member(alloc, "state")?));
+            return Ok(Err(to_member(self.alloc, "state")?));
         };
         let Some(on) = self.on else {
-            return Ok(Err(to_member(alloc, "on")?));
+            return Ok(Err(to_member(self.alloc, "on")?));
         };
         Ok(Ok(LentEdit::State { node, state, on }))
     }

@@ -1,11 +1,13 @@
 //! One node of the list.
 
-ghost use Rattle.std.specs.Prelude.{◌≡◌, ◌<◌, ℕ, length, Some, None, option_map, option_and_then, IfOk, OnOk};
+ghost use Rattle.std.specs.Prelude.{◌≡◌, ◌<◌, ℕ, length, Some, None, option_map, option_and_then, codes, IfOk, IfSome, OnOk};
 ghost use Rattle.scene_model.specs.Nodes.{IsParentAt};
 ghost use Rattle.serde_json.specs.Data.{Data, no_members};
+ghost use Rattle.serde_json.specs.Find.{get};
 ghost use Rattle.json_reader.specs.Taken.{taken};
 ghost use Rattle.job_json.specs.Checked.{map_ok};
 ghost use Rattle.job_json.specs.Words.{parent_at};
+ghost use Rattle.job_json.specs.NewNodes.{TellsLimits};
 ghost use Rattle.job_json.specs.Parts.{node_read};
 ghost use Rattle.job_json.specs.Kept.{IsNodeOf, judged_seen, read_kept};
 
@@ -80,6 +82,8 @@ impl<'a> NodeParts<'a> {
     pub fn read(&mut self, reader: &mut Reader<'a>, depth: usize) -> Result<(), Stop>
         ensures ok { OnOk result ((d : Data) × (taken depth reader.old ≡ Some (d, reader.new))
             × ((k : ℕ) → node_read k d ≡ read_kept k self.new)) }
+        ensures limits { OnOk result
+            (IfSome (taken depth reader.old) (λ read. TellsLimits (get (codes "attrs") read.0))) }
         ensures shorter { OnOk result (length reader.new < length reader.old) }
         ensures err { result ≡ Err Stop.NotJson → taken depth reader.old ≡ None }
     {

@@ -1,17 +1,16 @@
 //! The list of nodes.
 
-ghost use Rattle.std.specs.Prelude.{◌≡◌, ◌<◌, ◌++◌, ◌∷◌, [], length, Some, None, IfOk, OnOk};
+ghost use Rattle.std.specs.Prelude.{◌≡◌, ◌<◌, length, Some, None, IfOk, OnOk};
 ghost use Rattle.json_reader.specs.Taken.{taken, Says};
-ghost use Rattle.base_model.specs.Limits.{element_limit};
 ghost use Rattle.scene_model.specs.Nodes.{IsParentAt};
 ghost use Rattle.dom_tree.specs.Depths.{depths_of};
-ghost use Rattle.dom_tree.specs.View.{node_of};
 ghost use Rattle.job_json.specs.Parts.{nodes_read};
 ghost use Rattle.job_json.specs.Held.{count_held, held_next, held_at_end, depth_below, node_within};
-ghost use Rattle.job_json.specs.Kept.{judged_seen, nodes_or_none, HasNodes, held_of};
+ghost use Rattle.job_json.specs.Kept.{judged_seen, nodes_or_none, held_of};
 
 use crate::checked::{Checked, one_more};
-use crate::limits::{Passed, Within, past};
+use crate::kept_nodes::{KeptNodes, append};
+use crate::limits::{Within, past};
 use crate::node::{JudgedNode, NodeParts};
 use crate::pointer::in_item;
 use dom_tree::{NodeInput, NodeList};
@@ -31,17 +30,6 @@ struct Nodes<'a> {
     kept: KeptNodes,
     /// The node that is read.
     node: NodeParts<'a>,
-}
-
-/// The nodes of a list, as long as they pass no limit.
-#[derive(Drop)]
-struct KeptNodes {
-    /// The limit that a node passes first.
-    passed: Option<Passed>,
-    /// The nodes before that one, and before there are too many. None: there is none yet.
-    list: Option<NodeList>,
-    /// How many nodes come after these.
-    more: usize,
 }
 
 impl<'a> KeepItems<'a> for Nodes<'a> {
@@ -65,21 +53,6 @@ impl<'a> KeepItems<'a> for Nodes<'a> {
 }
 
 impl KeptNodes {
-    /// How many nodes there are.
-    fn count(&self) -> Result<usize, NoMemory>
-        ensures count { IfOk result (λ count. count ≡ count_held (held_of self.now)) }
-        ensures some { HasNodes self.now.list }
-    {
-        let kept = match &self.list {
-            Some(list) => list.len(),
-            None => 0,
-        };
-        match kept.checked_add(self.more) {
-            Some(count) => Ok(count),
-            None => Err(NoMemory),
-        }
-    }
-
     /// Counts one more node, the one at this index, and keeps it where no limit is passed.
     fn push(&mut self, alloc: Global, index: usize, node: JudgedNode<'_>) -> Result<(), NoMemory>
         requires index { index ≡ count_held (held_of self.old) }
@@ -147,37 +120,6 @@ fn within(input: Within<NodeInput<'_>>, depth: usize) -> Within<NodeInput<'_>>
         None => Ok(input),
         Some(passed) => Err(passed),
     }
-}
-
-/// Appends a node, as a child of the node at the index `parent`.
-fn append(
-    alloc: Global,
-    list: &mut Option<NodeList>,
-    parent: Option<usize>,
-    node: NodeInput<'_>,
-) -> Result<(), NoMemory>
-    requires few { length (nodes_or_none list.old) < element_limit }
-    requires parent { IsParentAt (length (nodes_or_none list.old)) parent }
-    ensures { OnOk result
-        (nodes_or_none list.new ≡ nodes_or_none list.old ++ node_of parent node.entry ∷ []) }
-{
-    match parent {
-        None => begin(alloc, list, node)?,
-        Some(parent) => {
-            if let Some(list) = list {
-                list.push(parent as u32, node)?;
-            }
-        }
-    }
-    Ok(())
-}
-
-/// Makes a list of the root alone.
-fn begin(alloc: Global, list: &mut Option<NodeList>, root: NodeInput<'_>) -> Result<(), NoMemory>
-    ensures { OnOk result (nodes_or_none list.new ≡ node_of None root.entry ∷ []) }
-{
-    *list = Some(NodeList::of_root(alloc, root)?);
-    Ok(())
 }
 
 /// Takes a list of nodes.

@@ -4,11 +4,12 @@ ghost use Rattle.std.specs.Prelude.{◌≡◌, ◌<◌, ◌≤◌, true, not, le
 ghost use Rattle.std.specs.Prelude.{set, insert};
 ghost use Rattle.std.specs.Ordering.{nat_cmp};
 ghost use Rattle.std.specs.Cmp.Lexicographic.{slice_cmp};
+ghost use Rattle.std.specs.Str.{IsUtf8};
 ghost use Rattle.serde_json.specs.Data.{Members, no_members};
 ghost use Rattle.dom_tree.specs.View.{pair_of};
 ghost use Rattle.job_json.specs.declared.slots.Slot.{Slot};
 ghost use Rattle.job_json.specs.Words.{pair_from};
-ghost use Rattle.job_json.specs.Slots.{put_slot, slot_pair, slots_of, begins_with, latest, first_bad_key};
+ghost use Rattle.job_json.specs.Slots.{AreTexts, put_slot, slot_pair, slots_of, begins_with, latest, first_bad_key};
 ghost use Rattle.job_json.specs.Kept.{AreSlotsOf, AddsSlot};
 
 use crate::name::is_name;
@@ -38,6 +39,24 @@ pub(crate) struct Slots<'a> {
 }
 
 impl<'a> Slot<'a> {
+    /// The member with a key and a value, which are both UTF-8.
+    fn of(name: &'a str, value: Option<&'a str>) -> Slot<'a>
+        ensures name { result.name.now ≡ name.now }
+        ensures value { option_map (λ t. t.now) result.value ≡ option_map (λ t. t.now) value.entry }
+        ensures texts { AreTexts (slot_pair result) }
+    {
+        match value {
+            Some(text) => Slot {
+                name: utf8(name),
+                value: Some(utf8(text)),
+            },
+            None => Slot {
+                name: utf8(name),
+                value: None,
+            },
+        }
+    }
+
     /// The attribute that the member is. None: its key is no name, or its value no text.
     pub fn attr(self) -> Option<Attr<'a>>
         ensures pair { option_map pair_of result
@@ -63,7 +82,7 @@ impl<'a> KeepMembers<'a> for Slots<'a> {
 
     fn member(&mut self, key: &'a str, reader: &mut Reader<'a>, depth: usize) -> Result<(), Stop> {
         let value = text(reader, depth)?;
-        self.add(Slot { name: key, value })?;
+        self.add(Slot::of(key, value))?;
         Ok(())
     }
 }
@@ -136,6 +155,14 @@ impl<'a> Slots<'a> {
         )?;
         Ok(())
     }
+}
+
+/// The same text. The call tells that it is UTF-8.
+fn utf8(text: &str) -> &str
+    ensures same { result.now ≡ text.now }
+    ensures utf8 { IsUtf8 result.now }
+{
+    text
 }
 
 /// Inserts a member at a place, which most often is the end.

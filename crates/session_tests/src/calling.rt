@@ -1,6 +1,6 @@
 //! The caller of docs/CALLING.md that keeps a session.
 
-use dom_edits::{Edit, ElementEdit};
+use dom_edits::{DocEdit, Edit};
 use dom_tree::{NodeInput, NodeList, States};
 use io_edges::OpenGate;
 use layer_order::Origin;
@@ -42,7 +42,7 @@ fn start(alloc: Global, sheet: &str) -> Result<Session, NoMemory> {
 fn class_edit(alloc: Global, node: u64, class: &str) -> Result<Edit, NoMemory> {
     let name = Text::of_str(alloc, "class")?;
     let value = Text::of_str(alloc, class)?;
-    Ok(Edit::Document(ElementEdit::Set { node, name, value }))
+    Ok(Edit::Document(DocEdit::Set { node, name, value }))
 }
 
 /// Gives an element a class.

@@ -4,7 +4,7 @@ use crate::scripts::first_wrong;
 use std::test::Fail;
 
 /// Scripts, each with what it is about.
-const SCRIPTS: [(&str, &str); 10] = [
+const SCRIPTS: [(&str, &str); 16] = [
     (
         "no rule speaks of the class",
         "1 html; 2 p in 1
@@ -71,7 +71,7 @@ restyle 1 1
 style 2
 style 3 color: #ff0000
 on 2 hover
-refused 7 k x
+refused set 7 k x
 restyle 0 0
 style 3 color: #ff0000",
     ),
@@ -139,6 +139,112 @@ style 1 display: block; font-size: 30px
 style 2 font-size: 10px
 style 3 font-size: 10px",
     ),
+    (
+        "places of siblings, where one comes",
+        "1 html; 2 p in 1; 3 p in 1; 4 p in 1
+:nth-last-child(2n+1){width:1px} :first-child{height:2px}
+restyle 4 4
+style 1 display: block; width: 1px; height: 2px
+style 2 width: 1px; height: 2px
+style 3
+style 4 width: 1px
+insert 1 0 q
+style 5 stale
+style 1 display: block; width: 1px; height: 2px
+restyle 4 4
+style 5 height: 2px
+style 2 width: 1px
+style 3
+style 4 width: 1px",
+    ),
+    (
+        "one comes and one goes in a batch",
+        "1 html; 2 p in 1 class=a; 3 i in 1 class=b
+.a + .b{color:red}
+restyle 3 3
+style 3 color: #ff0000
+unset 2 class
+insert 1 1 z
+remove 2
+style 2 no node
+restyle 2 2
+style 4
+style 3",
+    ),
+    (
+        "bad places and an unknown node",
+        "1 html; 2 p in 1; 3 i in 2
+
+restyle 3 3
+refused move 2 3 0
+refused insert 1 2 b
+refused remove 99
+refused remove 1
+refused move 1 2 0
+restyle 0 0
+style 3",
+    ),
+    (
+        "a move among siblings, and the same again",
+        "1 html; 2 p in 1 class=a; 3 i in 1; 4 b in 1
+.a + i{color:red} b{clear:both}
+restyle 4 4
+style 3 color: #ff0000
+move 4 1 1
+restyle 2 2
+style 2
+style 4 clear: both
+style 3
+move 4 1 1
+restyle 0 0",
+    ),
+    (
+        "moves, an insertion and its removal, and what is below them",
+        "1 html; 2 p in 1; 3 i in 2; 4 p in 1; 5 i in 4
+p + p{font-size:20px} i{width:1em} p:only-child i{clear:both}
+restyle 5 5
+move 2 1 1
+style 5 stale
+restyle 4 4
+style 3 width: 20px; font-size: 20px
+style 5 width: 16px
+insert 1 1 b
+remove 6
+restyle 4 4
+style 3 width: 20px; font-size: 20px
+insert 1 0 b
+move 7 2 0
+restyle 5 5
+remove 4
+set 3 style color:red
+restyle 2 3
+style 3 color: #ff0000; clear: both; width: 16px
+style 4 no node
+move 3 7 0
+move 3 2 1
+restyle 1 1
+style 3 color: #ff0000; clear: both; width: 16px",
+    ),
+    (
+        "an element that becomes empty, and one that was marked and goes",
+        "1 html; 2 p in 1; 3 i in 2; 4 b in 1
+html > :last-child i{color:red} b:empty{clear:both}
+restyle 4 4
+style 4 clear: both
+move 2 4 0
+restyle 3 3
+style 4
+style 3 color: #ff0000
+move 3 1 0
+insert 3 0 i
+restyle 2 2
+remove 4
+restyle 1 1
+style 5 color: #ff0000
+remove 3
+restyle 0 0
+style 5 no node",
+    ),
 ];
 
 #[test]
@@ -166,10 +272,16 @@ style 2 width: 1px
 style 3
 style 4
 set 1 style font-size:20px
-refused 9 k v
+refused set 9 k v
 restyle 1 4
 style 2 width: 1px; font-size: 20px
-style 4 font-size: 20px";
+style 4 font-size: 20px
+insert 2 0 i
+move 3 1 0
+remove 4
+restyle 2 2
+style 5 font-size: 20px
+style 4 no node";
 
 /// `rt try --test --fail-alloc N` has one allocation fail: what is tried again then is right.
 #[test]

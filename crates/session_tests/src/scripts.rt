@@ -2,14 +2,15 @@
 //! comes of it:
 //!
 //! - `set 2 class a` and `unset 2 class`, edits of an attribute; `on 2 hover` and `off 2 hover`, edits of that state;
-//! - `refused 7 k v`, the same as `set`, where it is refused;
+//! - `insert 1 0 q`, an insertion in 1 at 0 of one node; `remove 2`; `move 2 1 0`, a move of 2 into 1 at 0;
+//! - `refused set 7 k v`, an edit that is refused;
 //! - `restyle 1 2`, a restyle that matches one element and cascades two;
 //! - `style 2 TEXT`, the printed properties of an element's style, or `stale`, or `no node`.
 //!
 //! Each function owns one value at most when it returns: what is let go at each way out of it is proved there.
 
 use crate::counting::CountingGate;
-use dom_edits::{Edit, ElementEdit};
+use dom_edits::{DocEdit, Edit, NewNodes};
 use dom_tree::{Attr, NodeInput, NodeList, States};
 use layer_order::Origin;
 use sheet_set::SheetInput;
@@ -222,14 +223,19 @@ fn told(answer: StyleAnswer<'_>) -> &str {
 }
 
 /// Makes the edit of a line: its first word, and what comes after it. The answer is whether it is refused where the
-/// word says so.
+/// word says so. `refused` comes before the edit then.
 fn is_edited(
     alloc: Global,
     session: &mut Session,
     word: &str,
     text: &str,
 ) -> Result<bool, NoMemory> {
-    let edit = edit_of(alloc, word, text)?;
+    let (first, rest) = cut(text, ' ');
+    let edit = if word == "refused" {
+        edit_of(alloc, first, rest)?
+    } else {
+        edit_of(alloc, word, text)?
+    };
     is_refused(session.edit(alloc, &edit), word == "refused")
 }
 
@@ -244,10 +250,50 @@ fn is_refused(answer: Result<(), EditRefused>, wanted: bool) -> Result<bool, NoM
 
 /// The edit of a line: its first word, and what comes after it.
 fn edit_of(alloc: Global, word: &str, text: &str) -> Result<Edit, NoMemory> {
+    match word {
+        "insert" => insert_of(alloc, text),
+        "remove" => Ok(Edit::Document(DocEdit::Remove { node: number(text) })),
+        "move" => Ok(move_of(text)),
+        _ => element_edit_of(alloc, word, text),
+    }
+}
+
+/// An insertion of one node.
+fn insert_of(alloc: Global, text: &str) -> Result<Edit, NoMemory> {
+    let (parent, rest) = cut(text, ' ');
+    let (index, tag) = cut(rest, ' ');
+    let nodes = NodeList::of_root(
+        alloc,
+        NodeInput {
+            tag,
+            attrs: &[],
+            states: States::default(),
+        },
+    )?;
+    Ok(Edit::Document(DocEdit::Insert {
+        parent: number(parent),
+        index: number(index),
+        nodes: NewNodes::Kept(nodes),
+    }))
+}
+
+/// A move: what, into what, and at which index.
+fn move_of(text: &str) -> Edit {
+    let (node, rest) = cut(text, ' ');
+    let (parent, index) = cut(rest, ' ');
+    Edit::Document(DocEdit::Move {
+        node: number(node),
+        parent: number(parent),
+        index: number(index),
+    })
+}
+
+/// An edit of one element in place.
+fn element_edit_of(alloc: Global, word: &str, text: &str) -> Result<Edit, NoMemory> {
     let (node, text) = cut(text, ' ');
     let node = number(node);
     if word == "on" || word == "off" {
-        return Ok(Edit::Document(ElementEdit::State {
+        return Ok(Edit::Document(DocEdit::State {
             node,
             state: State::Hover,
             on: word == "on",
@@ -264,14 +310,14 @@ fn edit_of(alloc: Global, word: &str, text: &str) -> Result<Edit, NoMemory> {
 /// An edit that takes an attribute away.
 fn unset_of(alloc: Global, node: u64, name: &str) -> Result<Edit, NoMemory> {
     let name = Text::of_str(alloc, name)?;
-    Ok(Edit::Document(ElementEdit::Unset { node, name }))
+    Ok(Edit::Document(DocEdit::Unset { node, name }))
 }
 
 /// An edit that gives an attribute a value.
 fn set_of(alloc: Global, node: u64, name: &str, value: &str) -> Result<Edit, NoMemory> {
     let name = Text::of_str(alloc, name)?;
     let value = Text::of_str(alloc, value)?;
-    Ok(Edit::Document(ElementEdit::Set { node, name, value }))
+    Ok(Edit::Document(DocEdit::Set { node, name, value }))
 }
 
 /// What comes in a text before the first of a character, and what comes after it.

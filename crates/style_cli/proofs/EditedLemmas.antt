@@ -3,29 +3,15 @@ use Rattle.std.proofs.Common.{◌≡◌, ◌≢◌, ℕ, ◌+◌, List, [], ◌�
 use Rattle.std.specs.List.{AllByRecursion}
 use Rattle.std.proofs.lemmas.List.{length-map}
 use Rattle.stylo_base.specs.declared.refusal.EditRefused.TheVariants.{NoMemory}
-use Rattle.edit_model.specs.Edit.{IsShapedEdit}
 use Rattle.edit_model.specs.Refusal.{Refusal, unknown_node, unknown_sheet, bad_place, limit}
 use Rattle.session_model.specs.Standing.{Standing}
 use Rattle.session_model.specs.Batches as model
 use Rattle.session_model.specs.Batches.{accepted_among, edited_all, onto_refused, refused_from}
 use Rattle.session_model.proofs.BatchLemmas.{accepted-refused}
-use Rattle.dom_edits.specs.declared.edits.ElementEdit.TheVariants.{Set, Unset, State}
 use Rattle.dom_edits.specs.declared.edits.Edit.{Edit}
-use Rattle.dom_edits.specs.declared.edits.Edit.TheVariants.{Document}
 use Rattle.dom_edits.specs.EditView.{edit_seen, refusal_answered}
 use Rattle.style_cli.specs.Printing.{AreRefused, answered, edits_seen}
 use Rattle.style_cli.specs.declared.batch.RefusedEdit.{RefusedEdit}
-
--- the edits of a batch have a shape
-
-shaped : (edit : Edit) → IsShapedEdit (edit_seen edit)
-shaped (Document (Set node name value)) = tt
-shaped (Document (Unset node name)) = tt
-shaped (Document (State node state on)) = tt
-
-pub all_shaped : (edits : List Edit) → AllByRecursion IsShapedEdit (edits_seen edits)
-all_shaped [] = tt
-all_shaped (edit ∷ edits) = (shaped edit, all_shaped edits)
 
 -- how many are accepted
 pub counted : (st : Standing) (edits : List Edit) (list : List RefusedEdit) → list ≡ map answered (refused_from 1 st (edits_seen edits)) → accepted_among st (edits_seen edits) + length list ≡ length edits

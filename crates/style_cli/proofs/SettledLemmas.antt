@@ -10,20 +10,17 @@ use Rattle.session_model.proofs.ListedLemmas.{listed-styles}
 use Rattle.style_session.specs.Answers.{IsAnswer}
 use Rattle.style_session.specs.declared.answer.StyleAnswer.{StyleAnswer}
 use Rattle.style_session.specs.declared.answer.StyleAnswer.TheVariants.{NoNode, Stale}
+use Rattle.style_session.proofs.SessionParts.{none-pass}
 use Rattle.style_cli.specs.Printing.{IsSettled}
 
 not_matched : (st : Standing) → IsSettled st → (x : ℕ) → is_matched st x ≡ false
 not_matched st settled x =
     ap (λ l. is_in x l || is_in x st.fresh) settled.marked ∙ ap (λ l. is_in x [] || is_in x l) settled.fresh
 
-none_of : (p : ℕ → Bool) → ((x : ℕ) → p x ≡ false) → (xs : List ℕ) → list_any p xs ≡ false
-none_of p none [] = refl
-none_of p none (x ∷ xs) = ap (λ b. b || list_any p xs) (none x) ∙ none_of p none xs
-
 pub not_open : (st : Standing) → IsSettled st → (x : ℕ) → is_open st x ≡ false
 not_open st settled x =
     ap (λ b. b || list_any (is_matched st) (ancestors (elements_of st.scene) x)) (not_matched st settled x)
-    ∙ none_of (is_matched st) (not_matched st settled) (ancestors (elements_of st.scene) x)
+    ∙ none-pass (is_matched st) (not_matched st settled) (ancestors (elements_of st.scene) x)
 
 -- each element keeps the style that it has
 pub kept-settled : (st : Standing) → IsSettled st → IsSound st.scene.document → (x : ℕ) → IsElement (elements_of st.scene) x → kept_at st x ≡ Some (style_in st.scene x)

@@ -1,6 +1,8 @@
 //! A batch of edits: what becomes of them, and the restyle behind them.
 
 ghost use Rattle.std.specs.Prelude.{◌≡◌, ◌++◌, [], IfOk, OnOk, map};
+ghost use Rattle.std.specs.List.{AllByRecursion};
+ghost use Rattle.edit_model.specs.Edit.{IsShapedEdit};
 ghost use Rattle.dom_edits.specs.EditView.{edit_seen};
 ghost use Rattle.session_model.specs.Standing.{edited, restyled, scene_applied};
 ghost use Rattle.session_model.specs.Batches.{accepted_among, edited_all, onto_refused, refused_from};
@@ -55,6 +57,7 @@ pub(crate) fn make_batch<R: Threads + Sync>(
         made.refused.items ≡ map answered (refused_from 1 session.old (edits_seen edits.now))) }
     ensures counts { IfOk result (λ made.
         made.counts ≡ counts_of (edited_all session.old (edits_seen edits.now))) }
+    ensures shaped { OnOk result (AllByRecursion IsShapedEdit (edits_seen edits.now)) }
 {
     let refused = edit_all(alloc, session, edits)?;
     let counts = restyle(rt, alloc, session)?;
@@ -75,6 +78,7 @@ fn edit_all(
     ensures session { OnOk result (session.new ≡ edited_all session.old (edits_seen edits.now)) }
     ensures refused { IfOk result (λ list.
         list.items ≡ map answered (refused_from 1 session.old (edits_seen edits.now))) }
+    ensures shaped { OnOk result (AllByRecursion IsShapedEdit (edits_seen edits.now)) }
 {
     let mut refused = Vec::new(alloc);
     for index in 0..edits.len() {
@@ -100,7 +104,10 @@ fn edit_one(
     ensures session { OnOk result (session.new ≡ edited session.old (edit_seen edit.now)) }
     ensures refused { OnOk result (refused.new.items ≡ refused.old.items
         ++ map answered (onto_refused place (scene_applied session.old.scene (edit_seen edit.now)) [])) }
+    ensures shaped { IsShapedEdit (edit_seen edit.now) }
 {
+    // The count is not asked: the call tells that new nodes are a list.
+    let _count = new_count(edit);
     match session.edit(alloc, edit) {
         Ok(()) => Ok(()),
         Err(EditRefused::NoMemory) => Err(NoMemory),
@@ -108,6 +115,15 @@ fn edit_one(
             refused.push(RefusedEdit { place, why })?;
             Ok(())
         }
+    }
+}
+
+/// How many nodes an edit puts in. Those that are not kept don't count.
+fn new_count(edit: &Edit) -> usize
+    ensures { IsShapedEdit (edit_seen edit.now) }
+{
+    match edit {
+        Edit::Document(edit) => edit.new_count(),
     }
 }
 

@@ -39,6 +39,7 @@ pub(crate) fn print_elements<K: Sink>(
     ensures serves { OnOk result (Serves session.now lines.new) }
     ensures cause { HasCause (K.faults sink.old) (K.faults sink.new) (IsErrOf result SinkRefused.Failed) }
 {
+    lines.count_anew();
     let mut line = Text::new(alloc);
     let mut rest = session.doc().in_tree_order();
     // The proof calls the loop by this label.
@@ -75,7 +76,9 @@ fn print_some<K: Sink>(
 {
     let (count, kept) = lines.run(numbers);
     if count > 0 {
+        let bytes = kept.len();
         write_all(sink, kept)?;
+        lines.count(bytes);
         return Ok(count);
     }
     print_element(session, numbers[0], line, lines, keeps, sink)?;

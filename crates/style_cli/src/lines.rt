@@ -30,8 +30,9 @@ pub(crate) struct Lines {
     bytes: Vec<u8>,
     /// By number.
     places: Vec<Place>,
-    /// How many of the bytes are of lines that were forgotten.
-    dead: usize,
+    /// How many of the bytes are in use: of lines that were written or kept since the count began. The others
+    /// are of lines that were forgotten, and of elements that were removed.
+    used: usize,
 }
 
 impl Model for Lines {
@@ -53,7 +54,7 @@ impl Lines {
         Lines {
             bytes: Vec::new(alloc),
             places: Vec::new(alloc),
-            dead: 0,
+            used: 0,
         }
     }
 
@@ -64,6 +65,20 @@ impl Lines {
         ensures lines { kept_run self.now (take result.0 numbers.now) ≡ Some result.1.now }
     {
         run_among(&self.bytes, &self.places, numbers)
+    }
+
+    /// Counts anew how many bytes are in use. From now on whoever writes kept lines tells of their bytes.
+    pub fn count_anew(&mut self)
+        ensures { self.new ≡ self.old }
+    {
+        self.used = 0;
+    }
+
+    /// Counts so many bytes more as in use: those of kept lines that were written.
+    pub fn count(&mut self, bytes: usize)
+        ensures { self.new ≡ self.old }
+    {
+        self.used = self.used.saturating_add(bytes);
     }
 
     /// Keeps the line of an element, in the place of the one that is kept, unless it is a long one.
@@ -105,11 +120,12 @@ impl Lines {
         self.bytes.extend_from_slice(line)?;
         let len = line.len() as u32;
         self.places[number as usize] = Place { start, len };
+        self.used = self.used.saturating_add(line.len());
         Ok(())
     }
 
-    /// Forgets the lines of these elements. Where then more bytes are of forgotten lines than of others,
-    /// and so many that it pays to go over all places, all lines are forgotten.
+    /// Forgets the lines of these elements. Where then more bytes are dead than in use, and so many that it
+    /// pays to go over all places, all lines are forgotten.
     pub fn forget(&mut self, numbers: &[u32])
         ensures gone { (x : ℕ) → is_in x numbers.now ≡ true → kept_line self.new x ≡ None }
         ensures left { (x : ℕ) → IfSome (kept_line self.new x) (λ line. kept_line self.old x ≡ Some line) }
@@ -117,7 +133,8 @@ impl Lines {
         for number in numbers {
             self.forget_one(*number);
         }
-        if self.dead > self.bytes.len() / 2 && self.dead > self.places.len() {
+        let dead = self.bytes.len().saturating_sub(self.used);
+        if dead > self.used && dead > self.places.len() {
             self.forget_all();
         }
     }
@@ -128,7 +145,7 @@ impl Lines {
     {
         let at = number as usize;
         if at < self.places.len() {
-            self.dead = self.dead.saturating_add(self.places[at].len as usize);
+            self.used = self.used.saturating_sub(self.places[at].len as usize);
             self.places[at] = NO_PLACE;
         }
     }
@@ -139,7 +156,7 @@ impl Lines {
     {
         self.places.clear();
         self.bytes.clear();
-        self.dead = 0;
+        self.used = 0;
     }
 }
 

@@ -2,7 +2,9 @@
 
 ghost use Rattle.std.specs.Prelude.{◌≡◌, ◌≤◌, ◌∷◌, [], IfOk, IsErrOf, OnErr, OnOk, length, map};
 ghost use Rattle.std.specs.Io.KnownBytes.{Appends};
+ghost use Rattle.std.specs.List.{AllByRecursion};
 ghost use Rattle.base_model.specs.Limits.{element_limit, sheet_limit};
+ghost use Rattle.edit_model.specs.Edit.{IsShapedEdit};
 ghost use Rattle.io_edges.specs.Cause.{HasCause};
 ghost use Rattle.layer_order.specs.View.{sheets_of};
 ghost use Rattle.scene_model.specs.Document.{document_of};
@@ -146,6 +148,7 @@ fn print_batch<R: Threads + Sync, K: Sink>(
     ensures session { OnOk result
         (session.new ≡ restyled (edited_all session.old (edits_seen batch.entry.edits.now))) }
     ensures serves { OnOk result (Serves session.new lines.new) }
+    ensures shaped { OnOk result (AllByRecursion IsShapedEdit (edits_seen batch.entry.edits.now)) }
     ensures cause { HasCause (K.faults sink.old) (K.faults sink.new) (IsErrOf result SinkRefused.Failed) }
 {
     let heading = make_batch(rt, alloc, session, batch.edits)?;

@@ -1,17 +1,22 @@
 -- Styles that come to their places one after another, from the last of a list to the first.
-use Rattle.std.proofs.Common.{◌≡◌, ℕ, ◌<◌, ◌==◌, List, [], ◌∷◌, ◌++◌, map, find, length, Bool, true, false, cond, Option, Some, option_map, slice_set, refl, sym, ap, ◌∙◌}
+use Rattle.std.proofs.Common.{◌≡◌, ℕ, ◌+◌, ◌<◌, ◌==◌, List, [], ◌∷◌, ◌++◌, map, find, length, take, get_or, Bool, true, false, cond, not, ◌&&◌, ◌||◌, Option, Some, None, option_map, slice_set, refl, sym, ap, ◌∙◌}
 use Rattle.std.specs.List.{AllByRecursion}
 use Rattle.std.specs.Option.{option_or}
 use Rattle.std.specs.declared.sync.Arc.{Arc}
 use Rattle.std.specs.declared.alloc.Global.{Global}
+use Rattle.std.proofs.lemmas.Bool.{eqb-true, or_right}
+use Rattle.scene_model.specs.Element.{Element}
+use Rattle.scene_model.specs.Lookups.{is_element}
+use Rattle.scene_model.specs.Numbers.{is_in}
 use Rattle.value_model.specs.Style.{Style}
 use Rattle.session_model.proofs.OwnLayers.{each-end, each-start}
 use Rattle.session_model.specs.Walk as walk
 use Rattle.session_model.specs.Walk.{result_at}
 use Rattle.style_session.specs.Answers.{styled_seen}
-use Rattle.style_session.specs.SessionView.{slot_at}
+use Rattle.style_session.specs.SessionView.{is_gone, slot_at}
 use Rattle.style_session.specs.declared.styled.Styled.{Styled}
 use Rattle.style_session.proofs.SessionParts.{slot-set}
+use Rattle.style_session.proofs.WalkLemmas.{in_more}
 
 -- what is not left is at its place, and the other places are as before
 pub record ArePlaced (all left : List Styled) (before now : ℕ → Option Style) : Type 0 where
@@ -54,3 +59,44 @@ pub room-popped : (old left : List Styled) (one : Styled) (places : ℕ) → All
 room-popped old left one places room popped =
     let all : AllByRecursion (λ (s : Styled). s.number < places) (left ++ one ∷ []) = rw popped at room in
     (each-start (λ (s : Styled). s.number < places) left (one ∷ []) all, (each-end (λ (s : Styled). s.number < places) left (one ∷ []) all).0)
+
+-- styles of numbers that no element has any more are dropped, one after another
+
+module _ (doc : List Element) (list : List ℕ) (i : ℕ) (below : i < length list) (before now : ℕ → Option Style) (same : (y : ℕ) → now y ≡ cond (is_gone doc (take i list) y) None (before y)) where
+  abbrev next : ℕ
+  next = get_or list i 0
+
+  in_next : (y : ℕ) (b : Bool) → (next == y) ≡ b → is_in y (take (i + 1) list) ≡ (is_in y (take i list) || (b || false))
+  in_next y b e = in_more list i y below ∙ ap (λ c. is_in y (take i list) || (c || false)) e
+
+  none_more : (a : Bool) → (a || (false || false)) ≡ a
+  none_more true = refl
+  none_more false = refl
+
+  -- another number
+  other : (y : ℕ) → (next == y) ≡ false → is_gone doc (take i list) y ≡ is_gone doc (take (i + 1) list) y
+  other y e = ap (λ b. b && not (is_element doc y)) (sym (in_next y false e ∙ none_more (is_in y (take i list))))
+
+  pub dropped-more : (later : ℕ → Option Style) → is_element doc next ≡ false → ((y : ℕ) → later y ≡ cond (next == y) None (now y)) → (y : ℕ) → later y ≡ cond (is_gone doc (take (i + 1) list) y) None (before y)
+  dropped-more later gone drops y = by (next == y) refl (drops y)
+    where
+      by : (b : Bool) → (next == y) ≡ b → later y ≡ cond b None (now y) → later y ≡ cond (is_gone doc (take (i + 1) list) y) None (before y)
+      by true e h =
+          let none : is_element doc y ≡ false = ap (is_element doc) (sym (eqb-true next y e)) ∙ gone in
+          let is : is_gone doc (take (i + 1) list) y ≡ true = ap (λ b. b && not (is_element doc y)) (in_next y true e ∙ or_right (is_in y (take i list)) true refl) ∙ ap not none in
+          h ∙ ap (λ b. cond b None (before y)) (sym is)
+      by false e h = h ∙ (same y ∙ ap (λ b. cond b None (before y)) (other y e))
+
+  -- one that is an element stays
+  pub dropped-passed : is_element doc next ≡ true → (y : ℕ) → now y ≡ cond (is_gone doc (take (i + 1) list) y) None (before y)
+  dropped-passed there y = same y ∙ ap (λ b. cond b None (before y)) (by (next == y) refl)
+    where
+      none : (a b : Bool) → b ≡ true → (a && not b) ≡ false
+      none true b e = ap not e
+      none false b e = refl
+
+      by : (b : Bool) → (next == y) ≡ b → is_gone doc (take i list) y ≡ is_gone doc (take (i + 1) list) y
+      by true e =
+          let here : is_element doc y ≡ true = ap (is_element doc) (sym (eqb-true next y e)) ∙ there in
+          none (is_in y (take i list)) (is_element doc y) here ∙ sym (none (is_in y (take (i + 1) list)) (is_element doc y) here)
+      by false e = other y e

@@ -1,14 +1,13 @@
 -- A first walk in tree order: what it has made of the elements that it has met stays right as it goes on.
-use Rattle.std.proofs.Common.{◌≡◌, ℕ, zero, suc, ◌<◌, ◌==◌, List, [], ◌∷◌, ◌++◌, length, take, replicate, slice_get, slice_set, Bool, true, false, cond, Some, Result, Ok, Err, refl, sym, ap, subst, ◌∙◌, arith}
+use Rattle.std.proofs.Common.{◌≡◌, ℕ, zero, suc, ◌<◌, ◌==◌, List, [], ◌∷◌, ◌++◌, length, take, replicate, slice_get, slice_set, Bool, true, false, cond, ◌||◌, Option, None, Some, Result, Ok, Err, refl, sym, ap, subst, ◌∙◌, arith}
 use Rattle.std.specs.Prelude.{IfOk}
 use Rattle.std.proofs.lemmas.Bool.{eqb-true, eqb-false}
 use Rattle.std.proofs.lemmas.List.{length-set, nil_from_length}
 use Rattle.std.proofs.lemmas.List.Folds.{list_any-append}
 use Rattle.std.proofs.lemmas.Option.{none-some, same_Some}
-use Rattle.scene_model.specs.Lookups.{numbers}
+use Rattle.scene_model.specs.Lookups.{is_element, numbers}
 use Rattle.scene_model.specs.Numbers.{is_in}
 use Rattle.scene_model.proofs.Found.{is_element-numbers}
-use Rattle.scene_model.proofs.Numbers.{same_number}
 use Rattle.value_model.specs.Style.{Style}
 use Rattle.dom_tree.proofs.Places.{get_set_same, get_set_other}
 use Rattle.invalidation_map.specs.Steps.{HasRoom}
@@ -19,7 +18,6 @@ use Rattle.style_session.specs.SessionView.{slot_at}
 use Rattle.style_session.specs.declared.first_walk.FirstStyles.{FirstStyles}
 use Rattle.style_session.specs.declared.first_walk.FirstWalk.{FirstWalk}
 use Rattle.style_session.specs.declared.style_cache.StyleCache.{StyleCache}
-use Rattle.style_session.proofs.WalkLemmas.{in_last}
 
 -- at the start no number is known
 
@@ -70,26 +68,32 @@ first-keeps scene cache x style was now within at w keeps = record {
 }
 
 pub kept-more : (scene : Scene) (front : List ℕ) (x style : ℕ) (was now : FirstWalk) → Keeps x style (style_in scene x) was now → AreKept scene front was.kept.items → AreKept scene (front ++ x ∷ []) now.kept.items
-kept-more scene front x style was now keeps are y h =
-    in_last (λ z. slot_is z) x y (is_in y front) (x == y) refl (sym (list_any-append (λ z. z == y) front (x ∷ [])) ∙ h) (keeps.kept x ∙ ap (λ b. cond b (Some (style_in scene x)) (slot_at was.kept.items x)) (same_number x)) (λ before. others (x == y) refl (are y before))
+kept-more scene front x style was now keeps are y =
+    keeps.kept y
+    ∙ (by (is_in y front) (x == y) refl (are y)
+    ∙ ap (λ b. cond b (Some (style_in scene y)) None) (sym (list_any-append (λ z. z == y) front (x ∷ []))))
   where
-    slot_is : ℕ → Type 0
-    slot_is z = slot_at now.kept.items z ≡ Some (style_in scene z)
+    by : (a b : Bool) → (x == y) ≡ b → slot_at was.kept.items y ≡ cond a (Some (style_in scene y)) None → cond b (Some (style_in scene x)) (slot_at was.kept.items y) ≡ cond (a || (b || false)) (Some (style_in scene y)) None
+    by true true e h = ap (λ z. Some (style_in scene z)) (eqb-true x y e)
+    by false true e h = ap (λ z. Some (style_in scene z)) (eqb-true x y e)
+    by true false e h = h
+    by false false e h = h
 
-    others : (b : Bool) → (x == y) ≡ b → slot_at was.kept.items y ≡ Some (style_in scene y) → slot_is y
-    others true e old =
-        keeps.kept y ∙ (ap (λ b. cond b (Some (style_in scene x)) (slot_at was.kept.items y)) e ∙ ap (λ z. Some (style_in scene z)) (eqb-true x y e))
-    others false e old = keeps.kept y ∙ (ap (λ b. cond b (Some (style_in scene x)) (slot_at was.kept.items y)) e ∙ old)
-
-pub kept-none : (scene : Scene) (front : List ℕ) (walk : FirstWalk) → length front ≡ 0 → AreKept scene front walk.kept.items
-kept-none scene front walk none x h =
-    let nothing : is_in x [] ≡ true = ap (is_in x) (sym (nil_from_length front none)) ∙ h in absurd (cc)
+pub kept-none : (scene : Scene) (front : List ℕ) (walk : FirstWalk) → ((x : ℕ) → slot_at walk.kept.items x ≡ None) → length front ≡ 0 → AreKept scene front walk.kept.items
+kept-none scene front walk empty none x =
+    empty x ∙ sym (ap (λ l. cond (is_in x l) (Some (style_in scene x)) None) (nil_from_length front none))
 
 -- once all were met
 pub all-made : {E : Type 0} (scene : Scene) (walk : FirstWalk) (order : List ℕ) (result : Result FirstStyles E) → HasRoom (elements_of scene) (length walk.kept.items) → AreKept scene (numbers (elements_of scene)) walk.kept.items → order ≡ numbers (elements_of scene) → IfOk result (λ made. made.kept ≡ walk.kept) → IfOk result (λ made. made.numbers.items ≡ order) → IfOk result (AreAll scene)
 all-made scene walk order (Ok made) room are is kept numbered = record {
-  styles = λ x there. ap (λ v. slot_at v.items x) kept ∙ are x (sym (is_element-numbers (elements_of scene) x) ∙ there);
+  styles = λ x there. slot x ∙ ap (λ b. cond b (Some (style_in scene x)) None) there;
+  absent = λ x none. slot x ∙ ap (λ b. cond b (Some (style_in scene x)) None) none;
   places = λ x there. subst (λ n. x < n) (sym (ap (λ v. length v.items) kept)) (room x there);
   order = numbered ∙ is;
 }
+  where
+    slot : (x : ℕ) → slot_at made.kept.items x ≡ cond (is_element (elements_of scene) x) (Some (style_in scene x)) None
+    slot x =
+        ap (λ v. slot_at v.items x) kept
+        ∙ (are x ∙ ap (λ b. cond b (Some (style_in scene x)) None) (sym (is_element-numbers (elements_of scene) x)))
 all-made scene walk order (Err e) room are is kept numbered = tt

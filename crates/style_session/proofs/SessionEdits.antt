@@ -1,28 +1,31 @@
 -- Edits of the document of a session.
-use Rattle.std.proofs.Common.{◌≡◌, ℕ, ◌<◌, List, [], map, Bool, Option, Some, None, ◌||◌, Result, Ok, Err, OnOk, OnErr, refl, sym, ap, subst, ◌∙◌, option_map, unwrap_or}
+use Rattle.std.proofs.Common.{◌≡◌, ℕ, ◌<◌, ◌≤◌, List, [], map, length, Bool, true, false, Option, Some, None, ◌||◌, ◌&&◌, Result, Ok, Err, OnOk, OnErr, refl, sym, ap, subst, ◌∙◌, option_map, unwrap_or, arith}
 use Rattle.std.specs.Prelude.{IfErr, IfSome}
 use Rattle.std.specs.declared.sync.Arc.{Arc}
+use Rattle.std.proofs.Math.Bool.{or_assoc}
+use Rattle.std.proofs.lemmas.Bool.{false≢true, false_from_ne_true, or_parts}
 use Rattle.scene_model.specs.Document.{Document}
 use Rattle.scene_model.specs.Lookups.{is_element, IsElement}
 use Rattle.scene_model.specs.Numbers.{is_in}
-use Rattle.scene_model.proofs.Found.{is_element-numbers}
+use Rattle.change_model.specs.Sound.{IsSound}
+use Rattle.change_model.proofs.InPlace.{here, IsInPlace-here, is_element-map, IsInPlace-attribute, IsInPlace-no_attribute, IsInPlace-state}
 use Rattle.value_model.specs.Style.{Style}
 use Rattle.stylo_base.specs.declared.refusal.EditRefused.{EditRefused}
 use Rattle.stylo_base.specs.declared.refusal.EditRefused.TheVariants.{NoMemory}
 use Rattle.sheet_model.specs.Sources.{Sources}
-use Rattle.edit_model.specs.Apply.{applied, refusal}
-use Rattle.edit_model.specs.Edit.{DocEdit as ModelEdit, of_document}
+use Rattle.edit_model.specs.Apply.{after, applied, is_fresh, refusal}
+use Rattle.edit_model.specs.Edit.{DocEdit as ModelEdit, of_document, insert, remove, move, set, unset, set_state, IsShaped}
 use Rattle.edit_model.specs.Marked.{is_marked}
 use Rattle.edit_model.specs.Refusal.{Refusal, accepted, outcome_of}
 use Rattle.edit_model.specs.Touched.{Touch}
 use Rattle.edit_model.specs.TouchedBy.{AreTouched}
-use Rattle.dom_edits.specs.EditView.{element_edit_seen, refusal_answered}
-use Rattle.dom_edits.specs.declared.edits.ElementEdit.{ElementEdit}
-use Rattle.dom_edits.specs.declared.edits.ElementEdit.TheVariants.{Set, Unset, State}
+use Rattle.dom_edits.specs.EditView.{doc_edit_seen, refusal_answered}
+use Rattle.dom_edits.specs.declared.edits.DocEdit.{DocEdit}
 use Rattle.invalidation_map.specs.Marks.{AreMarked}
 use Rattle.invalidation_map.specs.Members.{Members}
 use Rattle.invalidation_map.specs.Rows.{Row}
-use Rattle.invalidation_map.proofs.EditLemmas.{same_tags-in_place}
+use Rattle.invalidation_map.proofs.EditLemmas.{same_tags}
+use Rattle.invalidation_map.proofs.SetLemmas.{or_no}
 use Rattle.sheet_set.specs.View.{kept_seen, sources_seen}
 use Rattle.sheet_set.specs.declared.sheets.Sheets.{Sheets}
 use Rattle.plain_style.specs.declared.prepared.Prepared.{Prepared}
@@ -30,43 +33,77 @@ use Rattle.session_model.specs.Marking.{marking_selectors, selectors_of}
 use Rattle.session_model.specs.Standing.{Scene, edited, with_document}
 use Rattle.session_model.specs.StandingInvariant.{AllKeep}
 use Rattle.style_session.specs.Answers.{error_of, refusal_of}
-use Rattle.style_session.specs.Edits.{AddsMarks, AreMarkedToo}
-use Rattle.style_session.specs.SessionView.{scene_seen, slot_at, standing_seen}
-use Rattle.style_session.specs.Sessions.{AreOfTexts, CanMark, IsSession}
+use Rattle.style_session.specs.Edits.{AddsMarks, AreFreshToo, AreGoneToo, AreMarkedToo, IsFreshStill}
+use Rattle.style_session.specs.SessionView.{is_fresh_in, scene_seen, slot_at, standing_seen}
+use Rattle.style_session.specs.Sessions.{AreGiven, AreOfTexts, CanMark, IsSession}
+use Rattle.style_session.specs.declared.fresh.Fresh.{Fresh}
 use Rattle.style_session.specs.declared.marking.Marking.{Marking}
 use Rattle.style_session.specs.declared.style_cache.StyleCache.{StyleCache}
-use Rattle.style_session.proofs.SessionLemmas.{IsInOne, KeepsNumbers, edited-with, keeps-edited, keeps-numbers, sound-edited}
+use Rattle.style_session.proofs.EditedLemmas.{Changes, changes-applied, edited-with, keeps-edited, sound-edited}
 use Rattle.style_session.proofs.SessionSheets.{sources-texts}
+use Rattle.style_session.proofs.SessionStarts.{no-element}
+use Rattle.style_session.proofs.TreeEdits.{gone-same}
 
--- each edit of the code changes one element in place
-pub in-one : (edit : ElementEdit) → IsInOne (element_edit_seen edit)
-in-one (Set node name value) = tt
-in-one (Unset node name) = tt
-in-one (State node state on) = tt
+-- edits that change one element in place
 
-same_elements : (old new : Document) → KeepsNumbers old new → (x : ℕ) → is_element new.elements x ≡ is_element old.elements x
-same_elements old new k x =
-    is_element-numbers new.elements x ∙ (ap (is_in x) k.order ∙ sym (is_element-numbers old.elements x))
+abbrev pub IsInOne : ModelEdit → Type 0
+IsInOne (set x name text) = Unit {0}
+IsInOne (unset x name) = Unit {0}
+IsInOne (set_state x state on) = Unit {0}
+IsInOne edit = ⊥
 
--- what is an element after an edit was one before it
-pub was-element : (old new : Document) (edit : ElementEdit) → applied old (element_edit_seen edit) ≡ accepted new → (x : ℕ) → IsElement new.elements x → IsElement old.elements x
-was-element old new edit h x there =
-    sym (same_elements old new (keeps-numbers old new (element_edit_seen edit) (in-one edit) h) x) ∙ there
+pub shaped : (edit : ModelEdit) → IsInOne edit → IsShaped edit
+shaped (set x name text) w = tt
+shaped (unset x name) w = tt
+shaped (set_state x state on) w = tt
+shaped (insert p index nodes) w = absurd w
+shaped (remove n) w = absurd w
+shaped (move n p index) w = absurd w
 
--- what can mark before an edit can after it
-pub can-mark : (old new : Document) (sources : Sources) (before now : Members) (marking later : Marking) → CanMark old sources before marking → ((x : ℕ) → IsElement new.elements x → IsElement old.elements x) → now.room ≡ before.room → later ≡ marking → CanMark new sources now later
-can-mark old new sources before now marking later can were room same =
-    subst (CanMark new sources now) (sym same)
-    (record {
-      rows = can.rows;
-      room = λ x there. can.room x (were x there);
-      marks_room = λ x there. subst (λ n. x < n) (sym room) (can.marks_room x (were x there));
-    })
+makes_none_fresh : (d : Document) (edit : ModelEdit) → IsInOne edit → (x : ℕ) → is_fresh d edit x ≡ false
+makes_none_fresh d (set y name text) w x = refl
+makes_none_fresh d (unset y name) w x = refl
+makes_none_fresh d (set_state y state on) w x = refl
+makes_none_fresh d (insert p index nodes) w x = absurd w
+makes_none_fresh d (remove n) w x = absurd w
+makes_none_fresh d (move n p index) w x = absurd w
+
+elements_after : (d : Document) (edit : ModelEdit) → IsInOne edit → (x : ℕ) → is_element (after d edit).elements x ≡ is_element d.elements x
+elements_after d (set y name text) w x =
+    is_element-map (here y _) (IsInPlace-here y _ (IsInPlace-attribute name text)).number d.elements x
+elements_after d (unset y name) w x =
+    is_element-map (here y _) (IsInPlace-here y _ (IsInPlace-no_attribute name)).number d.elements x
+elements_after d (set_state y state on) w x =
+    is_element-map (here y _) (IsInPlace-here y _ (IsInPlace-state state on)).number d.elements x
+elements_after d (insert p index nodes) w x = absurd w
+elements_after d (remove n) w x = absurd w
+elements_after d (move n p index) w x = absurd w
+
+pub same-elements : (old new : Document) (edit : ModelEdit) → IsInOne edit → applied old edit ≡ accepted new → (x : ℕ) → is_element new.elements x ≡ is_element old.elements x
+same-elements old new edit w h x = by (refusal old edit) h
+  where
+    by : (o : Option Refusal) → outcome_of o (after old edit) ≡ accepted new → is_element new.elements x ≡ is_element old.elements x
+    by None h =
+        let same : after old edit ≡ new = cc in
+        sym (ap (λ (d : Document). is_element d.elements x) same) ∙ elements_after old edit w x
+    by (Some why) h = absurd (cc)
+
+-- it makes nothing fresh, and removes nothing
+
+pub fresh-too : (old new : Document) (edit : ModelEdit) (fresh : Fresh) → IsInOne edit → AreFreshToo old new edit fresh fresh
+fresh-too old new edit fresh w = record {
+  all = refl;
+  each = λ x there. or_no (is_in x fresh.set.items) ∙ ap (λ b. is_in x fresh.set.items || b) (sym (makes_none_fresh old edit w x));
+}
+
+pub gone-too : (old new : Document) (edit : ModelEdit) (gone : List ℕ) → IsInOne edit → applied old edit ≡ accepted new → AreGoneToo old new gone gone
+gone-too old new edit gone w h = gone-same old new gone (λ x there. same-elements old new edit w h x ∙ there)
 
 -- what the marker adds is what the edit marks
-pub adds-marks : (old new : Document) (edit : ElementEdit) (pairs : List (Touch × ℕ)) (rows : List Row) (before now : Members) → applied old (element_edit_seen edit) ≡ accepted new → AreTouched old.elements new.elements pairs → AreMarked new.elements pairs rows before now → AddsMarks old.elements new.elements rows before now
-adds-marks old new edit pairs rows before now h touched marked =
-    λ selectors are. marked old.elements selectors (same_tags-in_place old new edit h) touched.exact are
+pub adds-marks : (old new : Document) (edit : DocEdit) (pairs : List (Touch × ℕ)) (rows : List Row) (marks : List ℕ) (before now : Members) → IsSound old → IsShaped (doc_edit_seen edit) → applied old (doc_edit_seen edit) ≡ accepted new → AreTouched old.elements new.elements pairs → before.items ≡ marks → AreMarked new.elements pairs rows before now → AddsMarks old.elements new.elements rows marks now.items
+adds-marks old new edit pairs rows marks before now sound w h touched same marked = λ selectors are x.
+    (marked old.elements selectors (same_tags old new edit sound w h) touched.exact are).each x
+    ∙ ap (λ l. is_in x l || is_marked old.elements new.elements selectors x) same
 
 -- the answer to an edit that is not done
 error_by : (scene : Scene) (o : Option Refusal) (after : Document) → error_of (with_document scene (outcome_of o after)) ≡ unwrap_or (option_map refusal_answered o) NoMemory
@@ -81,39 +118,137 @@ marked-now : (old new : Document) (sheets : Sheets) (marks now : List ℕ) → A
 marked-now old new sheets marks now texts h x =
     subst (λ (s : Sources). is_in x now ≡ (is_in x marks || is_marked old.elements new.elements (selectors_of s) x)) (sources-texts sheets texts) (h x)
 
--- what is edited of a session, after an edit that is done
+none_out : (a b : Bool) → a ≡ false → (a && b) ≡ false
+none_out true b h = absurd (false≢true (sym h))
+none_out false b h = refl
 
-pub edited-seen : {A T E : Type 0} (result : Result T E) (old new : Document) (sheets : Sheets) (marks now : List ℕ) (fresh : Bool) (kept : List (Option (Arc Style A))) (recent : List ℕ) (edit : ElementEdit) → AreOfTexts sheets → OnOk result (applied old (element_edit_seen edit) ≡ accepted new) → OnOk result (AreMarkedToo old.elements new.elements (sources_seen sheets) marks now) → OnOk result (standing_seen new sheets now fresh kept recent ≡ edited (standing_seen old sheets marks fresh kept recent) (of_document (element_edit_seen edit)))
-edited-seen (Ok x) old new sheets marks now fresh kept recent edit texts h k =
-    edited-with (scene_seen old sheets) new (element_edit_seen edit) (in-one edit) h marks now fresh (slot_at kept) recent (marked-now old new sheets marks now texts k)
-edited-seen (Err e) old new sheets marks now fresh kept recent edit texts h k = tt
+-- an edit that is done, whichever it is
 
--- and of what holds of it, done or not
-pub session-edited : {A T E : Type 0} (result : Result T E) (old new : Document) (sheets : Sheets) (prepared : Prepared) (marking later : Option Marking) (marks now : Members) (fresh : Bool) (kept : List (Option (Arc Style A))) (recent : List ℕ) (cache : StyleCache) (edit : ElementEdit) → IsSession old sheets prepared marking marks fresh kept recent cache → OnOk result (applied old (element_edit_seen edit) ≡ accepted new) → OnOk result (AreMarkedToo old.elements new.elements (sources_seen sheets) marks.items now.items) → OnErr result (new ≡ old) → OnErr result (now.items ≡ marks.items) → IfSome later (CanMark new (sources_seen sheets) now) → (later ≡ None → now.items ≡ []) → IsSession new sheets prepared later now fresh kept recent cache
-session-edited (Ok x) old new sheets prepared marking later marks now fresh kept recent cache edit was h k _ _ can none = record {
-  sound = sound-edited (scene_seen old sheets) new (element_edit_seen edit) (in-one edit) h was.sound;
-  texts = was.texts;
-  can_mark = can;
-  unmarked = none;
-  places = λ calm x there. was.places calm x (was-element old new edit h x there);
-  keeps = keeps-edited (scene_seen old sheets) new (element_edit_seen edit) (in-one edit) h marks.items now.items fresh (slot_at kept) recent was.sound (marked-now old new sheets marks.items now.items was.texts k) was.keeps;
-  once = was.once;
-  fits = was.fits;
-}
-session-edited (Err e) old new sheets prepared marking later marks now fresh kept recent cache edit was _ _ same marks_same can none =
-    subst (λ (d : Document). IsSession d sheets prepared later now fresh kept recent cache) (sym same)
-    (record {
-      sound = was.sound;
+module _ {A : Type 0} (old new : Document) (sheets : Sheets) (prepared : Prepared) (marking : Option Marking) (marks now : Members) (fresh later : Fresh) (gone left : List ℕ) (kept : List (Option (Arc Style A))) (recent : List ℕ) (cache : StyleCache) (edit : ModelEdit) (w : IsShaped edit) (was : IsSession old sheets prepared marking marks fresh gone kept recent cache) (h : applied old edit ≡ accepted new) (marked : AreMarkedToo old.elements new.elements (sources_seen sheets) marks.items now.items) (freshened : AreFreshToo old new edit fresh later) where
+  is : Changes old new edit
+  is = changes-applied old new was.sound edit w h
+
+  sound : IsSound new
+  sound = sound-edited (scene_seen old sheets) new edit w was.sound h
+
+  none_above : (x : ℕ) → old.last < x → slot_at kept x ≡ None
+  none_above x above = was.absent x (no-element old was.sound x above) (was.gone_given x above)
+
+  fresh_now : (x : ℕ) → IsElement new.elements x → is_fresh_in later x ≡ (is_fresh_in fresh x || is_fresh old edit x)
+  fresh_now x there =
+      ap (λ b. b || is_in x later.set.items) freshened.all
+      ∙ (ap (λ b. fresh.all || b) (freshened.each x there) ∙ sym (or_assoc fresh.all (is_in x fresh.set.items) (is_fresh old edit x)))
+
+  pub edited-seen : standing_seen new sheets now.items (is_fresh_in later) kept recent ≡ edited (standing_seen old sheets marks.items (is_fresh_in fresh) kept recent) (of_document edit)
+  edited-seen =
+      edited-with (scene_seen old sheets) new edit w was.sound h marks.items now.items recent (is_fresh_in fresh) (is_fresh_in later) (slot_at kept) was.marks_given was.recent_given none_above (marked-now old new sheets marks.items now.items was.texts marked) fresh_now
+
+  keeps : AllKeep (standing_seen new sheets now.items (is_fresh_in later) kept recent)
+  keeps =
+      keeps-edited (scene_seen old sheets) new edit w was.sound h marks.items now.items recent (is_fresh_in fresh) (is_fresh_in later) (slot_at kept) was.marks_given was.recent_given none_above (marked-now old new sheets marks.items now.items was.texts marked) fresh_now was.keeps
+
+  -- an element that is not fresh now was one before, and not fresh
+  places : (x : ℕ) → IsElement new.elements x → is_fresh_in later x ≡ false → x < length kept
+  places x there calm =
+      let parts = or_parts (is_fresh_in fresh x) (is_fresh old edit x) (sym (fresh_now x there) ∙ calm) in
+      was.places x (is.fresh.there x there parts.1) parts.0
+
+  given_still : (list : List ℕ) → AreGiven old.last list → AreGiven new.last list
+  given_still list given x above = given x (omega (arith, above, is.last))
+
+  -- what is marked now was, or is an element
+  marks_given : AreGiven new.last now.items
+  marks_given x above =
+      marked-now old new sheets marks.items now.items was.texts marked x
+      ∙ (ap (λ b. b || is_marked old.elements new.elements (marking_selectors (map kept_seen sheets.sheets.items)) x) (given_still marks.items was.marks_given x above)
+      ∙ unmarked (no-element new sound x above))
+    where
+      unmarked : is_element new.elements x ≡ false → is_marked old.elements new.elements (marking_selectors (map kept_seen sheets.sheets.items)) x ≡ false
+      unmarked out = none_out (is_element new.elements x) _ out
+
+  module _ (gone_too : AreGoneToo old new gone left) where
+    -- what is gone now was, or was an element
+    gone_given : AreGiven new.last left
+    gone_given x above =
+        let over : old.last < x = omega (arith, above, is.last) in
+        false_from_ne_true (is_in x left) (λ there. false≢true (sym (no-element old was.sound x over) ∙ gone_too.of_old x there (was.gone_given x over)))
+
+    absent : (x : ℕ) → is_element new.elements x ≡ false → is_in x left ≡ false → slot_at kept x ≡ None
+    absent x out here = by (is_element old.elements x) refl
+      where
+        by : (b : Bool) → is_element old.elements x ≡ b → slot_at kept x ≡ None
+        by true e = absurd (false≢true (sym here ∙ gone_too.removed x e out))
+        by false e = was.absent x e (false_from_ne_true (is_in x gone) (λ before. false≢true (sym here ∙ gone_too.stays x before)))
+
+    pub session-edited : (marking_later : Option Marking) → IfSome marking_later (CanMark new (sources_seen sheets) now) → (marking_later ≡ None → now.items ≡ []) → IsSession new sheets prepared marking_later now later left kept recent cache
+    session-edited marking_later can unmarked = record {
+      sound = sound;
       texts = was.texts;
-      can_mark = subst (λ (d : Document). IfSome later (CanMark d (sources_seen sheets) now)) same can;
-      unmarked = none;
-      places = was.places;
-      keeps = subst (λ l. AllKeep (standing_seen old sheets l fresh kept recent)) (sym marks_same) was.keeps;
+      can_mark = can;
+      unmarked = unmarked;
+      places = places;
+      marks_given = marks_given;
+      recent_given = given_still recent was.recent_given;
+      gone_given = gone_given;
+      absent = absent;
+      keeps = keeps;
       once = was.once;
       fits = was.fits;
-    })
+    }
+
+-- and one that is not
+
+same_fresh : (fresh later : Fresh) → IsFreshStill fresh later → is_fresh_in fresh ≡ is_fresh_in later
+same_fresh fresh later still =
+    let by_all : Bool → ℕ → Bool = λ b x. b || is_in x fresh.set.items in
+    let by_items : List ℕ → ℕ → Bool = λ l x. later.all || is_in x l in
+    ap by_all (sym still.all) ∙ ap by_items (sym still.items)
+
+module _ {A : Type 0} (old : Document) (sheets : Sheets) (prepared : Prepared) (marking : Option Marking) (marks now : Members) (fresh later : Fresh) (gone left : List ℕ) (kept : List (Option (Arc Style A))) (recent : List ℕ) (cache : StyleCache) (was : IsSession old sheets prepared marking marks fresh gone kept recent cache) (marks_same : now.items ≡ marks.items) (still : IsFreshStill fresh later) where
+  -- it is seen as before
+  pub refused-same : standing_seen old sheets now.items (is_fresh_in later) kept recent ≡ standing_seen old sheets marks.items (is_fresh_in fresh) kept recent
+  refused-same =
+      ap (λ l. standing_seen old sheets l (is_fresh_in later) kept recent) marks_same
+      ∙ ap (λ (f : ℕ → Bool). standing_seen old sheets marks.items f kept recent) (sym (same_fresh fresh later still))
+
+  pub session-refused : (new : Document) (marking_later : Option Marking) → AreGoneToo old old gone left → new ≡ old → IfSome marking_later (CanMark new (sources_seen sheets) now) → (marking_later ≡ None → now.items ≡ []) → IsSession new sheets prepared marking_later now later left kept recent cache
+  session-refused new marking_later too same can none =
+      subst (λ (d : Document). IsSession d sheets prepared marking_later now later left kept recent cache) (sym same)
+      (record {
+        sound = was.sound;
+        texts = was.texts;
+        can_mark = subst (λ (d : Document). IfSome marking_later (CanMark d (sources_seen sheets) now)) same can;
+        unmarked = none;
+        places = λ x there calm. was.places x there (ap (λ (f : ℕ → Bool). f x) (same_fresh fresh later still) ∙ calm);
+        marks_given = subst (AreGiven old.last) (sym marks_same) was.marks_given;
+        recent_given = was.recent_given;
+        gone_given = λ x above. false_from_ne_true (is_in x left) (λ there. false≢true (sym (no-element old was.sound x above) ∙ too.of_old x there (was.gone_given x above)));
+        absent = λ x out here. was.absent x out (false_from_ne_true (is_in x gone) (λ before. false≢true (sym here ∙ too.stays x before)));
+        keeps = subst AllKeep (sym refused-same) was.keeps;
+        once = was.once;
+        fits = was.fits;
+      })
+
+-- an edit of the code, done or not
+
+pub edit-seen : {A T E : Type 0} (result : Result T E) (old new : Document) (sheets : Sheets) (prepared : Prepared) (marking : Option Marking) (marks now : Members) (fresh later : Fresh) (gone left : List ℕ) (kept : List (Option (Arc Style A))) (recent : List ℕ) (cache : StyleCache) (edit : DocEdit) → IsSession old sheets prepared marking marks fresh gone kept recent cache → OnOk result (IsShaped (doc_edit_seen edit)) → OnOk result (applied old (doc_edit_seen edit) ≡ accepted new) → OnOk result (AreMarkedToo old.elements new.elements (sources_seen sheets) marks.items now.items) → OnOk result (AreFreshToo old new (doc_edit_seen edit) fresh later) → OnOk result (standing_seen new sheets now.items (is_fresh_in later) kept recent ≡ edited (standing_seen old sheets marks.items (is_fresh_in fresh) kept recent) (of_document (doc_edit_seen edit)))
+edit-seen (Ok x) old new sheets prepared marking marks now fresh later gone left kept recent cache edit was w h marked freshened =
+    edited-seen old new sheets prepared marking marks now fresh later gone left kept recent cache (doc_edit_seen edit) w was h marked freshened
+edit-seen (Err e) old new sheets prepared marking marks now fresh later gone left kept recent cache edit was w h marked freshened = tt
+
+pub edit-refused : {A T E : Type 0} (result : Result T E) (old new : Document) (sheets : Sheets) (prepared : Prepared) (marking : Option Marking) (marks now : Members) (fresh later : Fresh) (gone : List ℕ) (kept : List (Option (Arc Style A))) (recent : List ℕ) (cache : StyleCache) → IsSession old sheets prepared marking marks fresh gone kept recent cache → OnErr result (new ≡ old) → OnErr result (now.items ≡ marks.items) → OnErr result (IsFreshStill fresh later) → OnErr result (standing_seen new sheets now.items (is_fresh_in later) kept recent ≡ standing_seen old sheets marks.items (is_fresh_in fresh) kept recent)
+edit-refused (Ok x) old new sheets prepared marking marks now fresh later gone kept recent cache was same marks_same still = tt
+edit-refused (Err e) old new sheets prepared marking marks now fresh later gone kept recent cache was same marks_same still =
+    ap (λ (d : Document). standing_seen d sheets now.items (is_fresh_in later) kept recent) same
+    ∙ refused-same old sheets prepared marking marks now fresh later gone gone kept recent cache was marks_same still
+
+pub edit-session : {A T E : Type 0} (result : Result T E) (old new : Document) (sheets : Sheets) (prepared : Prepared) (marking later : Option Marking) (marks now : Members) (fresh fresh_later : Fresh) (gone left : List ℕ) (kept : List (Option (Arc Style A))) (recent : List ℕ) (cache : StyleCache) (edit : DocEdit) → IsSession old sheets prepared marking marks fresh gone kept recent cache → OnOk result (IsShaped (doc_edit_seen edit)) → OnOk result (applied old (doc_edit_seen edit) ≡ accepted new) → OnOk result (AreMarkedToo old.elements new.elements (sources_seen sheets) marks.items now.items) → OnOk result (AreFreshToo old new (doc_edit_seen edit) fresh fresh_later) → OnOk result (AreGoneToo old new gone left) → OnErr result (new ≡ old) → OnErr result (now.items ≡ marks.items) → OnErr result (IsFreshStill fresh fresh_later) → OnErr result (AreGoneToo old old gone left) → IfSome later (CanMark new (sources_seen sheets) now) → (later ≡ None → now.items ≡ []) → IsSession new sheets prepared later now fresh_later left kept recent cache
+edit-session (Ok x) old new sheets prepared marking later marks now fresh fresh_later gone left kept recent cache edit was w h marked freshened taken _ _ _ _ can none =
+    session-edited old new sheets prepared marking marks now fresh fresh_later gone left kept recent cache (doc_edit_seen edit) w was h marked freshened taken later can none
+edit-session (Err e) old new sheets prepared marking later marks now fresh fresh_later gone left kept recent cache edit was _ _ _ _ _ same marks_same still taken can none =
+    session-refused old sheets prepared marking marks now fresh fresh_later gone left kept recent cache was marks_same still new later taken same can none
 
 -- the answer to an edit that is not done, of a session
-pub refused-seen : {T : Type 0} (result : Result T EditRefused) (document : Document) (sheets : Sheets) (edit : ElementEdit) → IfErr result (λ why. why ≡ unwrap_or (option_map refusal_answered (refusal document (element_edit_seen edit))) NoMemory) → IfErr result (λ why. why ≡ refusal_of (scene_seen document sheets) (of_document (element_edit_seen edit)))
+pub refused-seen : {T : Type 0} (result : Result T EditRefused) (document : Document) (sheets : Sheets) (edit : DocEdit) → IfErr result (λ why. why ≡ unwrap_or (option_map refusal_answered (refusal document (doc_edit_seen edit))) NoMemory) → IfErr result (λ why. why ≡ refusal_of (scene_seen document sheets) (of_document (doc_edit_seen edit)))
 refused-seen (Ok x) document sheets edit h = tt
-refused-seen (Err why) document sheets edit h = h ∙ sym (error-seen (scene_seen document sheets) (element_edit_seen edit))
+refused-seen (Err why) document sheets edit h = h ∙ sym (error-seen (scene_seen document sheets) (doc_edit_seen edit))

@@ -1,5 +1,5 @@
 -- The parts of a session: the places of styles, what is above an element, and the counts of a list.
-use Rattle.std.proofs.Common.{◌≡◌, ℕ, zero, suc, ◌<◌, ◌==◌, List, [], ◌∷◌, length, Bool, true, false, cond, ◌||◌, Option, Some, None, option_map, option_and_then, get_or, slice_set, refl, sym, ap, ◌∙◌, arith}
+use Rattle.std.proofs.Common.{◌≡◌, ℕ, zero, suc, ◌<◌, ◌≤◌, ◌==◌, List, [], ◌∷◌, ◌++◌, length, Bool, true, false, cond, ◌||◌, Option, Some, None, option_map, option_and_then, get_or, slice_set, refl, sym, ap, ◌∙◌, arith}
 use Rattle.std.specs.List.{list_any}
 use Rattle.std.specs.Arc.{arc_value}
 use Rattle.std.specs.declared.sync.Arc.{Arc}
@@ -12,7 +12,8 @@ use Rattle.scene_model.specs.Valid.{IsValid}
 use Rattle.scene_model.proofs.Climbing.{ancestors-child, ancestors-root}
 use Rattle.value_model.specs.Style.{Style}
 use Rattle.dom_tree.proofs.Places.{get_set_same, get_set_other}
-use Rattle.style_session.specs.SessionView.{slot_at}
+use Rattle.style_session.specs.SessionView.{is_fresh_in, slot_at}
+use Rattle.style_session.specs.declared.fresh.Fresh.{Fresh}
 
 -- what is read at a place
 pub slot-read : {A : Type 0} (kept : List (Option (Arc Style A))) (n : ℕ) (o : Option (Arc Style A)) → n < length kept → o ≡ get_or kept n o → slot_at kept n ≡ option_map arc_value o
@@ -20,32 +21,59 @@ slot-read [] n o l e = absurd (omega arith)
 slot-read (p ∷ kept) zero o l e = ap (option_map arc_value) (sym e)
 slot-read (p ∷ kept) (suc n) o l e = slot-read kept n o (omega arith) e
 
--- a style put at its place
+-- a style put at its place, or taken away from there
+
+pub slot-put : {A : Type 0} (kept : List (Option (Arc Style A))) (n x : ℕ) (o : Option (Arc Style A)) → n < length kept → slot_at (slice_set kept n o) x ≡ cond (n == x) (option_map arc_value o) (slot_at kept x)
+slot-put {A} kept n x o l = by_place (n == x) refl
+  where
+    by_place : (b : Bool) → (n == x) ≡ b → slot_at (slice_set kept n o) x ≡ cond b (option_map arc_value o) (slot_at kept x)
+    by_place true e =
+        ap (λ y. slot_at (slice_set kept n o) y) (sym (eqb-true n x e)) ∙ ap (option_and_then (option_map arc_value)) (get_set_same kept n o l)
+    by_place false e = ap (option_and_then (option_map arc_value)) (get_set_other kept n x o (eqb-false n x e))
 
 pub slot-set : {A : Type 0} (kept : List (Option (Arc Style A))) (n x : ℕ) (style : Arc Style A) → n < length kept → slot_at (slice_set kept n (Some style)) x ≡ cond (n == x) (Some (arc_value style)) (slot_at kept x)
-slot-set {A} kept n x style l = by_place (n == x) refl
+slot-set kept n x style l = slot-put kept n x (Some style) l
+
+none_past : {A : Type 0} (kept : List (Option (Arc Style A))) (x : ℕ) → length kept ≤ x → slot_at kept x ≡ None
+none_past [] zero l = refl
+none_past [] (suc x) l = refl
+none_past (o ∷ kept) zero l = absurd (omega (arith, l))
+none_past (o ∷ kept) (suc x) l = none_past kept x (omega (arith, l))
+
+-- past the places there is none
+pub slot-past : {A : Type 0} (kept : List (Option (Arc Style A))) (n x : ℕ) → length kept ≤ n → slot_at kept x ≡ cond (n == x) None (slot_at kept x)
+slot-past kept n x l = by_place (n == x) refl
   where
-    by_place : (b : Bool) → (n == x) ≡ b → slot_at (slice_set kept n (Some style)) x ≡ cond b (Some (arc_value style)) (slot_at kept x)
-    by_place true e =
-        ap (λ y. slot_at (slice_set kept n (Some style)) y) (sym (eqb-true n x e)) ∙ ap (option_and_then (option_map arc_value)) (get_set_same kept n (Some style) l)
-    by_place false e =
-        ap (option_and_then (option_map arc_value)) (get_set_other kept n x (Some style) (eqb-false n x e))
+    by_place : (b : Bool) → (n == x) ≡ b → slot_at kept x ≡ cond b None (slot_at kept x)
+    by_place true e = ap (slot_at kept) (sym (eqb-true n x e)) ∙ none_past kept n l
+    by_place false e = refl
 
--- what is marked from an element up
+-- what is marked or fresh from an element up
 
-pub marked-up : (els : List Element) → IsValid els → (marks : List ℕ) (at p : ℕ) → parent_of els at ≡ Some p → is_in at marks ≡ false → list_any (λ y. is_in y marks) (at ∷ ancestors els at) ≡ list_any (λ y. is_in y marks) (p ∷ ancestors els p)
-marked-up els v marks at p e h =
-    ap (λ b. b || list_any (λ y. is_in y marks) (ancestors els at)) h ∙ ap (list_any (λ y. is_in y marks)) (ancestors-child els v at p e)
+abbrev pub is_up : List ℕ → Fresh → List ℕ → Bool
+is_up marks fresh xs = list_any (λ y. is_in y marks || is_fresh_in fresh y) xs
 
-pub marked-top : (els : List Element) → IsValid els → (marks : List ℕ) (at : ℕ) → parent_of els at ≡ None → is_in at marks ≡ false → list_any (λ y. is_in y marks) (at ∷ ancestors els at) ≡ false
-marked-top els v marks at e h =
-    ap (λ b. b || list_any (λ y. is_in y marks) (ancestors els at)) h ∙ ap (list_any (λ y. is_in y marks)) (ancestors-root els v at e)
+module _ (els : List Element) (v : IsValid els) (test : ℕ → Bool) where
+  pub passed-up : (at p : ℕ) → parent_of els at ≡ Some p → test at ≡ false → list_any test (at ∷ ancestors els at) ≡ list_any test (p ∷ ancestors els p)
+  passed-up at p e h =
+      ap (λ b. b || list_any test (ancestors els at)) h ∙ ap (list_any test) (ancestors-child els v at p e)
 
-pub none_marked : (marks xs : List ℕ) → marks ≡ [] → list_any (λ y. is_in y marks) xs ≡ false
-none_marked marks [] e = refl
-none_marked marks (x ∷ xs) e = ap (λ l. is_in x l || list_any (λ y. is_in y marks) xs) e ∙ none_marked marks xs e
+  pub passed-top : (at : ℕ) → parent_of els at ≡ None → test at ≡ false → list_any test (at ∷ ancestors els at) ≡ false
+  passed-top at e h =
+      ap (λ b. b || list_any test (ancestors els at)) h ∙ ap (list_any test) (ancestors-root els v at e)
+
+pub none-pass : (test : ℕ → Bool) → ((y : ℕ) → test y ≡ false) → (xs : List ℕ) → list_any test xs ≡ false
+none-pass test none [] = refl
+none-pass test none (x ∷ xs) = ap (λ b. b || list_any test xs) (none x) ∙ none-pass test none xs
 
 -- a list of no length is empty
 pub no-length : (xs : List ℕ) → (length xs == 0) ≡ true → xs ≡ []
 no-length [] e = refl
 no-length (x ∷ xs) e = let none : length (x ∷ xs) ≡ 0 = eqb-true (length (x ∷ xs)) 0 e in absurd (omega arith)
+
+-- a place more, without a style
+pub slot-more : {A : Type 0} (kept : List (Option (Arc Style A))) (x : ℕ) → slot_at (kept ++ None ∷ []) x ≡ slot_at kept x
+slot-more [] zero = refl
+slot-more [] (suc x) = refl
+slot-more (o ∷ kept) zero = refl
+slot-more (o ∷ kept) (suc x) = slot-more kept x

@@ -1,15 +1,18 @@
 -- Restyles of a session.
-use Rattle.std.proofs.Common.{◌≡◌, ℕ, ◌<◌, nat_eq, List, [], ◌∷◌, map, filter, length, Bool, true, false, Option, refl, sym, ap, subst, ◌∙◌}
+use Rattle.std.proofs.Common.{◌≡◌, ℕ, ◌<◌, ◌==◌, nat_eq, List, [], ◌∷◌, map, filter, find, length, Bool, true, false, cond, not, ◌&&◌, ◌||◌, Option, None, Some, option_map, refl, sym, ap, subst, ◌∙◌}
 use Rattle.std.specs.List.{AllByRecursion, IsDistinct, count_by}
 use Rattle.std.specs.Option.{option_or}
 use Rattle.std.specs.declared.sync.Arc.{Arc}
+use Rattle.std.proofs.lemmas.Bool.{eqb-true, false≢true}
 use Rattle.std.proofs.lemmas.List.{length-map}
 use Rattle.std.proofs.lemmas.List.Sums.{length-filter}
 use Rattle.std.proofs.lemmas.Option.{IfSome_then}
 use Rattle.base_model.proofs.Lists.{each_weaker}
 use Rattle.scene_model.specs.Document.{Document}
-use Rattle.scene_model.specs.Lookups.{IsElement}
+use Rattle.scene_model.specs.Element.{Element}
+use Rattle.scene_model.specs.Lookups.{IsElement, is_element, numbers}
 use Rattle.scene_model.specs.Numbers.{is_in}
+use Rattle.scene_model.proofs.Found.{is_element-numbers}
 use Rattle.scene_model.proofs.Lists.{filter-map}
 use Rattle.change_model.specs.Sound.{IsSound}
 use Rattle.value_model.specs.Style.{Style}
@@ -19,39 +22,66 @@ use Rattle.sheet_set.specs.View.{sources_seen}
 use Rattle.sheet_set.specs.declared.sheets.Sheets.{Sheets}
 use Rattle.plain_style.specs.Fits.{Fits}
 use Rattle.plain_style.specs.declared.prepared.Prepared.{Prepared}
-use Rattle.session_model.specs.Standing.{Scene, Standing, cascaded_count, kept_at, matched_count, restyled}
+use Rattle.session_model.specs.Standing.{Standing, is_cascaded, kept_at, restyled}
 use Rattle.session_model.specs.StandingInvariant.{AllKeep}
+use Rattle.session_model.proofs.ListedLemmas.{among-filter}
 use Rattle.session_model.specs.Walk as walk
 use Rattle.session_model.specs.Walk.{result_at, results}
 use Rattle.style_session.specs.Answers.{counts_of, styled_seen}
 use Rattle.style_session.specs.FirstWalking.{AreAll}
-use Rattle.style_session.specs.SessionView.{scene_seen, slot_at, standing_seen}
-use Rattle.style_session.specs.Sessions.{IsSession}
+use Rattle.style_session.specs.SessionView.{is_fresh_in, is_gone, scene_seen, slot_at, standing_seen}
+use Rattle.style_session.specs.Sessions.{AreGiven, IsSession}
+use Rattle.style_session.specs.Settled.{AreSettled}
 use Rattle.style_session.specs.declared.counts.Counts.{Counts}
 use Rattle.style_session.specs.declared.first_walk.FirstStyles.{FirstStyles}
+use Rattle.style_session.specs.declared.fresh.Fresh.{Fresh}
 use Rattle.style_session.specs.declared.marking.Marking.{Marking}
 use Rattle.style_session.specs.declared.style_cache.StyleCache.{StyleCache}
 use Rattle.style_session.specs.declared.styled.Styled.{Styled}
-use Rattle.style_session.proofs.SessionStarts.{none_twice}
-use Rattle.style_session.proofs.SessionLemmas.{first-cascaded, first-matched, first-with, found-cascaded, found-elements, found-matched, found-once, idle-cascaded, idle-matched, idle-with, keeps-lent, keeps-restyled, number_of, others-restyled, restyled-with, standing_with}
-
--- with nothing marked or fresh
-
-idle_lists : (scene : Scene) (slot : ℕ → Option Style) (recent marks now : List ℕ) (fresh : Bool) → IsSound scene.document → fresh ≡ false → marks ≡ [] → now ≡ [] → AllKeep (standing_with scene marks fresh slot recent) → standing_with scene marks fresh slot now ≡ restyled (standing_with scene marks fresh slot recent)
-idle_lists scene slot recent marks now fresh sound f m n =
-    subst (λ (b : Bool). AllKeep (standing_with scene marks b slot recent) → standing_with scene marks b slot now ≡ restyled (standing_with scene marks b slot recent)) (sym f)
-    (subst (λ (l : List ℕ). AllKeep (standing_with scene l false slot recent) → standing_with scene l false slot now ≡ restyled (standing_with scene l false slot recent)) (sym m)
-    (subst (λ (l : List ℕ). AllKeep (standing_with scene [] false slot recent) → standing_with scene [] false slot l ≡ restyled (standing_with scene [] false slot recent)) (sym n)
-    (λ all. idle-with scene slot recent sound all)))
-
-idle_counts : (scene : Scene) (slot : ℕ → Option Style) (recent marks : List ℕ) (fresh : Bool) → IsSound scene.document → fresh ≡ false → marks ≡ [] → AllKeep (standing_with scene marks fresh slot recent) → (matched_count (standing_with scene marks fresh slot recent) ≡ 0) × (cascaded_count (standing_with scene marks fresh slot recent) ≡ 0)
-idle_counts scene slot recent marks fresh sound f m =
-    subst (λ (b : Bool). AllKeep (standing_with scene marks b slot recent) → (matched_count (standing_with scene marks b slot recent) ≡ 0) × (cascaded_count (standing_with scene marks b slot recent) ≡ 0)) (sym f)
-    (subst (λ (l : List ℕ). AllKeep (standing_with scene l false slot recent) → (matched_count (standing_with scene l false slot recent) ≡ 0) × (cascaded_count (standing_with scene l false slot recent) ≡ 0)) (sym m)
-    (λ all. (idle-matched scene slot recent sound all, idle-cascaded scene slot recent sound all)))
+use Rattle.style_session.proofs.SessionStarts.{all-fresh, no-element, none-fresh, none_given, none_twice}
+use Rattle.style_session.proofs.SessionLemmas.{first-cascaded, first-matched, first-with, found-cascaded, found-elements, found-matched, found-numbers, found-once, idle-cascaded, idle-matched, idle-with, keeps-lent, keeps-restyled, number_of, others-restyled, restyled-with, standing_with}
 
 same_counts : (a b : Counts) → a.matched ≡ b.matched → a.cascaded ≡ b.cascaded → a ≡ b
 same_counts a b e f = λ i. record { matched = e i; cascaded = f i }
+
+-- styles of numbers that no element has any more are dropped
+
+abbrev pub AreDropped : List Element → List ℕ → (ℕ → Option Style) → (ℕ → Option Style) → Type 0
+AreDropped doc gone before now = (x : ℕ) → now x ≡ cond (is_gone doc gone x) None (before x)
+
+module _ (doc : List Element) (gone : List ℕ) (before now : ℕ → Option Style) (dropped : AreDropped doc gone before now) where
+  -- an element keeps its style
+  pub dropped-there : (x : ℕ) → IsElement doc x → now x ≡ before x
+  dropped-there x there =
+      dropped x ∙ (ap (λ b. cond (is_in x gone && not b) None (before x)) there ∙ ap (λ b. cond b None (before x)) (none (is_in x gone)))
+    where
+      none : (b : Bool) → (b && false) ≡ false
+      none true = refl
+      none false = refl
+
+  -- and of another number nothing is left, where nothing was kept but of these
+  pub dropped-absent : (x : ℕ) → is_element doc x ≡ false → (is_in x gone ≡ false → before x ≡ None) → now x ≡ None
+  dropped-absent x out absent =
+      dropped x ∙ (ap (λ b. cond (is_in x gone && not b) None (before x)) out ∙ by (is_in x gone) refl)
+    where
+      by : (b : Bool) → is_in x gone ≡ b → cond (b && true) None (before x) ≡ None
+      by true e = refl
+      by false e = absent e
+
+-- of a number that no element has nothing is handed on
+no_result : (doc : List Element) (x : ℕ) → is_element doc x ≡ false → (found : List walk.Styled) → AllByRecursion (λ one. IsElement doc (number_of one)) found → result_at found x ≡ None
+no_result doc x none [] h = refl
+no_result doc x none (one ∷ found) h = by (one.number == x) refl (no_result doc x none found h.1)
+  where
+    by : (b : Bool) → (one.number == x) ≡ b → result_at found x ≡ None → result_at (one ∷ found) x ≡ None
+    by true e rest = absurd (false≢true (sym none ∙ (ap (is_element doc) (sym (eqb-true one.number x e)) ∙ h.0)))
+    by false e rest =
+        ap (λ b. option_map (λ (s : walk.Styled). s.style) (cond b (Some one) (find (λ (s : walk.Styled). s.number == x) found))) e ∙ rest
+
+-- numbers of elements are given
+some-given : (d : Document) → IsSound d → (p : ℕ → Bool) (list : List ℕ) → list ≡ filter p (numbers d.elements) → AreGiven d.last list
+some-given d sound p list is x above =
+    ap (is_in x) is ∙ (among-filter p x (numbers d.elements) ∙ ap (λ b. b && p x) (sym (is_element-numbers d.elements x) ∙ no-element d sound x above))
 
 -- what a list holds of what it is seen as
 
@@ -65,108 +95,156 @@ numbers_seen (one ∷ list) = ap (λ l. one.number ∷ l) (numbers_seen list)
 
 -- of what a session is made of
 
-module _ {A : Type 0} (document : Document) (sheets : Sheets) (prepared : Prepared) (marking : Option Marking) (marks : Members) (fresh : Bool) (kept : List (Option (Arc Style A))) (recent : List ℕ) (cache : StyleCache) (was : IsSession document sheets prepared marking marks fresh kept recent cache) where
+module _ {A : Type 0} (document : Document) (sheets : Sheets) (prepared : Prepared) (marking : Option Marking) (marks : Members) (fresh : Fresh) (gone : List ℕ) (kept : List (Option (Arc Style A))) (recent : List ℕ) (cache : StyleCache) (was : IsSession document sheets prepared marking marks fresh gone kept recent cache) where
   abbrev st : Standing
-  st = standing_seen document sheets marks.items fresh kept recent
-
-  pub idle-seen : (now : List ℕ) → fresh ≡ false → marks.items ≡ [] → now ≡ [] → standing_seen document sheets marks.items fresh kept now ≡ restyled st
-  idle-seen now f m n =
-      idle_lists (scene_seen document sheets) (slot_at kept) recent marks.items now fresh was.sound f m n was.keeps
-
-  pub idle-counts : (counts : Counts) → fresh ≡ false → marks.items ≡ [] → counts.matched ≡ 0 → counts.cascaded ≡ 0 → counts ≡ counts_of st
-  idle-counts counts f m a b =
-      let none = idle_counts (scene_seen document sheets) (slot_at kept) recent marks.items fresh was.sound f m was.keeps in
-      same_counts counts (counts_of st) (a ∙ sym none.0) (b ∙ sym none.1)
-
-  pub session-idle : (now : List ℕ) → now ≡ [] → IsSession document sheets prepared marking marks fresh kept now cache
-  session-idle now n = record {
-    sound = was.sound;
-    texts = was.texts;
-    can_mark = was.can_mark;
-    unmarked = was.unmarked;
-    places = was.places;
-    keeps = keeps-lent (scene_seen document sheets) marks.items fresh (slot_at kept) recent now was.keeps;
-    once = none_twice now n;
-    fits = was.fits;
-  }
-
-  -- what a restyle asks
-  pub keeps-seen : AllKeep (standing_seen document sheets marks.items fresh kept [])
-  keeps-seen = keeps-lent (scene_seen document sheets) marks.items fresh (slot_at kept) recent [] was.keeps
+  st = standing_seen document sheets marks.items (is_fresh_in fresh) kept recent
 
   -- what a restyle leaves, once each element has its style
-  module _ {B : Type 0} (later : List (Option (Arc Style B))) (numbers : List ℕ) (done : standing_seen document sheets [] false later numbers ≡ restyled st) where
-    pub session-anew : (now : Members) (known : StyleCache) → now ≡ record { items = []; room = marks.room } → HasRoom document.elements (length later) → IsDistinct nat_eq numbers → Fits (sources_seen sheets) known.size prepared known.styler → IsSession document sheets prepared marking now false later numbers known
-    session-anew now known cleared places once fits =
-        subst (λ (m : Members). IsSession document sheets prepared marking m false later numbers known) (sym cleared)
-        (record {
-          sound = was.sound;
-          texts = was.texts;
-          can_mark = IfSome_then marking was.can_mark (λ made can. record { rows = can.rows; room = can.room; marks_room = can.marks_room });
-          unmarked = λ _. refl;
-          places = λ _. places;
-          keeps = keeps-restyled st (standing_seen document sheets [] false later numbers) was.sound done;
-          once = once;
-          fits = fits;
-        })
+  module _ {B : Type 0} (now : Members) (later : Fresh) (settled : AreSettled now later) (styles : List (Option (Arc Style B))) (numbers : List ℕ) (done : standing_seen document sheets now.items (is_fresh_in later) styles numbers ≡ restyled st) where
+    pub session-anew : (known : StyleCache) (left : List ℕ) → left ≡ [] → now.room ≡ marks.room → HasRoom document.elements (length styles) → ((x : ℕ) → is_element document.elements x ≡ false → slot_at styles x ≡ None) → AreGiven document.last numbers → IsDistinct nat_eq numbers → Fits (sources_seen sheets) known.size prepared known.styler → IsSession document sheets prepared marking now later left styles numbers known
+    session-anew known left empty room places absent given once fits = record {
+      sound = was.sound;
+      texts = was.texts;
+      can_mark = IfSome_then marking was.can_mark (λ made can. record { rows = can.rows; room = can.room; marks_room = λ x there. subst (λ n. x < n) (sym room) (can.marks_room x there) });
+      unmarked = λ _. settled.marked;
+      places = λ x there _. places x there;
+      marks_given = none_given document.last now.items settled.marked;
+      recent_given = given;
+      gone_given = none_given document.last left empty;
+      absent = λ x out _. absent x out;
+      keeps = keeps-restyled st (standing_seen document sheets now.items (is_fresh_in later) styles numbers) was.sound done;
+      once = once;
+      fits = fits;
+    }
 
-    pub others-anew : (x : ℕ) → IsElement document.elements x → is_in x (standing_seen document sheets [] false later numbers).recent ≡ false → kept_at (standing_seen document sheets [] false later numbers) x ≡ kept_at st x
-    others-anew = others-restyled st (standing_seen document sheets [] false later numbers) was.sound was.keeps done
+    pub others-anew : (x : ℕ) → IsElement document.elements x → is_in x (standing_seen document sheets now.items (is_fresh_in later) styles numbers).recent ≡ false → kept_at (standing_seen document sheets now.items (is_fresh_in later) styles numbers) x ≡ kept_at st x
+    others-anew = others-restyled st (standing_seen document sheets now.items (is_fresh_in later) styles numbers) was.sound was.keeps done
+
+  -- with nothing marked or fresh
+  module _ (settled : AreSettled marks fresh) where
+    none : (x : ℕ) → is_fresh_in fresh x ≡ false
+    none = none-fresh marks fresh settled
+
+    pub idle-seen : (styles : List (Option (Arc Style A))) (now : List ℕ) → ((x : ℕ) → IsElement document.elements x → slot_at styles x ≡ slot_at kept x) → now ≡ [] → standing_seen document sheets marks.items (is_fresh_in fresh) styles now ≡ restyled st
+    idle-seen styles =
+        idle-with (scene_seen document sheets) marks.items (is_fresh_in fresh) (slot_at kept) recent settled.marked none was.sound was.keeps (slot_at styles)
+
+    pub idle-counts : (counts : Counts) → counts.matched ≡ 0 → counts.cascaded ≡ 0 → counts ≡ counts_of st
+    idle-counts counts a b =
+        let scene = scene_seen document sheets in
+        same_counts counts (counts_of st)
+        (a ∙ sym (idle-matched scene marks.items (is_fresh_in fresh) (slot_at kept) recent settled.marked none was.sound was.keeps))
+        (b ∙ sym (idle-cascaded scene marks.items (is_fresh_in fresh) (slot_at kept) recent settled.marked none was.sound was.keeps))
+
+    pub session-idle : (styles : List (Option (Arc Style A))) (now left : List ℕ) → AreDropped document.elements gone (slot_at kept) (slot_at styles) → length styles ≡ length kept → now ≡ [] → left ≡ [] → IsSession document sheets prepared marking marks fresh left styles now cache
+    session-idle styles now left dropped long n empty =
+        session-anew marks fresh settled styles now (idle-seen styles now (dropped-there document.elements gone (slot_at kept) (slot_at styles) dropped) n) cache left empty refl
+        (λ x there. subst (λ places. x < places) (sym long) (was.places x there (none x)))
+        (λ x out. dropped-absent document.elements gone (slot_at kept) (slot_at styles) dropped x out (was.absent x out))
+        (none_given document.last now n) (none_twice now n) was.fits
 
   -- the first one
-  module _ (all : fresh ≡ true) (made : FirstStyles) (is : AreAll (scene_seen document sheets) made) where
-    abbrev fresh_st : Bool → Standing
-    fresh_st b = standing_seen document sheets marks.items b kept recent
-
-    pub first-seen : standing_seen document sheets [] false made.kept.items made.numbers.items ≡ restyled st
-    first-seen =
-        subst (λ (b : Bool). standing_seen document sheets [] false made.kept.items made.numbers.items ≡ restyled (fresh_st b)) (sym all)
-        (first-with (scene_seen document sheets) marks.items (slot_at kept) recent (slot_at made.kept.items) made.numbers.items is.styles is.order)
+  module _ (all : fresh.all ≡ true) (made : FirstStyles) (is : AreAll (scene_seen document sheets) made) where
+    pub first-seen : (now : Members) (later : Fresh) → AreSettled now later → standing_seen document sheets now.items (is_fresh_in later) made.kept.items made.numbers.items ≡ restyled st
+    first-seen now later settled =
+        first-with (scene_seen document sheets) marks.items (is_fresh_in fresh) (slot_at kept) recent (all-fresh fresh all) now.items (is_fresh_in later) settled.marked (none-fresh now later settled) (slot_at made.kept.items) made.numbers.items is.styles is.order
 
     pub first-once : IsDistinct nat_eq made.numbers.items
     first-once = subst (IsDistinct nat_eq) (sym is.order) was.sound.valid.distinct
 
+    pub first-given : AreGiven document.last made.numbers.items
+    first-given x above =
+        ap (is_in x) is.order ∙ (sym (is_element-numbers document.elements x) ∙ no-element document was.sound x above)
+
     pub first-counts : (counts : Counts) → counts.matched ≡ length made.numbers.items → counts.cascaded ≡ length made.numbers.items → counts ≡ counts_of st
     first-counts counts m l =
-        subst (λ (b : Bool). counts ≡ counts_of (fresh_st b)) (sym all)
-        (same_counts counts (counts_of (fresh_st true))
-        (m ∙ (ap length is.order ∙ first-matched (scene_seen document sheets) marks.items (slot_at kept) recent))
-        (l ∙ (ap length is.order ∙ first-cascaded (scene_seen document sheets) marks.items (slot_at kept) recent)))
-
-  -- once its walk has handed a list on
-  module _ (lent : List (Option (Arc Style A))) (same : lent ≡ kept) (styled : List Styled) (found : map styled_seen styled ≡ results (standing_seen document sheets marks.items fresh lent [])) where
-    is : map styled_seen styled ≡ results (standing_seen document sheets marks.items fresh kept [])
-    is = found ∙ ap (λ (l : List (Option (Arc Style A))). results (standing_seen document sheets marks.items fresh l [])) same
-
-    pub styled-places : fresh ≡ false → AllByRecursion (λ (one : Styled). one.number < length kept) styled
-    styled-places calm =
-        each_weaker (λ (one : Styled). IsElement document.elements one.number) (λ (one : Styled). one.number < length kept) (λ one there. was.places calm one.number there) styled
-        (each_seen (λ one. IsElement document.elements (number_of one)) styled_seen styled (found-elements (scene_seen document sheets) marks.items fresh (slot_at kept) [] was.sound keeps-seen (map styled_seen styled) is))
-
-    pub counts-seen : (counts : Counts) → counts.matched ≡ count_by (λ (one : Styled). one.matched) styled → counts.cascaded ≡ length styled → counts ≡ counts_of st
-    counts-seen counts m l =
-        let scene = scene_seen document sheets in
-        let matched = found-matched scene marks.items fresh (slot_at kept) [] was.sound keeps-seen (map styled_seen styled) is in
-        let all = found-cascaded scene marks.items fresh (slot_at kept) [] was.sound keeps-seen (map styled_seen styled) is in
-        let pass = λ (one : walk.Styled). one.matched in
         same_counts counts (counts_of st)
-        (m
-        ∙ (sym (length-filter (λ (one : Styled). one.matched) styled)
-        ∙ (sym (ap length (filter-map pass styled_seen styled) ∙ length-map (filter (λ (one : Styled). one.matched) styled) styled_seen)
-        ∙ matched)))
-        (l ∙ (sym (length-map styled styled_seen) ∙ all))
+        (m ∙ (ap length is.order ∙ first-matched (scene_seen document sheets) marks.items (is_fresh_in fresh) (slot_at kept) recent (all-fresh fresh all)))
+        (l ∙ (ap length is.order ∙ first-cascaded (scene_seen document sheets) marks.items (is_fresh_in fresh) (slot_at kept) recent (all-fresh fresh all)))
 
-    module _ (later : List (Option (Arc Style A))) (numbers : List ℕ) (placed : (x : ℕ) → slot_at later x ≡ option_or (result_at (map styled_seen styled) x) (slot_at kept x)) (named : numbers ≡ map (λ (one : Styled). one.number) styled) where
-      named_seen : numbers ≡ map number_of (map styled_seen styled)
-      named_seen = named ∙ sym (numbers_seen styled)
+  -- a later one
+  module _ (calm : fresh.all ≡ false) where
+    abbrev some : ℕ → Bool
+    some x = is_in x fresh.set.items
 
-      pub restyled-seen : standing_seen document sheets [] false later numbers ≡ restyled st
-      restyled-seen =
-          restyled-with (scene_seen document sheets) marks.items fresh (slot_at kept) [] was.sound keeps-seen (map styled_seen styled) is (slot_at later) numbers placed named_seen
+    -- the standing, where it is told whether all elements are fresh
+    abbrev seen : Bool → Standing
+    seen all = standing_seen document sheets marks.items (λ x. all || is_in x fresh.set.items) kept recent
 
-      pub session-restyled : fresh ≡ false → (now : Members) (known : StyleCache) → now ≡ record { items = []; room = marks.room } → length later ≡ length kept → Fits (sources_seen sheets) known.size prepared known.styler → IsSession document sheets prepared marking now false later numbers known
-      session-restyled calm now known cleared long fits =
-          session-anew later numbers restyled-seen now known cleared
-          (λ x there. subst (λ n. x < n) (sym long) (was.places calm x there))
-          (subst (IsDistinct nat_eq) (sym named_seen) (found-once (scene_seen document sheets) marks.items fresh (slot_at kept) [] was.sound keeps-seen (map styled_seen styled) is))
-          fits
+    -- what its walk asks
+    pub keeps-seen : AllKeep (standing_seen document sheets marks.items some kept [])
+    keeps-seen =
+        keeps-lent (scene_seen document sheets) marks.items some (slot_at kept) recent [] (subst (λ all. AllKeep (seen all)) calm was.keeps)
+
+    -- once the walk has handed a list on
+    module _ (lent : List (Option (Arc Style A))) (same : lent ≡ kept) (styled : List Styled) (found : map styled_seen styled ≡ results (standing_seen document sheets marks.items some lent [])) where
+      is : map styled_seen styled ≡ results (standing_seen document sheets marks.items some kept [])
+      is = found ∙ ap (λ (l : List (Option (Arc Style A))). results (standing_seen document sheets marks.items some l [])) same
+
+      elements : AllByRecursion (λ one. IsElement document.elements (number_of one)) (map styled_seen styled)
+      elements =
+          found-elements (scene_seen document sheets) marks.items some (slot_at kept) [] was.sound keeps-seen (map styled_seen styled) is
+
+      pub styled-places : (places : ℕ) → HasRoom document.elements places → AllByRecursion (λ (one : Styled). one.number < places) styled
+      styled-places places room =
+          each_weaker (λ (one : Styled). IsElement document.elements one.number) (λ (one : Styled). one.number < places) (λ one there. room one.number there) styled
+          (each_seen (λ one. IsElement document.elements (number_of one)) styled_seen styled elements)
+
+      pub counts-seen : (counts : Counts) → counts.matched ≡ count_by (λ (one : Styled). one.matched) styled → counts.cascaded ≡ length styled → counts ≡ counts_of st
+      counts-seen counts m l =
+          let scene = scene_seen document sheets in
+          let matched = found-matched scene marks.items some (slot_at kept) [] was.sound keeps-seen (map styled_seen styled) is in
+          let all = found-cascaded scene marks.items some (slot_at kept) [] was.sound keeps-seen (map styled_seen styled) is in
+          let pass = λ (one : walk.Styled). one.matched in
+          subst (λ all. counts ≡ counts_of (seen all)) (sym calm)
+          (same_counts counts (counts_of (seen false))
+          (m
+          ∙ (sym (length-filter (λ (one : Styled). one.matched) styled)
+          ∙ (sym (ap length (filter-map pass styled_seen styled) ∙ length-map (filter (λ (one : Styled). one.matched) styled) styled_seen)
+          ∙ matched)))
+          (l ∙ (sym (length-map styled styled_seen) ∙ all)))
+
+      module _ (now : Members) (later : Fresh) (settled : AreSettled now later) (put styles : List (Option (Arc Style A))) (numbers : List ℕ) (placed : (x : ℕ) → slot_at put x ≡ option_or (result_at (map styled_seen styled) x) (slot_at kept x)) (dropped : AreDropped document.elements gone (slot_at put) (slot_at styles)) (named : numbers ≡ map (λ (one : Styled). one.number) styled) where
+        named_seen : numbers ≡ map number_of (map styled_seen styled)
+        named_seen = named ∙ sym (numbers_seen styled)
+
+        pub restyled-seen : standing_seen document sheets now.items (is_fresh_in later) styles numbers ≡ restyled st
+        restyled-seen =
+            subst (λ all. standing_seen document sheets now.items (is_fresh_in later) styles numbers ≡ restyled (seen all)) (sym calm)
+            (restyled-with (scene_seen document sheets) marks.items some (slot_at kept) [] was.sound keeps-seen (map styled_seen styled) is now.items (is_fresh_in later) settled.marked (none-fresh now later settled) (slot_at styles) numbers
+            (λ x there. dropped-there document.elements gone (slot_at put) (slot_at styles) dropped x there ∙ placed x) named_seen)
+
+        absent : (x : ℕ) → is_element document.elements x ≡ false → slot_at styles x ≡ None
+        absent x out =
+            dropped-absent document.elements gone (slot_at put) (slot_at styles) dropped x out
+            (λ in_place. placed x ∙ (ap (λ o. option_or o (slot_at kept x)) (no_result document.elements x out (map styled_seen styled) elements) ∙ was.absent x out in_place))
+
+        given : AreGiven document.last numbers
+        given =
+            let scene = scene_seen document sheets in
+            some-given document was.sound (is_cascaded (standing_with scene marks.items some (slot_at kept) [])) numbers (named_seen ∙ found-numbers scene marks.items some (slot_at kept) [] was.sound keeps-seen (map styled_seen styled) is)
+
+        pub session-restyled : (known : StyleCache) (left : List ℕ) → left ≡ [] → now.room ≡ marks.room → HasRoom document.elements (length styles) → Fits (sources_seen sheets) known.size prepared known.styler → IsSession document sheets prepared marking now later left styles numbers known
+        session-restyled known left empty room places fits =
+            session-anew now later settled styles numbers restyled-seen known left empty room places absent given
+            (subst (IsDistinct nat_eq) (sym named_seen) (found-once (scene_seen document sheets) marks.items some (slot_at kept) [] was.sound keeps-seen (map styled_seen styled) is))
+            fits
+
+-- where memory runs out before styles are kept, only what the styler knows is another
+pub session-cached : {A : Type 0} (document : Document) (sheets : Sheets) (prepared : Prepared) (marking : Option Marking) (marks : Members) (fresh : Fresh) (gone : List ℕ) (kept now : List (Option (Arc Style A))) (recent : List ℕ) (cache later : StyleCache) → IsSession document sheets prepared marking marks fresh gone kept recent cache → Fits (sources_seen sheets) later.size prepared later.styler → now ≡ kept → IsSession document sheets prepared marking marks fresh gone now recent later
+session-cached document sheets prepared marking marks fresh gone kept now recent cache later was fits same =
+    subst (λ slots. IsSession document sheets prepared marking marks fresh gone slots recent later) (sym same)
+    (record {
+      sound = was.sound;
+      texts = was.texts;
+      can_mark = was.can_mark;
+      unmarked = was.unmarked;
+      places = was.places;
+      marks_given = was.marks_given;
+      recent_given = was.recent_given;
+      gone_given = was.gone_given;
+      absent = was.absent;
+      keeps = was.keeps;
+      once = was.once;
+      fits = fits;
+    })

@@ -8,6 +8,7 @@ use Rattle.std.proofs.lemmas.Bool.Decides.{same_from_decides}
 use Rattle.std.proofs.lemmas.List.{append-nil, drop_more, get_or-set_other, get_or-set_same, map-append, nil_from_length, take-append-drop, take_all, take_more}
 use Rattle.std.proofs.lemmas.List.Elements.{filter-append}
 use Rattle.std.proofs.lemmas.List.Folds.{list_any-append}
+use Rattle.std.proofs.Math.Bool.{or_assoc}
 use Rattle.std.proofs.lemmas.Option.{none-some, same_Some}
 use Rattle.scene_model.specs.Element.{Element}
 use Rattle.scene_model.specs.Lookups.{numbers, children, is_element, IsElement, parent_of}
@@ -98,38 +99,32 @@ due-cascaded st cache walk x there w met =
     by false false false em er ed h =
         absurd (false≢true (sym (ap (λ m. m || (parent_differs st x || root_size_differs st)) em ∙ (ap (λ d. d || root_size_differs st) ed ∙ er)) ∙ h))
 
--- the matched elements, which are put into an empty set: all where all are fresh, else the marked ones, one by one
+-- the elements of a list, which come to a set one by one
 
-pub matched-all : (doc : List Element) (order marks : List ℕ) (b : Bool) (old new : Members) → AreAdded order old new → old.items ≡ [] → order ≡ numbers doc → b ≡ true
-    → (y : ℕ) → IsElement doc y → is_in y new.items ≡ (b || is_in y marks)
-matched-all doc order marks b old new more none is fresh y there =
-    more.each y
-    ∙ (ap (λ l. is_in y l || is_in y order) none
-    ∙ (ap (is_in y) is ∙ (sym (is_element-numbers doc y) ∙ (there ∙ sym (ap (λ c. c || is_in y marks) fresh)))))
+pub in_more : (list : List ℕ) (i y : ℕ) → i < length list → is_in y (take (i + 1) list) ≡ (is_in y (take i list) || is_in y (get_or list i 0 ∷ []))
+in_more list i y below =
+    ap (is_in y) (take_more list i 0 below) ∙ list_any-append (λ z. z == y) (take i list) (get_or list i 0 ∷ [])
 
-in_more : (marks : List ℕ) (i y : ℕ) → i < length marks → is_in y (take (i + 1) marks) ≡ (is_in y (take i marks) || is_in y (get_or marks i 0 ∷ []))
-in_more marks i y below =
-    ap (is_in y) (take_more marks i 0 below) ∙ list_any-append (λ z. z == y) (take i marks) (get_or marks i 0 ∷ [])
+module _ (doc : List Element) (was : ℕ → Bool) (list : List ℕ) (i : ℕ) (below : i < length list) where
+  pub elements-more : (old new : Members) → ((y : ℕ) → IsElement doc y → is_in y old.items ≡ (was y || is_in y (take i list))) → new ≡ added old (get_or list i 0) → (y : ℕ) → IsElement doc y
+      → is_in y new.items ≡ (was y || is_in y (take (i + 1) list))
+  elements-more old new same e y there =
+      ap (λ (m : Members). is_in y m.items) e
+      ∙ ((one_added old (get_or list i 0)).each y
+      ∙ (ap (λ b. b || is_in y (get_or list i 0 ∷ [])) (same y there)
+      ∙ (or_assoc (was y) (is_in y (take i list)) (is_in y (get_or list i 0 ∷ []))
+      ∙ ap (λ b. was y || b) (sym (in_more list i y below)))))
 
-pub matched-more : (doc : List Element) (marks : List ℕ) (i : ℕ) (old new : Members) → i < length marks
-    → ((y : ℕ) → IsElement doc y → is_in y old.items ≡ is_in y (take i marks)) → new ≡ added old (get_or marks i 0) → (y : ℕ) → IsElement doc y
-    → is_in y new.items ≡ is_in y (take (i + 1) marks)
-matched-more doc marks i old new below same e y there =
-    ap (λ (m : Members). is_in y m.items) e
-    ∙ ((one_added old (get_or marks i 0)).each y
-    ∙ (ap (λ b. b || is_in y (get_or marks i 0 ∷ [])) (same y there) ∙ sym (in_more marks i y below)))
-
--- one that is no element is passed over
-pub matched-passed : (doc : List Element) (marks : List ℕ) (i : ℕ) (items : List ℕ) → i < length marks
-    → ((y : ℕ) → IsElement doc y → is_in y items ≡ is_in y (take i marks)) → is_element doc (get_or marks i 0) ≡ false → (y : ℕ) → IsElement doc y
-    → is_in y items ≡ is_in y (take (i + 1) marks)
-matched-passed doc marks i items below same none y there =
-    same y there ∙ (sym (no_more (is_in y (take i marks)) (get_or marks i 0 == y) refl) ∙ sym (in_more marks i y below))
-  where
-    no_more : (a b : Bool) → (get_or marks i 0 == y) ≡ b → (a || (b || false)) ≡ a
-    no_more a true e = absurd (false≢true (sym none ∙ (ap (is_element doc) (eqb-true (get_or marks i 0) y e) ∙ there)))
-    no_more true false e = refl
-    no_more false false e = refl
+  -- one that is no element is passed over
+  pub elements-passed : (items : List ℕ) → ((y : ℕ) → IsElement doc y → is_in y items ≡ (was y || is_in y (take i list))) → is_element doc (get_or list i 0) ≡ false → (y : ℕ) → IsElement doc y
+      → is_in y items ≡ (was y || is_in y (take (i + 1) list))
+  elements-passed items same none y there =
+      same y there ∙ ap (λ b. was y || b) (sym (no_more (is_in y (take i list)) (get_or list i 0 == y) refl) ∙ sym (in_more list i y below))
+    where
+      no_more : (a b : Bool) → (get_or list i 0 == y) ≡ b → (a || (b || false)) ≡ a
+      no_more a true e = absurd (false≢true (sym none ∙ (ap (is_element doc) (eqb-true (get_or list i 0) y e) ∙ there)))
+      no_more true false e = refl
+      no_more false false e = refl
 
 -- one more is known
 

@@ -31,27 +31,16 @@ use Rattle.session_model.proofs.ListedLemmas.{among-numbers}
 use Rattle.session_model.proofs.SameLemmas.{same_style-Decides}
 use Rattle.session_model.proofs.SlotLemmas.{listed-placed}
 use Rattle.style_session.specs.Lent.{lent}
-use Rattle.style_session.specs.SessionView.{slot_at, standing_seen}
+use Rattle.style_session.specs.SessionView.{scene_seen, slot_at, standing_seen}
 use Rattle.style_session.specs.Sessions.{AreOfTexts}
 use Rattle.style_session.specs.declared.lists.Lists.{Lists}
+use Rattle.style_session.proofs.SessionLemmas.{matched-with}
 
 -- the marked and the fresh elements
 
-among_fresh : (els : List Element) (b : Bool) (x : ℕ) → IsElement els x → is_in x (cond b (numbers els) []) ≡ b
-among_fresh els true x there = sym (is_element-numbers els x) ∙ there
-among_fresh els false x there = refl
-
-or_turned : (a b : Bool) → (a || b) ≡ (b || a)
-or_turned true true = refl
-or_turned true false = refl
-or_turned false true = refl
-or_turned false false = refl
-
-pub matched-seen : {A : Type 0} (document : Document) (sheets : Sheets) (marks : List ℕ) (is_fresh : Bool) (kept : List (Option (Arc Style A))) (x : ℕ) → IsElement document.elements x → (is_fresh || is_in x marks) ≡ is_matched (standing_seen document sheets marks is_fresh kept []) x
-matched-seen document sheets marks is_fresh kept x there =
-    or_turned is_fresh (is_in x marks)
-    ∙ (ap (λ b. b || is_fresh) (sym (among-numbers document.elements (λ y. is_in y marks) x there))
-    ∙ ap (λ b. is_in x (filter (λ y. is_in y marks) (numbers document.elements)) || b) (sym (among_fresh document.elements is_fresh x there)))
+pub matched-seen : {A : Type 0} (document : Document) (sheets : Sheets) (marks : List ℕ) (fresh : ℕ → Bool) (kept : List (Option (Arc Style A))) (x : ℕ) → IsElement document.elements x → (is_in x marks || fresh x) ≡ is_matched (standing_seen document sheets marks fresh kept []) x
+matched-seen document sheets marks fresh kept x there =
+    sym (matched-with (scene_seen document sheets) marks fresh (slot_at kept) [] x there)
 
 -- the kept style of an element
 pub lent-kept : (inputs : Inputs) (lists : Lists) (x : ℕ) → IsSound inputs.doc.now → IsElement inputs.doc.now.elements x → kept_at (lent inputs lists) x ≡ slot_at lists.kept.now x

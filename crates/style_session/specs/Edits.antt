@@ -1,23 +1,81 @@
--- What an edit of a session adds to its marks.
-use Rattle.std.specs.Prelude.{◌≡◌, ℕ, ◌||◌, List}
+-- What an edit of a session adds to its marks, to what is fresh and to what is gone.
+use Rattle.std.specs.Prelude.{◌≡◌, ⊤, ℕ, ◌<◌, ◌||◌, List, Bool, false, true}
 use Rattle.std.specs.List.Sorted.{IsPermutation}
 use Rattle.scene_model.specs.Element.{Element}
+use Rattle.scene_model.specs.Document.{Document}
+use Rattle.scene_model.specs.Lookups.{IsElement, is_element}
 use Rattle.scene_model.specs.Numbers.{is_in}
 use Rattle.selector_model.specs.Selector.{Selector}
 use Rattle.sheet_model.specs.Sources.{Sources}
+use Rattle.edit_model.specs.Apply.{applied, is_fresh}
+use Rattle.edit_model.specs.Edit.{DocEdit, insert, remove, move, set, unset, set_state}
+use Rattle.edit_model.specs.Refusal.{accepted}
 use Rattle.edit_model.specs.Marked.{is_marked}
-use Rattle.invalidation_map.specs.Marks.{IsGrown}
-use Rattle.invalidation_map.specs.Members.{Members}
 use Rattle.invalidation_map.specs.Rows.{Row, rows_of}
+use Rattle.invalidation_map.specs.Steps.{HasRoom}
 use Rattle.session_model.specs.Marking.{selectors_of}
+use Rattle.style_session.specs.declared.fresh.Fresh.{Fresh}
 
 -- for every list of selectors with these rows, in whatever order, what an edit marks by them
-abbrev pub AddsMarks : List Element → List Element → List Row → Members → Members → Type 0
+abbrev pub AddsMarks : List Element → List Element → List Row → List ℕ → List ℕ → Type 0
 AddsMarks before now rows old new =
     (selectors : List Selector) → IsPermutation (rows_of selectors) rows
-    → IsGrown (is_marked before now selectors) old new
+    → (x : ℕ) → is_in x new ≡ (is_in x old || is_marked before now selectors x)
 
 -- the numbers that were marked, and those that an edit marks by the selectors of these rules
 abbrev pub AreMarkedToo : List Element → List Element → Sources → List ℕ → List ℕ → Type 0
 AreMarkedToo before now sources old new =
     (x : ℕ) → is_in x new ≡ (is_in x old || is_marked before now (selectors_of sources) x)
+
+-- what was fresh still is, and so is what an edit makes fresh
+pub record AreFreshToo (old new : Document) (edit : DocEdit) (fresh now : Fresh) : Type 0 where
+  pub all : now.all ≡ fresh.all
+  pub each : (x : ℕ) → IsElement new.elements x
+      → is_in x now.set.items ≡ (is_in x fresh.set.items || is_fresh old edit x)
+
+-- numbers of removed elements, with those that an edit removes
+pub record AreGoneToo (old new : Document) (gone now : List ℕ) : Type 0 where
+  pub stays : (x : ℕ) → is_in x gone ≡ true → is_in x now ≡ true
+  pub removed : (x : ℕ) → IsElement old.elements x → is_element new.elements x ≡ false → is_in x now ≡ true
+  pub of_old : (x : ℕ) → is_in x now ≡ true → is_in x gone ≡ false → IsElement old.elements x
+
+-- nothing is fresh but what was
+pub record IsFreshStill (fresh now : Fresh) : Type 0 where
+  pub all : now.all ≡ fresh.all
+  pub items : now.set.items ≡ fresh.set.items
+
+-- Which edits change lists of children, and which do what.
+
+abbrev pub is_in_place : DocEdit → Bool
+is_in_place (insert p index nodes) = false
+is_in_place (remove n) = false
+is_in_place (move n p index) = false
+is_in_place edit = true
+
+abbrev pub IsRemoval : DocEdit → Type 0
+IsRemoval (remove n) = ⊤
+IsRemoval edit = ⊥
+
+abbrev pub MakesFresh : DocEdit → Type 0
+MakesFresh (insert p index nodes) = ⊤
+MakesFresh (move n p index) = ⊤
+MakesFresh edit = ⊥
+
+-- what an edit takes out is an element
+abbrev pub TakesElement : List Element → DocEdit → Type 0
+TakesElement doc (remove n) = IsElement doc n
+TakesElement doc edit = ⊤
+
+-- and what it moves
+abbrev pub MovesElement : List Element → DocEdit → Type 0
+MovesElement doc (move n p index) = IsElement doc n
+MovesElement doc edit = ⊤
+
+-- Room for what an edit comes to: to mark each element that is there afterwards, to make those fresh that it gives or
+-- moves, and to keep the numbers of those that it takes out.
+pub record HasRoomFor (d : Document) (edit : DocEdit) (marker_room marks_room fresh_room gone_room : ℕ) : Type 0 where
+  pub marker : (new : Document) → applied d edit ≡ accepted new → HasRoom new.elements marker_room
+  pub marks : (new : Document) → applied d edit ≡ accepted new → HasRoom new.elements marks_room
+  pub fresh : (new : Document) → applied d edit ≡ accepted new → MakesFresh edit → new.last < fresh_room
+  pub gone : IsRemoval edit → HasRoom d.elements gone_room
+  pub there : TakesElement d.elements edit

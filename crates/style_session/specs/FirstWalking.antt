@@ -1,8 +1,8 @@
 -- What a first walk in tree order has found out.
-use Rattle.std.specs.Prelude.{◌≡◌, ℕ, ◌<◌, ◌==◌, List, length, true, if◌then◌else◌, min, Option, Some, slice_get, slice_set}
+use Rattle.std.specs.Prelude.{◌≡◌, ℕ, ◌<◌, ◌==◌, List, length, false, if◌then◌else◌, min, Option, None, Some, slice_get, slice_set}
 use Rattle.std.specs.declared.sync.Arc.{Arc}
 use Rattle.scene_model.specs.Element.{Element}
-use Rattle.scene_model.specs.Lookups.{IsElement, numbers}
+use Rattle.scene_model.specs.Lookups.{IsElement, is_element, numbers}
 use Rattle.scene_model.specs.Numbers.{is_in}
 use Rattle.value_model.specs.Style.{Style}
 use Rattle.invalidation_map.specs.Steps.{HasRoom}
@@ -20,15 +20,17 @@ unknown = 4294967295
 abbrev pub place_of : ℕ → ℕ
 place_of style = min style unknown
 
--- the styles of all elements, at their places by number, and the numbers in tree order
+-- the styles of all elements and no others, at their places by number, and the numbers in tree order
 pub record AreAll (scene : Scene) (made : FirstStyles) : Type 0 where
   pub styles : (x : ℕ) → IsElement (elements_of scene) x → slot_at made.kept.items x ≡ Some (style_in scene x)
+  pub absent : (x : ℕ) → is_element (elements_of scene) x ≡ false → slot_at made.kept.items x ≡ None
   pub places : HasRoom (elements_of scene) (length made.kept.items)
   pub order : made.numbers.items ≡ numbers (elements_of scene)
 
--- these elements have their styles at their places
+-- these elements have their styles at their places, and no others
 abbrev pub AreKept : {A : Type 0} → Scene → List ℕ → List (Option (Arc Style A)) → Type 0
-AreKept scene front kept = (x : ℕ) → is_in x front ≡ true → slot_at kept x ≡ Some (style_in scene x)
+AreKept scene front kept =
+    (x : ℕ) → slot_at kept x ≡ (if is_in x front then Some (style_in scene x) else None)
 
 -- where a number is kept of an element's style, it is the one of this style in the table
 abbrev pub IsRight : List Style → List ℕ → ℕ → Style → Type 0
@@ -48,8 +50,9 @@ pub record Keeps (x style : ℕ) (own : Style) (old now : FirstWalk) : Type 0 wh
   pub kept : (y : ℕ) → slot_at now.kept.items y ≡ (if x == y then Some own else slot_at old.kept.items y)
   pub known : now.known.items ≡ slice_set old.known.items x (place_of style)
 
--- there are places for all elements, and nothing is known yet
+-- there are places for all elements, without styles, and nothing is known yet
 pub record IsBareFirst (doc : List Element) (walk : FirstWalk) : Type 0 where
   pub places : HasRoom doc (length walk.kept.items)
+  pub empty : (x : ℕ) → slot_at walk.kept.items x ≡ None
   pub room : HasRoom doc (length walk.known.items)
   pub known : (x n : ℕ) → slice_get walk.known.items x ≡ Some n → n ≡ unknown

@@ -1,5 +1,6 @@
 -- The standing of what a session lends to a restyle.
 use Rattle.std.specs.Prelude.{[]}
+use Rattle.scene_model.specs.Numbers.{is_in}
 use Rattle.plain_style.specs.declared.prepared.Inputs.{Inputs}
 use Rattle.session_model.specs.Standing.{Scene, Standing}
 use Rattle.style_session.specs.SessionView.{scene_seen, standing_seen}
@@ -11,4 +12,5 @@ scene_lent inputs = scene_seen inputs.doc.now inputs.sheets.now
 
 abbrev pub lent : Inputs → Lists → Standing
 lent inputs lists =
-    standing_seen inputs.doc.now inputs.sheets.now lists.marks.now.items lists.is_fresh lists.kept.now []
+    standing_seen inputs.doc.now inputs.sheets.now lists.marks.now.items (λ x. is_in x lists.fresh.now.items)
+    lists.kept.now []

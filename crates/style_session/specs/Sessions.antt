@@ -1,9 +1,11 @@
 -- What holds of a session.
-use Rattle.std.specs.Prelude.{◌≡◌, ℕ, nat_eq, [], List, length, map, Bool, false, Option, None, IfSome}
+use Rattle.std.specs.Prelude.{◌≡◌, ℕ, ◌<◌, nat_eq, [], List, length, map, false, Option, None, IfSome}
 use Rattle.std.specs.List.{IsDistinct}
 use Rattle.std.specs.List.Sorted.{IsPermutation}
 use Rattle.std.specs.declared.sync.Arc.{Arc}
 use Rattle.scene_model.specs.Document.{Document}
+use Rattle.scene_model.specs.Lookups.{IsElement, is_element}
+use Rattle.scene_model.specs.Numbers.{is_in}
 use Rattle.change_model.specs.Sound.{IsSound}
 use Rattle.value_model.specs.Style.{Style}
 use Rattle.sheet_model.specs.Sources.{Sources, layers_of_sheets, rules_of_sheets}
@@ -17,7 +19,8 @@ use Rattle.invalidation_map.specs.RowView.{rows_in}
 use Rattle.invalidation_map.specs.Steps.{HasRoom}
 use Rattle.session_model.specs.Marking.{selectors_of}
 use Rattle.session_model.specs.StandingInvariant.{AllKeep}
-use Rattle.style_session.specs.SessionView.{standing_seen}
+use Rattle.style_session.specs.SessionView.{is_fresh_in, slot_at, standing_seen}
+use Rattle.style_session.specs.declared.fresh.Fresh.{Fresh}
 use Rattle.style_session.specs.declared.marking.Marking.{Marking}
 use Rattle.style_session.specs.declared.style_cache.StyleCache.{StyleCache}
 
@@ -32,18 +35,27 @@ pub record CanMark (document : Document) (sources : Sources) (marks : Members) (
   pub room : HasRoom document.elements marking.marker
   pub marks_room : HasRoom document.elements marks.room
 
+-- no number above the last one that was given is in the list
+abbrev pub AreGiven : ℕ → List ℕ → Type 0
+AreGiven last list = (x : ℕ) → last < x → is_in x list ≡ false
+
 -- The document is sound, and the sheets are of their texts. Before an edit was accepted nothing is marked, and then
--- what marks is there. After a restyle there is a place for the style of each element. An element that is neither
--- marked nor fresh keeps its style. What the styler knows is right for the sheets and the font size that it is kept
--- with.
+-- what marks is there. There is a place for the style of each element that is not fresh, and styles are kept of no
+-- other numbers than those of elements and of those that were removed since the last restyle. An element that is
+-- neither marked nor fresh keeps its style. What the styler knows is right for the sheets and the font size that it is
+-- kept with.
 pub record IsSession {A : Type 0} (document : Document) (sheets : Sheets) (prepared : Prepared)
-    (marking : Option Marking) (marks : Members) (is_fresh : Bool) (kept : List (Option (Arc Style A)))
+    (marking : Option Marking) (marks : Members) (fresh : Fresh) (gone : List ℕ) (kept : List (Option (Arc Style A)))
     (recent : List ℕ) (cache : StyleCache) : Type 0 where
   pub sound : IsSound document
   pub texts : AreOfTexts sheets
   pub can_mark : IfSome marking (CanMark document (sources_seen sheets) marks)
   pub unmarked : marking ≡ None → marks.items ≡ []
-  pub places : is_fresh ≡ false → HasRoom document.elements (length kept)
-  pub keeps : AllKeep (standing_seen document sheets marks.items is_fresh kept recent)
+  pub places : (x : ℕ) → IsElement document.elements x → is_fresh_in fresh x ≡ false → x < length kept
+  pub marks_given : AreGiven document.last marks.items
+  pub recent_given : AreGiven document.last recent
+  pub gone_given : AreGiven document.last gone
+  pub absent : (x : ℕ) → is_element document.elements x ≡ false → is_in x gone ≡ false → slot_at kept x ≡ None
+  pub keeps : AllKeep (standing_seen document sheets marks.items (is_fresh_in fresh) kept recent)
   pub once : IsDistinct nat_eq recent
   pub fits : Fits (sources_seen sheets) cache.size prepared cache.styler

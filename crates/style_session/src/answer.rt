@@ -5,7 +5,9 @@ ghost use Rattle.std.specs.List.{list_any};
 ghost use Rattle.scene_model.specs.Ancestors.{ancestors};
 ghost use Rattle.scene_model.specs.Lookups.{IsElement};
 ghost use Rattle.scene_model.specs.Numbers.{is_in};
+ghost use Rattle.style_session.specs.SessionView.{is_fresh_in};
 
+use crate::fresh::{Fresh, is_matched, is_settled};
 use dom_tree::Doc;
 use invalidation_map::ElementSet;
 use style_value::Style;
@@ -21,29 +23,26 @@ pub enum StyleAnswer<'a> {
     NoNode,
 }
 
-/// Whether all elements are fresh, or this one is marked or one above it. Where nothing is marked, it
-/// looks at no element.
-pub(crate) fn is_open(doc: &Doc, marks: &ElementSet, is_fresh: bool, x: u32) -> bool
+/// Whether this element is marked or fresh, or one above it. Where nothing is, it looks at no element.
+pub(crate) fn is_open(doc: &Doc, marks: &ElementSet, fresh: &Fresh, x: u32) -> bool
     requires { IsElement doc.now.elements x }
-    ensures { result ≡ (is_fresh
-        || list_any (λ y. is_in y marks.now.items) (x ∷ ancestors doc.now.elements x)) }
+    ensures { result ≡ list_any (λ y. is_in y marks.now.items || is_fresh_in fresh.now y)
+        (x ∷ ancestors doc.now.elements x) }
 {
-    if is_fresh {
-        return true;
-    }
-    if marks.as_slice().is_empty() {
+    if is_settled(marks, fresh) {
         return false;
     }
-    is_marked_up(doc, marks, x)
+    is_matched_up(doc, marks, fresh, x)
 }
 
-/// Whether this element is marked, or one above it.
-fn is_marked_up(doc: &Doc, marks: &ElementSet, x: u32) -> bool
+/// Whether this element is marked or fresh, or one above it.
+fn is_matched_up(doc: &Doc, marks: &ElementSet, fresh: &Fresh, x: u32) -> bool
     requires { IsElement doc.now.elements x }
-    ensures { result ≡ list_any (λ y. is_in y marks.now.items) (x ∷ ancestors doc.now.elements x) }
+    ensures { result ≡ list_any (λ y. is_in y marks.now.items || is_fresh_in fresh.now y)
+        (x ∷ ancestors doc.now.elements x) }
 {
     let mut at = x;
-    while !marks.contains(at) {
+    while !is_matched(marks, fresh, at) {
         let Some(parent) = doc.parent(at) else {
             return false;
         };

@@ -1,10 +1,11 @@
 //! What a session starts with.
 
-ghost use Rattle.std.specs.Prelude.{◌≡◌, [], IfOk};
+ghost use Rattle.std.specs.Prelude.{◌≡◌, [], IfOk, true};
 ghost use Rattle.change_model.specs.Sound.{IsSound};
 ghost use Rattle.sheet_set.specs.View.{sources_seen};
 ghost use Rattle.plain_style.specs.Fits.{Fits};
 
+use crate::fresh::Fresh;
 use crate::style_cache::StyleCache;
 use dom_tree::Doc;
 use invalidation_map::ElementSet;
@@ -19,6 +20,10 @@ pub(crate) struct Beginning {
     pub prepared: Prepared,
     /// None.
     pub marks: ElementSet,
+    /// All elements.
+    pub fresh: Fresh,
+    /// None.
+    pub gone: ElementSet,
     pub cache: StyleCache,
 }
 
@@ -27,6 +32,8 @@ impl Beginning {
     pub(crate) fn of(alloc: Global, doc: &Doc, sheets: &Sheets) -> Result<Beginning, NoMemory>
         ensures sound { IsSound doc.now }
         ensures marks { IfOk result (λ begun. begun.marks.items ≡ []) }
+        ensures fresh { IfOk result (λ begun. begun.fresh.all ≡ true) }
+        ensures gone { IfOk result (λ begun. begun.gone.items ≡ []) }
         ensures fits { IfOk result (λ begun.
             Fits (sources_seen sheets.now) begun.cache.size begun.prepared begun.cache.styler) }
     {
@@ -38,6 +45,8 @@ impl Beginning {
         Ok(Beginning {
             prepared,
             marks,
+            fresh: Fresh::start(alloc)?,
+            gone: ElementSet::new(alloc, 0)?,
             cache,
         })
     }

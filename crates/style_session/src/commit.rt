@@ -1,6 +1,6 @@
 //! The end of a restyle: the new styles come to their places.
 
-ghost use Rattle.std.specs.Prelude.{◌≡◌, ◌<◌, ℕ, IfOk, Some, [], false, length, map};
+ghost use Rattle.std.specs.Prelude.{◌≡◌, ◌<◌, ◌==◌, ◌≤◌, ℕ, IfOk, OnErr, OnOk, None, Some, [], if◌then◌else◌, length, map};
 ghost use Rattle.std.specs.List.{AllByRecursion};
 ghost use Rattle.std.specs.Option.{option_or};
 ghost use Rattle.sheet_set.specs.View.{sources_seen};
@@ -9,7 +9,7 @@ ghost use Rattle.session_model.specs.StandingInvariant.{AllKeep};
 ghost use Rattle.session_model.specs.Walk.{result_at, results};
 ghost use Rattle.style_session.specs.Answers.{styled_seen};
 ghost use Rattle.style_session.specs.Lent.{lent};
-ghost use Rattle.style_session.specs.SessionView.{slot_at};
+ghost use Rattle.style_session.specs.SessionView.{is_gone, slot_at};
 ghost use Rattle.style_session.specs.Sessions.{AreOfTexts};
 
 use crate::counts::Counts;
@@ -17,6 +17,7 @@ use crate::lists::Lists;
 use crate::style_cache::StyleCache;
 use crate::styled::Styled;
 use crate::walk::restyled;
+use dom_tree::Doc;
 use invalidation_map::ElementSet;
 use io_edges::Gate;
 use plain_style::Inputs;
@@ -69,6 +70,25 @@ fn numbers_of(alloc: Global, list: &[Styled]) -> Result<Vec<u32>, NoMemory>
     Ok(numbers)
 }
 
+/// Makes places for styles, where there are fewer than so many. After an error there are as many as before.
+pub(crate) fn make_places(kept: &mut Vec<Option<Arc<Style>>>, places: usize) -> Result<(), NoMemory>
+    ensures styles { (x : ℕ) → slot_at kept.new.items x ≡ slot_at kept.old.items x }
+    ensures places { OnOk result (places ≤ length kept.new.items) }
+    ensures more { length kept.old.items ≤ length kept.new.items }
+    ensures kept { OnErr result (kept.new.items ≡ kept.old.items) }
+{
+    let there = kept.len();
+    if places <= there {
+        return Ok(());
+    }
+    let more = places - there;
+    kept.reserve(more)?;
+    for _ in 0..more {
+        kept.push_reserved(None);
+    }
+    Ok(())
+}
+
 /// Keeps the new style of each element of a list at its place. It takes no memory.
 pub(crate) fn keep_all(list: Vec<Styled>, kept: &mut Vec<Option<Arc<Style>>>)
     requires { AllByRecursion (λ one. one.number < length kept.old.items) list.items }
@@ -90,13 +110,31 @@ pub(crate) fn keep(place: &mut Option<Arc<Style>>, style: Arc<Style>)
     *place = Some(style);
 }
 
-/// Nothing is marked or fresh any more. It takes no memory.
-pub(crate) fn settle(marks: &mut ElementSet, is_fresh: &mut bool)
-    ensures marks { marks.new ≡ record { items = []; room = marks.old.room } }
-    ensures fresh { is_fresh.new ≡ false }
+/// Drops the styles of those numbers of a set that no element has any more, and empties the set. It takes no
+/// memory.
+pub(crate) fn drop_gone(doc: &Doc, gone: &mut ElementSet, kept: &mut Vec<Option<Arc<Style>>>)
+    ensures styles { (x : ℕ) → slot_at kept.new.items x
+        ≡ (if is_gone doc.now.elements gone.old.items x then None else slot_at kept.old.items x) }
+    ensures places { length kept.new.items ≡ length kept.old.items }
+    ensures none { gone.new.items ≡ [] }
 {
-    marks.clear();
-    *is_fresh = false;
+    for x in gone.as_slice() {
+        if !doc.contains(*x) {
+            drop_style(kept, *x);
+        }
+    }
+    gone.clear();
+}
+
+/// Drops the style at the place of a number, if one is there.
+fn drop_style(kept: &mut Vec<Option<Arc<Style>>>, x: u32)
+    ensures styles { (y : ℕ) → slot_at kept.new.items y
+        ≡ (if x == y then None else slot_at kept.old.items y) }
+    ensures places { length kept.new.items ≡ length kept.old.items }
+{
+    if (x as usize) < kept.len() {
+        kept[x as usize] = None;
+    }
 }
 
 /// A restyle with nothing marked or fresh: it cascades no element.

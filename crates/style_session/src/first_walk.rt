@@ -13,15 +13,14 @@ ghost use Rattle.invalidation_map.specs.Steps.{HasRoom};
 ghost use Rattle.session_model.specs.Standing.{style_in};
 ghost use Rattle.style_session.specs.FirstWalking.{AreAll, AreKept, IsBareFirst, IsFirstWalk, IsRight, Keeps, place_of as model_place_of};
 ghost use Rattle.style_session.specs.Lent.{scene_lent};
-ghost use Rattle.style_session.specs.SessionView.{AreEmpty, slot_at};
+ghost use Rattle.style_session.specs.SessionView.{slot_at};
 ghost use Rattle.style_session.specs.Sessions.{AreOfTexts};
 
-use crate::commit::keep;
+use crate::commit::{keep, make_places};
 use crate::lists::kept_style;
 use crate::style_cache::StyleCache;
 use io_edges::Gate;
 use plain_style::Inputs;
-use std::alloc::Global;
 use std::sync::Arc;
 use style_value::Style;
 use stylo_base::NoMemory;
@@ -81,8 +80,10 @@ impl FirstWalk {
         ensures { IfOk result (λ walk. IsBareFirst inputs.now.doc.now.elements walk) }
     {
         let places = inputs.doc.last() + 1;
+        let mut kept = Vec::new(inputs.alloc);
+        make_places(&mut kept, places)?;
         Ok(FirstWalk {
-            kept: empty_places(inputs.alloc, places)?,
+            kept,
             known: vec![in inputs.alloc; UNKNOWN; places]?,
         })
     }
@@ -184,18 +185,6 @@ impl FirstWalk {
         numbers.extend_from_slice(order)?;
         Ok(FirstStyles { kept, numbers })
     }
-}
-
-/// So many places, and no style.
-fn empty_places(alloc: Global, places: usize) -> Result<Vec<Option<Arc<Style>>>, NoMemory>
-    ensures places { IfOk result (λ kept. length kept.items ≡ places) }
-    ensures empty { IfOk result (λ kept. AreEmpty kept.items) }
-{
-    let mut kept = Vec::with_capacity(alloc, places)?;
-    for _ in 0..places {
-        kept.push_reserved(None);
-    }
-    Ok(kept)
 }
 
 /// The number of a style in 32 bits, if it has so few.

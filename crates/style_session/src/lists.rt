@@ -4,10 +4,12 @@ ghost use Rattle.std.specs.Prelude.{◌≡◌, [], not, option_map};
 ghost use Rattle.std.specs.Arc.{arc_value};
 ghost use Rattle.scene_model.specs.Document.{Document};
 ghost use Rattle.scene_model.specs.Lookups.{IsElement};
+ghost use Rattle.scene_model.specs.Numbers.{is_in};
 ghost use Rattle.sheet_set.specs.declared.sheets.Sheets.{Sheets};
 ghost use Rattle.session_model.specs.Standing.{has_size, is_matched as model_is_matched, is_style};
 ghost use Rattle.style_session.specs.SessionView.{slot_at, standing_seen};
 
+use crate::fresh::is_in_either;
 use invalidation_map::ElementSet;
 use std::sync::Arc;
 use style_value::Style;
@@ -18,8 +20,8 @@ use stylo_base::Fixed;
 pub(crate) struct Lists<'a> {
     /// The marked elements.
     pub marks: &'a ElementSet,
-    /// Whether all elements are fresh.
-    pub is_fresh: bool,
+    /// The fresh elements: the first restyle, for which all are, has a walk of its own.
+    pub fresh: &'a ElementSet,
     /// By number: the style that the element had at the last restyle, if it was there.
     pub kept: &'a [Option<Arc<Style>>],
 }
@@ -28,10 +30,10 @@ impl Lists<'_> {
     /// Whether the rules of an element are to be matched: it is marked or fresh.
     pub(crate) fn is_matched(&self, x: u32) -> bool
         ensures { (document : Document) (sheets : Sheets) → IsElement document.elements x → result
-            ≡ model_is_matched (standing_seen document sheets self.now.marks.now.items self.now.is_fresh
-            self.now.kept.now []) x }
+            ≡ model_is_matched (standing_seen document sheets self.now.marks.now.items
+            (λ y. is_in y self.now.fresh.now.items) self.now.kept.now []) x }
     {
-        self.is_fresh || self.marks.contains(x)
+        is_in_either(self.marks, self.fresh, x)
     }
 
     /// The kept style of an element.

@@ -1,21 +1,24 @@
 //! What marks elements.
 
-ghost use Rattle.std.specs.Prelude.{◌≡◌, ℕ, IfErr, IfOk, IfSome, None, OnErr, OnOk, [], option_map, unwrap_or};
+ghost use Rattle.std.specs.Prelude.{◌≡◌, IfErr, IfOk, IfSome, None, OnErr, OnOk, [], option_map, unwrap_or};
 ghost use Rattle.std.specs.List.Sorted.{IsPermutation};
-ghost use Rattle.scene_model.specs.Lookups.{IsElement};
+ghost use Rattle.change_model.specs.Sound.{IsSound};
 ghost use Rattle.stylo_base.specs.declared.refusal.EditRefused.TheVariants.{NoMemory as out_of_memory};
 ghost use Rattle.edit_model.specs.Apply.{applied, refusal as model_refusal};
+ghost use Rattle.edit_model.specs.Edit.{IsShaped};
 ghost use Rattle.edit_model.specs.Refusal.{accepted};
-ghost use Rattle.dom_edits.specs.EditView.{element_edit_seen, refusal_answered};
+ghost use Rattle.dom_edits.specs.EditView.{doc_edit_seen, refusal_answered};
 ghost use Rattle.invalidation_map.specs.Rows.{rows_of};
 ghost use Rattle.invalidation_map.specs.RowView.{rows_in};
 ghost use Rattle.invalidation_map.specs.Steps.{HasRoom};
 ghost use Rattle.sheet_set.specs.View.{sources_seen};
 ghost use Rattle.session_model.specs.Marking.{selectors_of};
-ghost use Rattle.style_session.specs.Edits.{AddsMarks, AreMarkedToo};
+ghost use Rattle.style_session.specs.Edits.{AddsMarks, AreFreshToo, AreGoneToo, AreMarkedToo, IsFreshStill};
 ghost use Rattle.style_session.specs.Sessions.{CanMark};
 
-use dom_edits::{ElementEdit, apply_in_place, refusal_in_place};
+use crate::fresh::Fresh;
+use crate::list_edits::{freshen, make_room, take_away};
+use dom_edits::{DocEdit, apply, refusal};
 use dom_tree::Doc;
 use invalidation_map::{Dependencies, ElementSet, Marker};
 use sheet_set::Sheets;
@@ -45,64 +48,89 @@ impl Marking {
         })
     }
 
-    /// Edits a document, and adds what the edit marks. After an error all is as it was.
+    /// Edits a document. Adds what the edit marks, what it makes fresh, and the numbers of what it takes out.
+    /// After an error the document is as it was, and nothing more is marked or fresh.
     fn edit(
         &mut self,
         alloc: Global,
         doc: &mut Doc,
         marks: &mut ElementSet,
-        edit: &ElementEdit,
+        fresh: &mut Fresh,
+        gone: &mut ElementSet,
+        edit: &DocEdit,
     ) -> Result<(), EditRefused>
+        requires sound { IsSound doc.old }
         requires room { HasRoom doc.old.elements self.old.marker }
         requires marks { HasRoom doc.old.elements marks.old.room }
-        ensures accepted { OnOk result (applied doc.old (element_edit_seen edit.now) ≡ accepted doc.new) }
+        ensures accepted { OnOk result (applied doc.old (doc_edit_seen edit.now) ≡ accepted doc.new) }
         ensures marked { OnOk result (AddsMarks doc.old.elements doc.new.elements
-            (rows_in self.old.dependencies) marks.old marks.new) }
+            (rows_in self.old.dependencies) marks.old.items marks.new.items) }
+        ensures fresh { OnOk result (AreFreshToo doc.old doc.new (doc_edit_seen edit.now) fresh.old fresh.new) }
+        ensures gone { OnOk result (AreGoneToo doc.old doc.new gone.old.items gone.new.items) }
+        ensures shaped { IsShaped (doc_edit_seen edit.now) }
         ensures refused { IfErr result (λ why. why ≡ unwrap_or (option_map refusal_answered
-            (model_refusal doc.old (element_edit_seen edit.now))) out_of_memory) }
+            (model_refusal doc.old (doc_edit_seen edit.now))) out_of_memory) }
         ensures kept { OnErr result (doc.new ≡ doc.old) }
-        ensures marks { OnErr result (marks.new ≡ marks.old) }
-        ensures elements { (x : ℕ) → IsElement doc.new.elements x → IsElement doc.old.elements x }
-        ensures room { marks.new.room ≡ marks.old.room }
-        ensures same { self.new ≡ self.old }
+        ensures unmarked { OnErr result (marks.new.items ≡ marks.old.items) }
+        ensures still { OnErr result (IsFreshStill fresh.old fresh.new) }
+        ensures left { OnErr result (AreGoneToo doc.old doc.old gone.old.items gone.new.items) }
+        ensures room { HasRoom doc.new.elements self.new.marker }
+        ensures marks { HasRoom doc.new.elements marks.new.room }
+        ensures same { self.new.dependencies ≡ self.old.dependencies }
     {
-        let touched = apply_in_place(alloc, doc, edit)?;
+        // The count is not asked: the call tells that new nodes are a list.
+        let _count = edit.new_count();
+        make_room(alloc, doc, &mut self.marker, marks, fresh, gone, edit)?;
+        // From here on only the edit itself takes memory.
+        take_away(doc, &mut self.marker, gone, edit);
+        let before = doc.last() as u32;
+        let touched = apply(alloc, doc, edit)?;
+        freshen(doc, &mut self.marker, fresh, before, &touched, edit);
         self.marker.mark(doc, &touched, &self.dependencies, marks);
         Ok(())
     }
 }
 
-/// Edits a document, and adds what the edit marks. What marks elements is made at the first edit that
-/// nothing refuses. After an error the document and the marks are as they were.
+/// Edits a document. Adds what the edit marks, what it makes fresh, and the numbers of what it takes out. What
+/// marks elements is made at the first edit that nothing refuses. After an error the document is as it was,
+/// and nothing more is marked or fresh.
 pub(crate) fn edit_marked(
     alloc: Global,
     doc: &mut Doc,
     sheets: &Sheets,
     marking: &mut Option<Marking>,
     marks: &mut ElementSet,
-    edit: &ElementEdit,
+    fresh: &mut Fresh,
+    gone: &mut ElementSet,
+    edit: &DocEdit,
 ) -> Result<(), EditRefused>
+    requires sound { IsSound doc.old }
     requires can_mark { IfSome marking.old (CanMark doc.old (sources_seen sheets.now) marks.old) }
     requires unmarked { marking.old ≡ None → marks.old.items ≡ [] }
-    ensures accepted { OnOk result (applied doc.old (element_edit_seen edit.now) ≡ accepted doc.new) }
+    ensures accepted { OnOk result (applied doc.old (doc_edit_seen edit.now) ≡ accepted doc.new) }
     ensures marked { OnOk result (AreMarkedToo doc.old.elements doc.new.elements (sources_seen sheets.now)
         marks.old.items marks.new.items) }
+    ensures fresh { OnOk result (AreFreshToo doc.old doc.new (doc_edit_seen edit.now) fresh.old fresh.new) }
+    ensures gone { OnOk result (AreGoneToo doc.old doc.new gone.old.items gone.new.items) }
+    ensures shaped { OnOk result (IsShaped (doc_edit_seen edit.now)) }
     ensures refused { IfErr result (λ why. why ≡ unwrap_or (option_map refusal_answered
-        (model_refusal doc.old (element_edit_seen edit.now))) out_of_memory) }
+        (model_refusal doc.old (doc_edit_seen edit.now))) out_of_memory) }
     ensures kept { OnErr result (doc.new ≡ doc.old) }
     ensures marks { OnErr result (marks.new.items ≡ marks.old.items) }
+    ensures still { OnErr result (IsFreshStill fresh.old fresh.new) }
+    ensures left { OnErr result (AreGoneToo doc.old doc.old gone.old.items gone.new.items) }
     ensures can_mark { IfSome marking.new (CanMark doc.new (sources_seen sheets.now) marks.new) }
     ensures unmarked { marking.new ≡ None → marks.new.items ≡ [] }
 {
     if let Some(made) = marking {
-        return made.edit(alloc, doc, marks, edit);
+        return made.edit(alloc, doc, marks, fresh, gone, edit);
     }
-    if let Some(why) = refusal_in_place(doc, edit) {
+    if let Some(why) = refusal(doc, edit) {
         return Err(why);
     }
     let mut made = Marking::of(alloc, doc, sheets)?;
     let mut room = ElementSet::new(alloc, doc.last() as u32)?;
-    made.edit(alloc, doc, &mut room, edit)?;
+    made.edit(alloc, doc, &mut room, fresh, gone, edit)?;
     *marks = room;
     *marking = Some(made);
     Ok(())

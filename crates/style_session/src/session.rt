@@ -9,7 +9,7 @@ ghost use Rattle.scene_model.specs.Numbers.{is_in};
 ghost use Rattle.layer_order.specs.View.{sheets_of};
 ghost use Rattle.edit_model.specs.Edit.{of_document};
 ghost use Rattle.edit_model.specs.Refusal.{accepted};
-ghost use Rattle.dom_edits.specs.EditView.{element_edit_seen, edit_seen};
+ghost use Rattle.dom_edits.specs.EditView.{doc_edit_seen, edit_seen};
 ghost use Rattle.session_model.specs.Standing.{edited, elements_of, kept_at, restyled, scene_applied, started};
 ghost use Rattle.style_session.specs.Answers.{IsAnswer, counts_of, refusal_of};
 ghost use Rattle.style_session.specs.SessionView.{scene_seen};
@@ -17,13 +17,14 @@ ghost use Rattle.style_session.specs.Sessions.{AreOfTexts};
 
 use crate::answer::{StyleAnswer, is_open};
 use crate::beginning::Beginning;
-use crate::commit::{Anew, cascade_none, keep_all, settle};
+use crate::commit::{Anew, cascade_none, drop_gone, keep_all, make_places};
 use crate::counts::Counts;
 use crate::first_walk::{FirstStyles, first_styles};
+use crate::fresh::{Fresh, is_settled, settle};
 use crate::lists::Lists;
 use crate::marking::{Marking, edit_marked};
 use crate::style_cache::StyleCache;
-use dom_edits::{Edit, ElementEdit};
+use dom_edits::{DocEdit, Edit};
 use dom_tree::{Doc, NodeList};
 use invalidation_map::ElementSet;
 use io_edges::Gate;
@@ -48,8 +49,10 @@ pub struct Session {
     marking: Option<Marking>,
     /// The elements that were marked since the last restyle.
     marks: ElementSet,
-    /// Whether there was no restyle yet, so that all elements are fresh.
-    is_fresh: bool,
+    /// The elements that came or moved since the last restyle: all before the first.
+    fresh: Fresh,
+    /// Numbers of elements that were removed since the last restyle: their styles are to be dropped.
+    gone: ElementSet,
     /// By number: the style that the element had at the last restyle, if it was there. Empty before the first.
     kept: Vec<Option<Arc<Style>>>,
     /// The elements that the last restyle cascaded.
@@ -60,17 +63,18 @@ pub struct Session {
 impl Model for Session {
     ghost use Rattle.session_model.specs.Standing.{Standing};
     ghost use Rattle.style_session.specs.Codes.{standing_code};
-    ghost use Rattle.style_session.specs.SessionView.{standing_seen};
+    ghost use Rattle.style_session.specs.SessionView.{is_fresh_in, standing_seen};
     ghost use Rattle.style_session.specs.Sessions.{IsSession};
 
     ghost Value = { Standing };
 
     ghost coded = { standing_code };
 
-    ghost view = { λ s. standing_seen s.doc s.sheets s.marks.items s.is_fresh s.kept.items s.recent.items };
+    ghost view = { λ s. standing_seen s.doc s.sheets s.marks.items (is_fresh_in s.fresh) s.kept.items
+        s.recent.items };
 
-    ghost invariant = { λ s. IsSession s.doc s.sheets s.prepared s.marking s.marks s.is_fresh s.kept.items
-        s.recent.items s.cache };
+    ghost invariant = { λ s. IsSession s.doc s.sheets s.prepared s.marking s.marks s.fresh s.gone.items
+        s.kept.items s.recent.items s.cache };
 }
 
 impl Session {
@@ -116,6 +120,8 @@ impl Session {
         let Beginning {
             prepared,
             marks,
+            fresh,
+            gone,
             cache,
         } = begun;
         Ok(Session {
@@ -124,7 +130,8 @@ impl Session {
             prepared,
             marking: None,
             marks,
-            is_fresh: true,
+            fresh,
+            gone,
             kept: Vec::new(alloc),
             recent: Vec::new(alloc),
             cache,
@@ -147,6 +154,8 @@ impl Session {
             &self.sheets,
             &mut self.marking,
             &mut self.marks,
+            &mut self.fresh,
+            &mut self.gone,
             doc_edit(edit),
         )
     }
@@ -166,7 +175,8 @@ impl Session {
             → is_in x self.new.recent ≡ false → kept_at self.new x ≡ kept_at self.old x) }
         ensures kept { OnErr result (self.new ≡ self.old) }
     {
-        if !self.is_fresh && self.marks.as_slice().is_empty() {
+        if is_settled(&self.marks, &self.fresh) {
+            drop_gone(&self.doc, &mut self.gone, &mut self.kept);
             return Ok(cascade_none(&mut self.recent));
         }
         let inputs = Inputs {
@@ -175,28 +185,31 @@ impl Session {
             sheets: &self.sheets,
             prepared: &self.prepared,
         };
-        if self.is_fresh {
+        if self.fresh.all {
             let made = first_styles(&inputs, &mut self.cache, gate)?;
             let FirstStyles { kept, numbers } = made;
             let counts = Counts::of_all(&numbers);
             // From here on nothing takes memory.
             self.kept = kept;
             self.recent = numbers;
-            settle(&mut self.marks, &mut self.is_fresh);
+            self.gone.clear();
+            settle(&mut self.marks, &mut self.fresh);
             return Ok(counts);
         }
         let lists = Lists {
             marks: &self.marks,
-            is_fresh: self.is_fresh,
+            fresh: &self.fresh.set,
             kept: &self.kept,
         };
         let anew = Anew::of(&inputs, &lists, &mut self.cache, gate)?;
         let Anew { styled, numbers } = anew;
         let counts = Counts::of(&styled);
+        make_places(&mut self.kept, self.doc.last() + 1)?;
         // From here on nothing takes memory.
         keep_all(styled, &mut self.kept);
+        drop_gone(&self.doc, &mut self.gone, &mut self.kept);
         self.recent = numbers;
-        settle(&mut self.marks, &mut self.is_fresh);
+        settle(&mut self.marks, &mut self.fresh);
         Ok(counts)
     }
 
@@ -207,7 +220,7 @@ impl Session {
         if !self.doc.contains(n) {
             return StyleAnswer::NoNode;
         }
-        if is_open(&self.doc, &self.marks, self.is_fresh, n) {
+        if is_open(&self.doc, &self.marks, &self.fresh, n) {
             return StyleAnswer::Stale;
         }
         match &self.kept[n as usize] {
@@ -224,7 +237,8 @@ impl Session {
         &self.doc
     }
 
-    /// The numbers of the elements that the last restyle cascaded, each once, in any order.
+    /// The numbers of the elements that the last restyle cascaded, each once, in any order. Numbers of elements
+    /// that were removed since may be among them.
     pub fn cascaded(&self) -> &[u32]
         ensures elements { (x : ℕ) → IsElement (elements_of self.now.scene) x
             → is_in x result.now ≡ is_in x self.now.recent }
@@ -235,8 +249,8 @@ impl Session {
 }
 
 /// The edit of the document that an edit is.
-fn doc_edit(edit: &Edit) -> &ElementEdit
-    ensures { edit_seen edit.now ≡ of_document (element_edit_seen result.now) }
+fn doc_edit(edit: &Edit) -> &DocEdit
+    ensures { edit_seen edit.now ≡ of_document (doc_edit_seen result.now) }
 {
     match edit {
         Edit::Document(edit) => edit,

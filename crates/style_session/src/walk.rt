@@ -264,14 +264,21 @@ fn add_matched(doc: &Doc, lists: &Lists<'_>, due: &mut ElementSet)
     requires room { HasRoom doc.now.elements due.old.room }
     requires empty { due.old.items ≡ [] }
     ensures matched { (x : ℕ) → IsElement doc.now.elements x
-        → is_in x due.new.items ≡ (lists.now.is_fresh || is_in x lists.now.marks.now.items) }
+        → is_in x due.new.items ≡ (is_in x lists.now.marks.now.items || is_in x lists.now.fresh.now.items) }
     ensures room { due.new.room ≡ due.old.room }
 {
-    if lists.is_fresh {
-        due.add_all(doc.in_tree_order());
-        return;
-    }
-    for x in lists.marks.as_slice() {
+    add_elements(doc, lists.marks.as_slice(), due);
+    add_elements(doc, lists.fresh.as_slice(), due);
+}
+
+/// Adds those numbers of a list that are elements.
+fn add_elements(doc: &Doc, numbers: &[u32], due: &mut ElementSet)
+    requires { HasRoom doc.now.elements due.old.room }
+    ensures elements { (x : ℕ) → IsElement doc.now.elements x
+        → is_in x due.new.items ≡ (is_in x due.old.items || is_in x numbers.now) }
+    ensures room { due.new.room ≡ due.old.room }
+{
+    for x in numbers {
         if doc.contains(*x) {
             due.add(*x);
         }

@@ -24,6 +24,7 @@ use Rattle.style_value.specs.contracts.custom.Custom as Custom
 use Rattle.plain_style.specs.contracts.prepared.Prepared as Prepared
 use Rattle.invalidation_map.specs.contracts.element_set.ElementSet as ElementSet
 use Rattle.invalidation_map.specs.contracts.marker.Marker as Marker
+use Rattle.style_session.specs.contracts.fresh.Fresh as Fresh
 use Rattle.style_session.specs.contracts.marking.Marking as Marking
 use Rattle.style_session.specs.contracts.session.Session as Session
 use Rattle.style_session.specs.contracts.session.Session.TheInside as Inside
@@ -123,6 +124,9 @@ marker_send = search (set_send, sendable, crosses) depth 40 fits 20000
 pub marking_send : IsSend Marking.the_row
 marking_send = search (marker_send, sendable, crosses) depth 40 fits 20000
 
+pub fresh_send : IsSend Fresh.the_row
+fresh_send = search (set_send, sendable, crosses) depth 40 fits 20000
+
 pub inside_send : IsSend Inside.the_row
 inside_send =
     let parts : FieldsHave IsSend Inside.the_type.parts = (
@@ -136,14 +140,17 @@ inside_send =
             (
               search (set_send, sendable) depth 20,
               (
-                search (sendable, crosses) depth 20,
+                search (fresh_send, sendable) depth 20,
                 (
-                  search (style_send, style_sync, as_row_send, sendable, crosses) depth 40,
+                  search (set_send, sendable) depth 20,
                   (
-                    search (sendable, crosses) depth 30,
+                    search (style_send, style_sync, as_row_send, sendable, crosses) depth 40,
                     (
-                      search (cache_send, sendable) depth 20,
-                      tt,
+                      search (sendable, crosses) depth 30,
+                      (
+                        search (cache_send, sendable) depth 20,
+                        tt,
+                      ),
                     ),
                   ),
                 ),

@@ -7,7 +7,7 @@ use Rattle.scene_model.specs.Lookups.{IsElement, numbers}
 use Rattle.sheet_model.specs.Sources.{sources_of}
 use Rattle.session_model.specs.Standing.{elements_of}
 use Rattle.session_model.proofs.FlagLemmas.{each_number}
-use Rattle.style_cli.specs.Printing.{elements_bytes, line_bytes, lines_bytes}
+use Rattle.style_cli.specs.Printing.{Serves, elements_bytes, line_bytes, lines_bytes}
 use Rattle.style_cli.proofs.Written.{IsWritten, flat_parts, front_more, nothing, one_more}
 use Rattle.style_cli.proofs.elements.print_elements.Goals as goal
 
@@ -19,7 +19,7 @@ printing-init g c =
     record {
       elements = subst (AllByRecursion (IsElement (elements_of scene))) (sym order) (each_number (elements_of scene));
       later = omega arith;
-      serves = c.requires.serves;
+      serves = subst (Serves c.args.session.now) (sym c.count_anew.ensures) c.requires.serves;
       written = subst (λ (xs : List ℕ). IsWritten held held (lines_bytes scene xs) (elements_bytes scene)) (sym order) (nothing held (elements_bytes scene));
     }
 

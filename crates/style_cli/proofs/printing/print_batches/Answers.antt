@@ -6,7 +6,6 @@ use Rattle.session_model.specs.StandingInvariant.{IsReached}
 use Rattle.session_model.proofs.BatchLemmas.{batch-reached}
 use Rattle.style_cli.specs.Printing.{batches_seen, edits_seen}
 use Rattle.style_cli.specs.Text.{batch_text, text_from}
-use Rattle.style_cli.proofs.EditedLemmas.{all_shaped}
 use Rattle.style_cli.proofs.Printed.{next_batch}
 use Rattle.style_cli.proofs.Written.{front_more, one_more}
 use Rattle.style_cli.proofs.printing.print_batches.Goals as goal
@@ -30,7 +29,7 @@ printing-preserved g c =
     let is = c.in_ok-print_batch.ensures.session in
     let split = c.in-Some.ensures.cases in
     record {
-      reached = subst IsReached (sym is) (batch-reached st edits c.printing.invariant.reached (all_shaped c.printing.edits.now));
+      reached = subst IsReached (sym is) (batch-reached st edits c.printing.invariant.reached c.in_ok-print_batch.ensures.shaped);
       serves = c.in_ok-print_batch.ensures.serves;
       later = search rules;
       numbered = omega (arith, c.printing.invariant.numbered, split.1);

@@ -1,7 +1,8 @@
-use Rattle.std.proofs.Common.{◌≡◌, ◌∷◌, ◌+◌, take, length, ap, sym, subst, ◌∙◌, arith}
+use Rattle.std.proofs.Common.{◌≡◌, ◌∷◌, ◌+◌, take, length, Option, Some, None, cond, ap, sym, subst, ◌∙◌, arith}
 use Rattle.std.proofs.lemmas.List.{take_all}
 use Rattle.scene_model.specs.Lookups.{numbers}
 use Rattle.sheet_set.specs.View.{sources_seen}
+use Rattle.session_model.specs.Standing.{style_in}
 use Rattle.style_session.specs.FirstWalking.{AreKept}
 use Rattle.style_session.specs.Lent.{scene_lent}
 use Rattle.style_session.proofs.FirstWalkLemmas.{all-made, kept-none}
@@ -22,7 +23,7 @@ returns-in_default-clause-styles g c =
     let order = c.in_tree_order-order.result.now in
     let walk = c.in_ok-walk.walk in
     all-made scene walk order c.finish.result c.in_ok-walk.ensures.places
-    (subst (λ l. AreKept scene l walk.kept.items) c.in_tree_order-order.ensures.order (kept-none scene order walk c.in_default.ensures.cases))
+    (subst (λ l. AreKept scene l walk.kept.items) c.in_tree_order-order.ensures.order (kept-none scene order walk c.in_ok-walk.ensures.empty c.in_default.ensures.cases))
     c.in_tree_order-order.ensures.order c.finish.ensures.kept c.finish.ensures.numbers
 
 pub begin-requires-clause-fits : goal.begin-requires-clause-fits
@@ -40,7 +41,7 @@ style-requires-clause-child g c =
 pub style-requires-clause-parent : goal.style-requires-clause-parent
 style-requires-clause-parent g c p at =
     c.loop-number.invariant.kept p
-    (next-below c.args.inputs.now.doc.now.elements c.in-Some.first.now c.in-Some.rest.now c.loop-number.number-index (sym c.in_tree_order-order.ensures.order ∙ c.in-Some.ensures.cases.0) c.loop-number-test.true c.in_tree_order-order.ensures.valid p at)
+    ∙ ap (λ b. cond b (Some (style_in (scene_lent c.args.inputs.now) p)) None) (next-below c.args.inputs.now.doc.now.elements c.in-Some.first.now c.in-Some.rest.now c.loop-number.number-index (sym c.in_tree_order-order.ensures.order ∙ c.in-Some.ensures.cases.0) c.loop-number-test.true c.in_tree_order-order.ensures.valid p at)
 
 pub loop-number-preserved : goal.loop-number-preserved
 loop-number-preserved g c =

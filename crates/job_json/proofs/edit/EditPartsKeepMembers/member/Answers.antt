@@ -2,6 +2,7 @@ use Rattle.std.proofs.Common.{refl, sym, ap, ◌∙◌, option_map, option_and_t
 use Rattle.std.specs.Prelude.{codes}
 use Rattle.serde_json.specs.Find.{as_str, as_bool}
 use Rattle.job_json.specs.Words.{whole, name_of, name_said, state_named}
+use Rattle.job_json.specs.NewNodes.{new_nodes_in}
 use Rattle.job_json.specs.Edits.{state_answered, state_from}
 use Rattle.job_json.proofs.Puts.{here, there, beside}
 use Rattle.job_json.proofs.EditLaws.{answered_seen}
@@ -16,6 +17,9 @@ returns-in_ok-self-in-op-clause-ok c =
       λ ms kept. record {
         op = sym done.2 ∙ ap (option_and_then as_str) (here key done.0 ms (codes "op") c.in-op.is);
         node = kept.node ∙ ap (option_and_then whole) (beside key done.0 ms (codes "op") (codes "node") c.in-op.is refl);
+        parent = kept.parent ∙ ap (option_and_then whole) (beside key done.0 ms (codes "op") (codes "parent") c.in-op.is refl);
+        index = kept.index ∙ ap (option_and_then whole) (beside key done.0 ms (codes "op") (codes "index") c.in-op.is refl);
+        nodes = kept.nodes ∙ ap new_nodes_in (beside key done.0 ms (codes "op") (codes "nodes") c.in-op.is refl);
         name = kept.name ∙ ap (option_and_then name_of) (beside key done.0 ms (codes "op") (codes "name") c.in-op.is refl);
         value = kept.value ∙ ap (option_and_then as_str) (beside key done.0 ms (codes "op") (codes "value") c.in-op.is refl);
         state = kept.state ∙ ap state_from (beside key done.0 ms (codes "op") (codes "state") c.in-op.is refl);
@@ -32,10 +36,70 @@ returns-in_ok-self-in-node-clause-ok c =
       λ ms kept. record {
         op = kept.op ∙ ap (option_and_then as_str) (beside key done.0 ms (codes "node") (codes "op") c.in-node.is refl);
         node = sym done.2 ∙ ap (option_and_then whole) (here key done.0 ms (codes "node") c.in-node.is);
+        parent = kept.parent ∙ ap (option_and_then whole) (beside key done.0 ms (codes "node") (codes "parent") c.in-node.is refl);
+        index = kept.index ∙ ap (option_and_then whole) (beside key done.0 ms (codes "node") (codes "index") c.in-node.is refl);
+        nodes = kept.nodes ∙ ap new_nodes_in (beside key done.0 ms (codes "node") (codes "nodes") c.in-node.is refl);
         name = kept.name ∙ ap (option_and_then name_of) (beside key done.0 ms (codes "node") (codes "name") c.in-node.is refl);
         value = kept.value ∙ ap (option_and_then as_str) (beside key done.0 ms (codes "node") (codes "value") c.in-node.is refl);
         state = kept.state ∙ ap state_from (beside key done.0 ms (codes "node") (codes "state") c.in-node.is refl);
         on = kept.on ∙ ap (option_and_then as_bool) (beside key done.0 ms (codes "node") (codes "on") c.in-node.is refl);
+      },
+    )
+
+pub returns-in_ok-self-in-parent-clause-ok : goal.returns-in_ok-self-in-parent-clause-ok
+returns-in_ok-self-in-parent-clause-ok c =
+    let key = c.args.key.now in
+    let done = c.in_ok-self-in-parent.ensures.ok in (
+      done.0,
+      done.1,
+      λ ms kept. record {
+        op = kept.op ∙ ap (option_and_then as_str) (beside key done.0 ms (codes "parent") (codes "op") c.in-parent.is refl);
+        node = kept.node ∙ ap (option_and_then whole) (beside key done.0 ms (codes "parent") (codes "node") c.in-parent.is refl);
+        parent = sym done.2 ∙ ap (option_and_then whole) (here key done.0 ms (codes "parent") c.in-parent.is);
+        index = kept.index ∙ ap (option_and_then whole) (beside key done.0 ms (codes "parent") (codes "index") c.in-parent.is refl);
+        nodes = kept.nodes ∙ ap new_nodes_in (beside key done.0 ms (codes "parent") (codes "nodes") c.in-parent.is refl);
+        name = kept.name ∙ ap (option_and_then name_of) (beside key done.0 ms (codes "parent") (codes "name") c.in-parent.is refl);
+        value = kept.value ∙ ap (option_and_then as_str) (beside key done.0 ms (codes "parent") (codes "value") c.in-parent.is refl);
+        state = kept.state ∙ ap state_from (beside key done.0 ms (codes "parent") (codes "state") c.in-parent.is refl);
+        on = kept.on ∙ ap (option_and_then as_bool) (beside key done.0 ms (codes "parent") (codes "on") c.in-parent.is refl);
+      },
+    )
+
+pub returns-in_ok-self-in-index-clause-ok : goal.returns-in_ok-self-in-index-clause-ok
+returns-in_ok-self-in-index-clause-ok c =
+    let key = c.args.key.now in
+    let done = c.in_ok-self-in-index.ensures.ok in (
+      done.0,
+      done.1,
+      λ ms kept. record {
+        op = kept.op ∙ ap (option_and_then as_str) (beside key done.0 ms (codes "index") (codes "op") c.in-index.is refl);
+        node = kept.node ∙ ap (option_and_then whole) (beside key done.0 ms (codes "index") (codes "node") c.in-index.is refl);
+        parent = kept.parent ∙ ap (option_and_then whole) (beside key done.0 ms (codes "index") (codes "parent") c.in-index.is refl);
+        index = sym done.2 ∙ ap (option_and_then whole) (here key done.0 ms (codes "index") c.in-index.is);
+        nodes = kept.nodes ∙ ap new_nodes_in (beside key done.0 ms (codes "index") (codes "nodes") c.in-index.is refl);
+        name = kept.name ∙ ap (option_and_then name_of) (beside key done.0 ms (codes "index") (codes "name") c.in-index.is refl);
+        value = kept.value ∙ ap (option_and_then as_str) (beside key done.0 ms (codes "index") (codes "value") c.in-index.is refl);
+        state = kept.state ∙ ap state_from (beside key done.0 ms (codes "index") (codes "state") c.in-index.is refl);
+        on = kept.on ∙ ap (option_and_then as_bool) (beside key done.0 ms (codes "index") (codes "on") c.in-index.is refl);
+      },
+    )
+
+pub returns-in_ok-self-in-nodes-clause-ok : goal.returns-in_ok-self-in-nodes-clause-ok
+returns-in_ok-self-in-nodes-clause-ok c =
+    let key = c.args.key.now in
+    let done = c.in_ok-self-in-nodes.ensures.ok in (
+      done.0,
+      done.1,
+      λ ms kept. record {
+        op = kept.op ∙ ap (option_and_then as_str) (beside key done.0 ms (codes "nodes") (codes "op") c.in-nodes.is refl);
+        node = kept.node ∙ ap (option_and_then whole) (beside key done.0 ms (codes "nodes") (codes "node") c.in-nodes.is refl);
+        parent = kept.parent ∙ ap (option_and_then whole) (beside key done.0 ms (codes "nodes") (codes "parent") c.in-nodes.is refl);
+        index = kept.index ∙ ap (option_and_then whole) (beside key done.0 ms (codes "nodes") (codes "index") c.in-nodes.is refl);
+        nodes = sym done.2 ∙ ap new_nodes_in (here key done.0 ms (codes "nodes") c.in-nodes.is);
+        name = kept.name ∙ ap (option_and_then name_of) (beside key done.0 ms (codes "nodes") (codes "name") c.in-nodes.is refl);
+        value = kept.value ∙ ap (option_and_then as_str) (beside key done.0 ms (codes "nodes") (codes "value") c.in-nodes.is refl);
+        state = kept.state ∙ ap state_from (beside key done.0 ms (codes "nodes") (codes "state") c.in-nodes.is refl);
+        on = kept.on ∙ ap (option_and_then as_bool) (beside key done.0 ms (codes "nodes") (codes "on") c.in-nodes.is refl);
       },
     )
 
@@ -48,6 +112,9 @@ returns-in_ok-text-in-name-clause-ok c =
       λ ms kept. record {
         op = kept.op ∙ ap (option_and_then as_str) (beside key done.0 ms (codes "name") (codes "op") c.in-name.is refl);
         node = kept.node ∙ ap (option_and_then whole) (beside key done.0 ms (codes "name") (codes "node") c.in-name.is refl);
+        parent = kept.parent ∙ ap (option_and_then whole) (beside key done.0 ms (codes "name") (codes "parent") c.in-name.is refl);
+        index = kept.index ∙ ap (option_and_then whole) (beside key done.0 ms (codes "name") (codes "index") c.in-name.is refl);
+        nodes = kept.nodes ∙ ap new_nodes_in (beside key done.0 ms (codes "name") (codes "nodes") c.in-name.is refl);
         name = c.name_in-self.ensures ∙ ap (option_and_then name_said) (sym done.2) ∙ ap (option_and_then name_of) (here key done.0 ms (codes "name") c.in-name.is);
         value = kept.value ∙ ap (option_and_then as_str) (beside key done.0 ms (codes "name") (codes "value") c.in-name.is refl);
         state = kept.state ∙ ap state_from (beside key done.0 ms (codes "name") (codes "state") c.in-name.is refl);
@@ -64,6 +131,9 @@ returns-in_ok-self-in-value-clause-ok c =
       λ ms kept. record {
         op = kept.op ∙ ap (option_and_then as_str) (beside key done.0 ms (codes "value") (codes "op") c.in-value.is refl);
         node = kept.node ∙ ap (option_and_then whole) (beside key done.0 ms (codes "value") (codes "node") c.in-value.is refl);
+        parent = kept.parent ∙ ap (option_and_then whole) (beside key done.0 ms (codes "value") (codes "parent") c.in-value.is refl);
+        index = kept.index ∙ ap (option_and_then whole) (beside key done.0 ms (codes "value") (codes "index") c.in-value.is refl);
+        nodes = kept.nodes ∙ ap new_nodes_in (beside key done.0 ms (codes "value") (codes "nodes") c.in-value.is refl);
         name = kept.name ∙ ap (option_and_then name_of) (beside key done.0 ms (codes "value") (codes "name") c.in-value.is refl);
         value = sym done.2 ∙ ap (option_and_then as_str) (here key done.0 ms (codes "value") c.in-value.is);
         state = kept.state ∙ ap state_from (beside key done.0 ms (codes "value") (codes "state") c.in-value.is refl);
@@ -80,6 +150,9 @@ returns-in_ok-text-in-state-clause-ok c =
       λ ms kept. record {
         op = kept.op ∙ ap (option_and_then as_str) (beside key done.0 ms (codes "state") (codes "op") c.in-state.is refl);
         node = kept.node ∙ ap (option_and_then whole) (beside key done.0 ms (codes "state") (codes "node") c.in-state.is refl);
+        parent = kept.parent ∙ ap (option_and_then whole) (beside key done.0 ms (codes "state") (codes "parent") c.in-state.is refl);
+        index = kept.index ∙ ap (option_and_then whole) (beside key done.0 ms (codes "state") (codes "index") c.in-state.is refl);
+        nodes = kept.nodes ∙ ap new_nodes_in (beside key done.0 ms (codes "state") (codes "nodes") c.in-state.is refl);
         name = kept.name ∙ ap (option_and_then name_of) (beside key done.0 ms (codes "state") (codes "name") c.in-state.is refl);
         value = kept.value ∙ ap (option_and_then as_str) (beside key done.0 ms (codes "state") (codes "value") c.in-state.is refl);
         state =
@@ -98,6 +171,9 @@ returns-in_ok-self-in-on-clause-ok c =
       λ ms kept. record {
         op = kept.op ∙ ap (option_and_then as_str) (beside key done.0 ms (codes "on") (codes "op") c.in-on.is refl);
         node = kept.node ∙ ap (option_and_then whole) (beside key done.0 ms (codes "on") (codes "node") c.in-on.is refl);
+        parent = kept.parent ∙ ap (option_and_then whole) (beside key done.0 ms (codes "on") (codes "parent") c.in-on.is refl);
+        index = kept.index ∙ ap (option_and_then whole) (beside key done.0 ms (codes "on") (codes "index") c.in-on.is refl);
+        nodes = kept.nodes ∙ ap new_nodes_in (beside key done.0 ms (codes "on") (codes "nodes") c.in-on.is refl);
         name = kept.name ∙ ap (option_and_then name_of) (beside key done.0 ms (codes "on") (codes "name") c.in-on.is refl);
         value = kept.value ∙ ap (option_and_then as_str) (beside key done.0 ms (codes "on") (codes "value") c.in-on.is refl);
         state = kept.state ∙ ap state_from (beside key done.0 ms (codes "on") (codes "state") c.in-on.is refl);
@@ -114,6 +190,9 @@ returns-in_ok-pass-in_default-clause-ok c =
       λ ms kept. record {
         op = kept.op ∙ ap (option_and_then as_str) (there key done.0 ms (codes "op") c.in_default.not-op);
         node = kept.node ∙ ap (option_and_then whole) (there key done.0 ms (codes "node") c.in_default.not-node);
+        parent = kept.parent ∙ ap (option_and_then whole) (there key done.0 ms (codes "parent") c.in_default.not-parent);
+        index = kept.index ∙ ap (option_and_then whole) (there key done.0 ms (codes "index") c.in_default.not-index);
+        nodes = kept.nodes ∙ ap new_nodes_in (there key done.0 ms (codes "nodes") c.in_default.not-nodes);
         name = kept.name ∙ ap (option_and_then name_of) (there key done.0 ms (codes "name") c.in_default.not-name);
         value = kept.value ∙ ap (option_and_then as_str) (there key done.0 ms (codes "value") c.in_default.not-value);
         state = kept.state ∙ ap state_from (there key done.0 ms (codes "state") c.in_default.not-state);

@@ -31,5 +31,5 @@ returns-clause-kept c =
     let scene = scene_lent c.args.inputs.now in
     let r = c.args.root in
     on_ok_weaker c.keep.result
-    (λ keeps. kept-more scene [] r c.in_ok-style.style c.args.self.now c.keep.new.self keeps (kept-none scene [] c.args.self.now refl))
+    (λ keeps. kept-more scene [] r c.in_ok-style.style c.args.self.now c.keep.new.self keeps (kept-none scene [] c.args.self.now c.requires.bare.empty refl))
     (c.keep.ensures (style_in scene r) c.in_ok-style.ensures.style)

@@ -1,5 +1,6 @@
 use Rattle.std.proofs.Common.{◌≡◌, ◌+◌, ℕ, Option, Some, None, length, replicate, refl, ap, ◌∙◌, arith}
 use Rattle.std.proofs.lemmas.List.{length-replicate}
+use Rattle.scene_model.specs.Numbers.{is_in}
 use Rattle.invalidation_map.specs.Members.{Members}
 use Rattle.style_session.specs.Walking.{known_at}
 use Rattle.style_session.proofs.WalkLemmas.{known-replicate}
@@ -39,6 +40,6 @@ returns c =
       known = λ x. ap (λ items. known_at items x) none ∙ known-replicate places x;
       due = λ x there.
           c.add_matched.ensures.matched x there
-          ∙ matched-seen doc c.args.inputs.now.sheets.now lists.marks.now.items lists.is_fresh lists.kept.now x there;
+          ∙ matched-seen doc c.args.inputs.now.sheets.now lists.marks.now.items (λ y. is_in y lists.fresh.now.items) lists.kept.now x there;
       styled = c.new-2.ensures.items;
     }
