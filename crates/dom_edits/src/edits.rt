@@ -1,12 +1,15 @@
 //! The edits of a document.
 
-ghost use Rattle.std.specs.Prelude.{◌≡◌};
+ghost use Rattle.std.specs.Prelude.{◌≡◌, IfOk};
 ghost use Rattle.scene_model.specs.Nodes.{IsNodeList};
 ghost use Rattle.edit_model.specs.Edit.{IsShaped};
+ghost use Rattle.dom_edits.specs.declared.edits.NewNodes.TheVariants.{Kept};
 ghost use Rattle.dom_edits.specs.EditView.{doc_edit_seen, kept_count, new_count, nodes_seen};
 
 use dom_tree::NodeList;
-use stylo_base::{State, Text};
+use std::alloc::Global;
+use std::marker::Model;
+use stylo_base::{NoMemory, State, Text};
 
 /// An edit of a document. It names elements by number. An index is that among the children, from 0.
 #[derive(Drop)]
@@ -64,20 +67,64 @@ impl DocEdit {
 #[derive(Drop)]
 pub enum NewNodes {
     /// These.
-    Kept(NodeList),
+    Kept(BoxedNodes),
     /// Nodes that are not kept, since they will be refused: this limit is the first that one of them passes by
     /// itself, and an earlier one passes none.
     Past(NodeLimit),
 }
 
+/// A list of nodes in a place of its own, so that an edit stays short. Contracts see the list.
+#[derive(Drop)]
+pub struct BoxedNodes {
+    list: Box<NodeList>,
+}
+
+impl Model for BoxedNodes {
+    ghost use Rattle.std.specs.Prelude.{List};
+    ghost use Rattle.scene_model.specs.Nodes.{Node, nodes_code, IsNodeList};
+
+    ghost Value = { List Node };
+
+    ghost coded = { nodes_code };
+
+    ghost view = { λ b. b.list.value };
+
+    ghost invariant = { λ b. IsNodeList b.list.value };
+}
+
+impl BoxedNodes {
+    /// This list.
+    fn of(alloc: Global, list: NodeList) -> Result<BoxedNodes, NoMemory>
+        ensures { IfOk result (λ nodes. nodes ≡ list) }
+    {
+        Ok(BoxedNodes {
+            list: Box::new(alloc, list)?,
+        })
+    }
+
+    /// The list.
+    pub fn list(&self) -> &NodeList
+        ensures { result.now ≡ self.now }
+    {
+        &self.list
+    }
+}
+
 impl NewNodes {
+    /// These nodes.
+    pub fn of(alloc: Global, list: NodeList) -> Result<NewNodes, NoMemory>
+        ensures { IfOk result (λ nodes. nodes ≡ Kept list) }
+    {
+        Ok(NewNodes::Kept(BoxedNodes::of(alloc, list)?))
+    }
+
     /// How many there are. Those that are not kept don't count.
     fn count(&self) -> usize
         ensures count { result ≡ kept_count self.now }
         ensures shaped { IsNodeList (nodes_seen self.now) }
     {
         match self {
-            NewNodes::Kept(nodes) => nodes.len(),
+            NewNodes::Kept(nodes) => nodes.list().len(),
             NewNodes::Past(_) => 0,
         }
     }

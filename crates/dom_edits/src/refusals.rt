@@ -81,7 +81,7 @@ fn judge_insertion<'a>(
         return Err(EditRefused::BadPlace);
     }
     let nodes = match nodes {
-        NewNodes::Kept(nodes) => nodes,
+        NewNodes::Kept(nodes) => nodes.list(),
         NewNodes::Past(which) => return Err(refusal_by(*which)),
     };
     match past_insertion(doc, p, index as usize, nodes) {

@@ -72,7 +72,7 @@ fn edit_of(alloc: Global, text: &str) -> Result<DocEdit, NoMemory> {
     Ok(DocEdit::Insert {
         parent: node,
         index: other,
-        nodes: NewNodes::Kept(nodes(alloc, tags)?),
+        nodes: NewNodes::of(alloc, nodes(alloc, tags)?)?,
     })
 }
 
@@ -229,42 +229,50 @@ fn limit(kind: Kind, most: u64) -> Option<EditRefused> {
     Some(EditRefused::Limit(kind, most))
 }
 
+/// What an insertion into a root of 65,500 children is to be refused for, of each of the cases that `put` makes.
+const REFUSALS: [Option<EditRefused>; 6] = [
+    Some(EditRefused::UnknownNode(65_502)),
+    Some(EditRefused::BadPlace),
+    Some(EditRefused::Limit(Kind::Attributes, 64)),
+    Some(EditRefused::Limit(Kind::Value, 1_048_576)),
+    Some(EditRefused::Limit(Kind::Value, 1_048_576)),
+    Some(EditRefused::Limit(Kind::Elements, 65_536)),
+];
+
+/// The nodes of such a case.
+fn put(alloc: Global, case: usize) -> Result<NewNodes, NoMemory> {
+    match case {
+        1 => Ok(NewNodes::Past(NodeLimit::Attributes)),
+        2 => NewNodes::of(alloc, too_long(alloc, true)?),
+        3 => NewNodes::of(alloc, too_long(alloc, false)?),
+        5 => NewNodes::of(alloc, chain(alloc, 300)?),
+        _ => Ok(NewNodes::Past(NodeLimit::Value)),
+    }
+}
+
+/// Why such a case is refused.
+fn why(alloc: Global, doc: &mut Doc, case: usize) -> Result<Option<EditRefused>, NoMemory> {
+    let parent = if case == 0 { 65_502 } else { 1 };
+    let index = if case == 1 { 65_501 } else { 0 };
+    Ok(refused(alloc, doc, parent, index, put(alloc, case)?))
+}
+
+/// The first of these cases that is answered in another way.
+fn first_other_refusal(alloc: Global) -> Result<Option<usize>, NoMemory> {
+    let mut doc = wide(alloc, 65_500)?;
+    for case in 0..REFUSALS.len() {
+        if why(alloc, &mut doc, case)? != REFUSALS[case] {
+            return Ok(Some(case));
+        }
+    }
+    Ok(None)
+}
+
 /// Insertions that pass more than one limit, or that something before the limits refuses.
 #[test]
 fn insertions(rt: HostRuntime) -> Result<(), Fail> {
-    let alloc = rt.alloc();
-    let mut doc = wide(alloc, 65_500)?;
-    let long = NewNodes::Past(NodeLimit::Value);
-    let unknown = refused(alloc, &mut doc, 65_502, 0, long);
-    assert_eq!(rt; unknown, Some(EditRefused::UnknownNode(65_502)));
-    let misplaced = refused(
-        alloc,
-        &mut doc,
-        1,
-        65_501,
-        NewNodes::Past(NodeLimit::Attributes),
-    );
-    assert_eq!(rt; misplaced, Some(EditRefused::BadPlace));
-    let many = refused(
-        alloc,
-        &mut doc,
-        1,
-        0,
-        NewNodes::Kept(too_long(alloc, true)?),
-    );
-    assert_eq!(rt; many, limit(Kind::Attributes, 64));
-    let long = refused(
-        alloc,
-        &mut doc,
-        1,
-        0,
-        NewNodes::Kept(too_long(alloc, false)?),
-    );
-    assert_eq!(rt; long, limit(Kind::Value, 1_048_576));
-    let kept = refused(alloc, &mut doc, 1, 0, NewNodes::Past(NodeLimit::Value));
-    assert_eq!(rt; kept, limit(Kind::Value, 1_048_576));
-    let elements = refused(alloc, &mut doc, 1, 0, NewNodes::Kept(chain(alloc, 300)?));
-    assert_eq!(rt; elements, limit(Kind::Elements, 65_536));
+    let wrong = first_other_refusal(rt.alloc())?;
+    assert_eq!(rt; wrong, None);
     Ok(())
 }
 

@@ -77,19 +77,19 @@ impl KeptNodes {
     }
 
     /// All nodes, which are not to be none, or the limit that one of them passes first.
-    fn finish_new(self, alloc: Global) -> Checked<NewNodes>
-        ensures { result ≡ new_at_end (held_of self) }
+    fn finish_new(self, alloc: Global) -> Result<Checked<NewNodes>, NoMemory>
+        ensures { IfOk result (λ nodes. nodes ≡ new_at_end (held_of self)) }
     {
         let KeptNodes { passed, list, .. } = self;
         if let Some(passed) = passed {
-            return Ok(NewNodes::Past(limit_told(passed.0)));
+            return Ok(Ok(NewNodes::Past(limit_told(passed.0))));
         }
         let Some(list) = list else {
-            return Err(Text::new(alloc));
+            return Ok(Err(Text::new(alloc)));
         };
         // How many there are is not asked: the call tells that there is one.
         let _count = list.len();
-        Ok(NewNodes::Kept(list))
+        Ok(Ok(NewNodes::of(alloc, list)?))
     }
 }
 
@@ -129,7 +129,7 @@ pub(crate) fn take_new_nodes(
     }
     let NewNodeItems { bad, kept, .. } = nodes;
     match bad {
-        None => Ok(kept.finish_new(alloc)),
+        None => Ok(kept.finish_new(alloc)?),
         Some(path) => Ok(Err(path)),
     }
 }

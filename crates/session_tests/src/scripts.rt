@@ -273,7 +273,7 @@ fn insert_of(alloc: Global, text: &str) -> Result<Edit, NoMemory> {
     Ok(Edit::Document(DocEdit::Insert {
         parent: number(parent),
         index: number(index),
-        nodes: NewNodes::Kept(nodes),
+        nodes: NewNodes::of(alloc, nodes)?,
     }))
 }
 

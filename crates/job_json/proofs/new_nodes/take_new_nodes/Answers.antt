@@ -14,4 +14,4 @@ returns-in-None-clause-ok c =
     let done = c.in_ok-array.ensures.ok in
     let kept = is_array AreNewNodesOf s (as_array done.0) (subst (KeepsItems AreNewNodesOf s (as_array done.0)) c.if-not-branch.false done.2) in
     let read = subst (λ bad. AreRead node_in bad (λ list. IsNewHeld list (held_of s.kept)) kept.0) c.in-None.is kept.2 in
-    (done.0, done.1, new_nodes_end done.0 kept.0 (held_of s.kept) kept.1 read ∙ sym c.finish_new.ensures)
+    (done.0, done.1, new_nodes_end done.0 kept.0 (held_of s.kept) kept.1 read ∙ sym c.in_ok-finish_new-in-None.ensures)
