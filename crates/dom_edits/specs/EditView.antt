@@ -6,6 +6,7 @@ use Rattle.base_model.specs.Text.{Characters}
 use Rattle.scene_model.specs.Document.{Document}
 use Rattle.scene_model.specs.Element.{Attributes}
 use Rattle.scene_model.specs.Nodes.{Node, IsNodeList}
+use Rattle.layer_order.specs.View.{origin_of}
 use Rattle.stylo_base.specs.StateView.{state_seen}
 use Rattle.stylo_base.specs.declared.refusal.Kind.{Kind}
 use Rattle.stylo_base.specs.declared.refusal.Kind.TheVariants.{Elements, Numbers, Depth, Attributes as AttributeKind, Value as ValueKind, Sheets, Text}
@@ -22,8 +23,10 @@ use Rattle.dom_edits.specs.declared.edits.NewNodes.{NewNodes}
 use Rattle.dom_edits.specs.declared.edits.NewNodes.TheVariants.{Kept, Past}
 use Rattle.dom_edits.specs.declared.edits.NodeLimit.{NodeLimit}
 use Rattle.dom_edits.specs.declared.edits.NodeLimit.TheVariants.{Attributes as many_attributes, Value as long_value}
+use Rattle.dom_edits.specs.declared.edits.SheetEdit.{SheetEdit}
+use Rattle.dom_edits.specs.declared.edits.SheetEdit.TheVariants as sheet_edits
 use Rattle.dom_edits.specs.declared.edits.Edit.{Edit}
-use Rattle.dom_edits.specs.declared.edits.Edit.TheVariants.{Document as of_document}
+use Rattle.dom_edits.specs.declared.edits.Edit.TheVariants.{Document as of_document, Sheets as of_sheets}
 
 -- Nodes that pass a limit, of which the others are not kept: one of them stands for all.
 
@@ -77,8 +80,15 @@ abbrev pub Says : DocEdit → model.DocEdit → Type 0
 Says (Insert parent index new) (model.insert p i nodes) = (parent ≡ p) × (index ≡ i) × AreNewNodes new nodes
 Says edit said = doc_edit_seen edit ≡ said
 
+abbrev pub sheet_edit_seen : SheetEdit → model.SheetEdit
+sheet_edit_seen (sheet_edits.Add index origin enabled text) = model.add_sheet index (origin_of origin) enabled text
+sheet_edit_seen (sheet_edits.Remove sheet) = model.remove_sheet sheet
+sheet_edit_seen (sheet_edits.Replace sheet text) = model.replace_sheet sheet text
+sheet_edit_seen (sheet_edits.Enable sheet on) = model.enable_sheet sheet on
+
 abbrev pub edit_seen : Edit → model.Edit
 edit_seen (of_document edit) = model.of_document (doc_edit_seen edit)
+edit_seen (of_sheets edit) = model.of_sheets (sheet_edit_seen edit)
 
 -- the kind of a limit, as it is answered
 abbrev pub kind_answered : LimitKind → Kind

@@ -1,4 +1,4 @@
-//! The edits of a document.
+//! The edits of a document and of its style sheets.
 
 ghost use Rattle.std.specs.Prelude.{◌≡◌, IfOk};
 ghost use Rattle.scene_model.specs.Nodes.{IsNodeList};
@@ -7,6 +7,7 @@ ghost use Rattle.dom_edits.specs.declared.edits.NewNodes.TheVariants.{Kept};
 ghost use Rattle.dom_edits.specs.EditView.{doc_edit_seen, kept_count, new_count, nodes_seen};
 
 use dom_tree::NodeList;
+use layer_order::Origin;
 use std::alloc::Global;
 use std::marker::Model;
 use stylo_base::{NoMemory, State, Text};
@@ -139,9 +140,37 @@ pub enum NodeLimit {
     Value,
 }
 
+/// An edit of the style sheets. It names sheets by number.
+#[derive(Drop)]
+pub enum SheetEdit {
+    /// Puts a sheet into the list, at an index from 0. It gets the next number.
+    Add {
+        index: u64,
+        origin: Origin,
+        enabled: bool,
+        text: Text,
+    },
+    /// Takes a sheet out of the list.
+    Remove {
+        sheet: u64,
+    },
+    /// Gives a sheet another text. The text that it has already changes nothing.
+    Replace {
+        sheet: u64,
+        text: Text,
+    },
+    /// Lets a sheet take part, or keeps it from it.
+    Enable {
+        sheet: u64,
+        on: bool,
+    },
+}
+
 /// An edit.
 #[derive(Drop)]
 pub enum Edit {
     /// Of the document.
     Document(DocEdit),
+    /// Of the style sheets.
+    Sheets(SheetEdit),
 }

@@ -1,4 +1,4 @@
-//! Edits of a document: what refuses one, what it does, and what it touches.
+//! Edits of a document: what refuses one, what it does, and what it touches; the edits of style sheets as data.
 #![tactic(auto)]
 
 mod accepted;
@@ -14,7 +14,7 @@ mod word;
 mod word_set;
 
 pub use applying::apply;
-pub use edits::{BoxedNodes, DocEdit, Edit, NewNodes, NodeLimit};
+pub use edits::{BoxedNodes, DocEdit, Edit, NewNodes, NodeLimit, SheetEdit};
 pub use refusals::refusal;
 pub use touch::Touch;
 pub use touch_name::TouchName;

@@ -15,3 +15,5 @@ mod growing;
 mod marking;
 #[cfg(test)]
 mod scene;
+#[cfg(test)]
+mod sheet_marking;

@@ -51,7 +51,7 @@ four false true true d = refl
 four false true false d = refl
 four false false c d = refl
 
-or_each : {X : Type 0} (p q : X → Bool) (xs : List X) → list_any (λ x. p x || q x) xs ≡ (list_any p xs || list_any q xs)
+pub or_each : {X : Type 0} (p q : X → Bool) (xs : List X) → list_any (λ x. p x || q x) xs ≡ (list_any p xs || list_any q xs)
 or_each p q [] = refl
 or_each p q (x ∷ xs) = ap (λ b. (p x || q x) || b) (or_each p q xs) ∙ four (p x) (q x) (list_any p xs) (list_any q xs)
 

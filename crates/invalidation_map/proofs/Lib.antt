@@ -14,3 +14,5 @@ pub mod SharedLemmas
 pub mod StepEqLemmas
 pub mod EditLemmas
 pub mod BelowLemmas
+pub mod KeySetLemmas
+pub mod SheetMarkLemmas

@@ -7,3 +7,5 @@ pub mod SharedRows
 pub mod RowView
 pub mod KeyBuckets
 pub mod Marks
+pub mod KeySets
+pub mod SheetMarked

@@ -19,7 +19,9 @@ use Rattle.job_json.specs.KeptEdits.{IsEditOf, edit_kept, HasEdits, AreEditsOf, 
 
 -- the edit of the members
 pub edit_is : (s : EditParts) (ms : Members) → IsEditOf s ms → edit_of ms ≡ edit_kept s
-edit_is s ms kept = sym (rw (kept.op, kept.node, kept.parent, kept.index, kept.nodes, kept.name, kept.value, kept.state, kept.on) refl)
+edit_is s ms kept =
+    let input = kept.input in
+    sym (rw (kept.op, kept.node, kept.parent, kept.index, kept.nodes, kept.name, kept.value, kept.state, kept.on, kept.sheet, input.origin, input.enabled, input.text) refl)
 
 pub answered_seen : (o : Option State) → option_map state_answered (option_map state_seen o) ≡ o
 answered_seen None = refl

@@ -18,7 +18,8 @@ use Rattle.stylo_base.specs.declared.refusal.Kind.TheVariants.{Attributes, Depth
 use Rattle.stylo_base.specs.declared.state.State.TheVariants.{Focus}
 use Rattle.dom_edits.specs.declared.edits.DocEdit.TheVariants.{Insert, Remove, Move, Set, Unset, State}
 use Rattle.dom_edits.specs.declared.edits.NewNodes.TheVariants.{Kept}
-use Rattle.dom_edits.specs.declared.edits.Edit.TheVariants.{Document}
+use Rattle.dom_edits.specs.declared.edits.SheetEdit.TheVariants.{Add, Remove as RemoveSheet, Replace, Enable}
+use Rattle.dom_edits.specs.declared.edits.Edit.TheVariants.{Document, Sheets as OfSheets}
 use Rattle.job_json.specs.Shape.{states_in, sheet_in, sheets_in}
 use Rattle.job_json.specs.Edits.{batches_in}
 use Rattle.job_json.specs.Limits.{nodes_past, texts_past, sheets_past, batches_past}
@@ -459,14 +460,10 @@ op_first : edit_bad_at (key (codes "node") null ∷ []) ≡ at (codes "/batches/
 unfolding chars digits
 op_first = refl
 
--- a word that no edit has, or none that is read yet, is bad before what comes after it
+-- a word that no edit has is bad before what comes after it
 other_op : edit_bad_at (op (codes "Set") ∷ key (codes "node") null ∷ []) ≡ at (codes "/batches/0/0/op")
 unfolding chars digits
 other_op = refl
-
-later_op : edit_bad_at (op (codes "remove_sheet") ∷ of_node 2 ∷ []) ≡ at (codes "/batches/0/0/op")
-unfolding chars digits
-later_op = refl
 
 node_next : edit_bad_at (op (codes "set") ∷ key (codes "node") (text (codes "1")) ∷ value null ∷ []) ≡ at (codes "/batches/0/0/node")
 unfolding chars digits
@@ -561,6 +558,80 @@ moved_parent_next = refl
 moved_index_last : edit_bad_at (op (codes "move") ∷ of_node 2 ∷ below 1 ∷ []) ≡ at (codes "/batches/0/0/index")
 unfolding chars digits
 moved_index_last = refl
+
+-- sheets
+
+abbrev of_sheet : ℕ → List ℕ × Data
+of_sheet k = key (codes "sheet") (n k)
+
+abbrev add : List ℕ × Data
+add = op (codes "add_sheet")
+
+abbrev replace : List ℕ × Data
+replace = op (codes "replace_sheet")
+
+abbrev enable : List ℕ × Data
+enable = op (codes "enable_sheet")
+
+-- one that says nothing of it is enabled; what an edit does not have may hold anything
+abbrev add_on : Data
+add_on = obj (css rule ∷ ua ∷ key (codes "sheet") null ∷ on null ∷ index 4294967297 ∷ add ∷ [])
+
+abbrev add_off : Data
+add_off = obj (add ∷ index 0 ∷ other ∷ user ∷ enabled null ∷ enabled (boolean false) ∷ css (n 7) ∷ css empty ∷ value null ∷ [])
+
+added : batches_in (Some (list (list (add_on ∷ add_off ∷ []) ∷ []))) ≡ Ok ((OfSheets (Add 4294967297 UserAgent true (codes "p{}")) ∷ OfSheets (Add 0 User false []) ∷ []) ∷ [])
+unfolding chars
+added = refl
+
+abbrev remove_sheet : Data
+remove_sheet = obj (of_node 2 ∷ of_sheet 3 ∷ index 4 ∷ op (codes "remove_sheet") ∷ [])
+
+abbrev replace_sheet : Data
+replace_sheet = obj (replace ∷ css rule ∷ value (text (codes "b")) ∷ enabled null ∷ of_sheet 0 ∷ [])
+
+abbrev enable_sheet : Data
+enable_sheet = obj (enabled (boolean true) ∷ on (boolean false) ∷ css null ∷ of_sheet 1 ∷ enable ∷ [])
+
+sheets_changed : batches_in (Some (list (list (remove_sheet ∷ replace_sheet ∷ enable_sheet ∷ []) ∷ []))) ≡ Ok ((OfSheets (RemoveSheet 3) ∷ OfSheets (Replace 0 (codes "p{}")) ∷ OfSheets (Enable 1 false) ∷ []) ∷ [])
+unfolding chars
+sheets_changed = refl
+
+index_before_origin : edit_bad_at (add ∷ css null ∷ enabled null ∷ other ∷ []) ≡ at (codes "/batches/0/0/index")
+unfolding chars digits
+index_before_origin = refl
+
+origin_before_enabled : edit_bad_at (add ∷ css null ∷ enabled null ∷ other ∷ index 0 ∷ []) ≡ at (codes "/batches/0/0/origin")
+unfolding chars digits
+origin_before_enabled = refl
+
+enabled_before_text : edit_bad_at (add ∷ css null ∷ enabled null ∷ author ∷ index 0 ∷ []) ≡ at (codes "/batches/0/0/enabled")
+unfolding chars digits
+enabled_before_text = refl
+
+added_text_last : edit_bad_at (add ∷ author ∷ index 0 ∷ value rule ∷ []) ≡ at (codes "/batches/0/0/text")
+unfolding chars digits
+added_text_last = refl
+
+removed_sheet : edit_bad_at (op (codes "remove_sheet") ∷ of_node 2 ∷ []) ≡ at (codes "/batches/0/0/sheet")
+unfolding chars digits
+removed_sheet = refl
+
+sheet_before_text : edit_bad_at (replace ∷ css null ∷ []) ≡ at (codes "/batches/0/0/sheet")
+unfolding chars digits
+sheet_before_text = refl
+
+text_last : edit_bad_at (replace ∷ of_sheet 1 ∷ css null ∷ []) ≡ at (codes "/batches/0/0/text")
+unfolding chars digits
+text_last = refl
+
+sheet_before_on : edit_bad_at (enable ∷ key (codes "sheet") (text (codes "1")) ∷ []) ≡ at (codes "/batches/0/0/sheet")
+unfolding chars digits
+sheet_before_on = refl
+
+sheet_on_last : edit_bad_at (enable ∷ of_sheet 1 ∷ enabled (boolean true) ∷ []) ≡ at (codes "/batches/0/0/on")
+unfolding chars digits
+sheet_on_last = refl
 
 -- one batch more than there may be, whatever is in them
 batches_over : (batch : List ℕ) → batches_past (replicate 10_001 batch) ≡ Some (Batches, 10_000)

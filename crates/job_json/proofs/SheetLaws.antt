@@ -1,12 +1,13 @@
 -- The sheets that the items say.
-use Rattle.std.proofs.Common.{◌≡◌, ◌+◌, ◌≤◌, nat_le, nat_lt, ◌&&◌, ◌||◌, not, List, [], ◌∷◌, ◌++◌, length, Bool, true, false, cond, Option, Some, None, Ok, Err, refl, sym, ap, ap₂, ◌∙◌, arith}
+use Rattle.std.proofs.Common.{◌≡◌, ℕ, ◌+◌, ◌≤◌, nat_le, nat_lt, ◌&&◌, ◌||◌, not, List, [], ◌∷◌, ◌++◌, length, Bool, true, false, cond, Option, Some, None, option_and_then, Ok, Err, bytes_eq, refl, sym, ap, ap₂, ◌∙◌, arith}
+use Rattle.std.specs.Prelude.{codes}
 use Rattle.std.specs.List.{list_all}
 use Rattle.std.specs.Option.{option_or}
 use Rattle.std.proofs.lemmas.Bool.Decides.{nat_tests}
 use Rattle.std.proofs.lemmas.List.{length_push}
 use Rattle.std.proofs.lemmas.List.Folds.{list_all-append}
-use Rattle.serde_json.specs.Data.{Data, Items, Members}
-use Rattle.serde_json.specs.Find.{as_array}
+use Rattle.serde_json.specs.Data.{Data, Items, Members, put}
+use Rattle.serde_json.specs.Find.{as_array, as_str}
 use Rattle.serde_json.specs.View.{items_of}
 use Rattle.base_model.specs.Limits.{sheet_limit, text_limit}
 use Rattle.stylo_base.specs.declared.refusal.Kind.TheVariants.{Sheets, Text}
@@ -14,15 +15,27 @@ use Rattle.layer_order.specs.declared.sheet_input.SheetInput.{SheetInput}
 use Rattle.job_json.specs.declared.sheet.SheetParts.{SheetParts}
 use Rattle.job_json.specs.declared.sheet_items.SheetItems.{SheetItems}
 use Rattle.job_json.specs.Checked.{Checked, ◌>>=◌, wanted}
+use Rattle.job_json.specs.Words.{origin_from, enabled_from}
 use Rattle.job_json.specs.Shape.{items_in, sheet_of, sheet_in}
 use Rattle.job_json.specs.Limits.{Passed, Within, within, is_short_text, texts_past, sheets_past}
 use Rattle.job_json.specs.Parts.{sheets_read}
 use Rattle.job_json.specs.Kept.{IsSheetOf, sheet_kept, AreSheetsOf, HasSheets, KeepsSheet, bad_or}
 use Rattle.job_json.proofs.CheckedLaws.{read_end}
+use Rattle.job_json.proofs.Puts.{beside}
 
 -- the sheet of the members
 pub sheet_is : (s : SheetParts) (ms : Members) → IsSheetOf s ms → sheet_of ms ≡ sheet_kept s
 sheet_is s ms kept = sym (rw (kept.origin, kept.enabled, kept.text) refl)
+
+-- a member that a sheet does not have
+pub input_beside : (s : SheetParts) (key : List ℕ) (d : Data) (ms : Members) (word : List ℕ) → key ≡ word
+    → bytes_eq word (codes "origin") ≡ false → bytes_eq word (codes "enabled") ≡ false → bytes_eq word (codes "text") ≡ false
+    → IsSheetOf s ms → IsSheetOf s (put key d ms)
+input_beside s key d ms word is no_origin no_enabled no_text kept = record {
+  origin = kept.origin ∙ ap origin_from (beside key d ms word (codes "origin") is no_origin);
+  enabled = kept.enabled ∙ ap enabled_from (beside key d ms word (codes "enabled") is no_enabled);
+  text = kept.text ∙ ap (option_and_then as_str) (beside key d ms word (codes "text") is no_text);
+}
 
 -- ---- one more sheet
 

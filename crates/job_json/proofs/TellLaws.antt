@@ -1,12 +1,12 @@
 -- What the members of an object of attributes tell of limits is what the attributes pass.
-use Rattle.std.proofs.Common.{◌≡◌, ℕ, suc, ◌+◌, nat_le, List, [], ◌∷◌, length, map, Bool, true, false, ◌&&◌, cond, Ordering, Less, Equal, Greater, nat_cmp, is_eq}
+use Rattle.std.proofs.Common.{◌≡◌, ℕ, suc, ◌+◌, nat_le, List, [], ◌∷◌, length, map, Bool, true, false, ◌&&◌, cond, Ordering, Less, Equal, Greater, is_eq}
 use Rattle.std.proofs.Math.Bool.{and_assoc, and_comm}
 use Rattle.std.proofs.Common.{Option, Some, None, Ok, Err, option_map, option_and_then, refl, sym, ap, ap₂, ◌∙◌, subst, arith}
 use Rattle.std.specs.Prelude.{T, is_some, IfSome, codes}
 use Rattle.std.specs.List.{AllByRecursion, list_all}
 use Rattle.std.specs.Option.{option_or}
 use Rattle.std.specs.Ordering.{eq_by_cmp, is_lt}
-use Rattle.std.specs.Cmp.Lexicographic.{slice_cmp, nat_list_cmp_total}
+use Rattle.std.specs.Cmp.Lexicographic.{nat_list_cmp_total}
 use Rattle.std.specs.FinMap as finmap
 use Rattle.std.specs.FinMap.Entries.{below_all}
 use Rattle.std.specs.Str.{chars, IsUtf8}
@@ -24,7 +24,7 @@ use Rattle.edit_model.specs.Refusal.{limit, attribute_count, value_bytes, bytes_
 use Rattle.job_json.specs.declared.slots.Slots.{Slots}
 use Rattle.job_json.specs.declared.node.NodeParts.{NodeParts}
 use Rattle.job_json.specs.Checked.{Checked, ◌>>=◌, step_to, wanted, at_member}
-use Rattle.job_json.specs.Words.{is_name, named_parent, parent_at}
+use Rattle.job_json.specs.Words.{is_name}
 use Rattle.job_json.specs.Shape.{name_in, parent_in, pairs_in, attrs_in, states_in, node_in}
 use Rattle.job_json.specs.Limits.{Passed, past, count_of, value_past, attrs_past}
 use Rattle.job_json.specs.NewNodes.{limit_of, passed_limit, attributes_past, TellsLimits}

@@ -8,13 +8,14 @@ use Rattle.stylo_base.specs.declared.state.State.{State}
 use Rattle.stylo_base.specs.declared.state.State.TheVariants.{Hover, Active, Focus}
 use Rattle.dom_edits.specs.declared.edits.DocEdit.TheVariants as doc
 use Rattle.dom_edits.specs.declared.edits.Edit.{Edit}
-use Rattle.dom_edits.specs.declared.edits.Edit.TheVariants.{Document}
+use Rattle.dom_edits.specs.declared.edits.SheetEdit.TheVariants as sheets
+use Rattle.dom_edits.specs.declared.edits.Edit.TheVariants.{Document, Sheets}
 use Rattle.job_json.specs.Checked.{Checked, ◌>>=◌, wanted, at_member}
 use Rattle.job_json.specs.Words.{whole, state_named}
-use Rattle.job_json.specs.Shape.{object_in, array_in, member_in, items_in, name_in, text_in}
+use Rattle.job_json.specs.Shape.{object_in, array_in, member_in, items_in, name_in, text_in, sheet_of}
 use Rattle.job_json.specs.NewNodes.{new_nodes_in}
 
--- the number of an element or an index, there or not
+-- the number of an element or of a sheet, or an index, there or not
 abbrev pub number_in : Option Data → Checked ℕ
 number_in value = wanted (option_and_then whole value)
 
@@ -74,11 +75,35 @@ state_of members = do
   on ← member_in (codes "on") on_in members
   Ok (Document (doc.State node state on))
 
+-- The sheet that is added has the members of a job's.
+abbrev pub add_sheet_of : Members → Checked Edit
+add_sheet_of members = do
+  index ← member_in (codes "index") number_in members
+  sheet ← sheet_of members
+  Ok (Sheets (sheets.Add index sheet.origin sheet.enabled sheet.text))
+
+abbrev pub remove_sheet_of : Members → Checked Edit
+remove_sheet_of members = do
+  sheet ← member_in (codes "sheet") number_in members
+  Ok (Sheets (sheets.Remove sheet))
+
+abbrev pub replace_sheet_of : Members → Checked Edit
+replace_sheet_of members = do
+  sheet ← member_in (codes "sheet") number_in members
+  text ← member_in (codes "text") text_in members
+  Ok (Sheets (sheets.Replace sheet text))
+
+abbrev pub enable_sheet_of : Members → Checked Edit
+enable_sheet_of members = do
+  sheet ← member_in (codes "sheet") number_in members
+  on ← member_in (codes "on") on_in members
+  Ok (Sheets (sheets.Enable sheet on))
+
 -- a word that is bad itself, since no edit has it
 abbrev pub no_edit : Checked Edit
 no_edit = at_member (codes "op") (Err [])
 
--- the edit with this word and these members; sheets can't be edited yet
+-- the edit with this word and these members
 abbrev pub edit_by : List ℕ → Members → Checked Edit
 edit_by word members =
     if bytes_eq word (codes "insert") then insert_of members
@@ -87,6 +112,10 @@ edit_by word members =
     else if bytes_eq word (codes "set") then set_of members
     else if bytes_eq word (codes "unset") then unset_of members
     else if bytes_eq word (codes "state") then state_of members
+    else if bytes_eq word (codes "add_sheet") then add_sheet_of members
+    else if bytes_eq word (codes "remove_sheet") then remove_sheet_of members
+    else if bytes_eq word (codes "replace_sheet") then replace_sheet_of members
+    else if bytes_eq word (codes "enable_sheet") then enable_sheet_of members
     else no_edit
 
 abbrev pub edit_of : Members → Checked Edit

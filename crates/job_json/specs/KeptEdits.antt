@@ -7,17 +7,28 @@ use Rattle.serde_json.specs.Find.{get_member, as_str, as_bool}
 use Rattle.base_model.specs.Limits.{batch_limit}
 use Rattle.dom_edits.specs.declared.edits.DocEdit.TheVariants as doc
 use Rattle.dom_edits.specs.declared.edits.Edit.{Edit}
-use Rattle.dom_edits.specs.declared.edits.Edit.TheVariants.{Document}
+use Rattle.dom_edits.specs.declared.edits.SheetEdit.{SheetEdit}
+use Rattle.dom_edits.specs.declared.edits.SheetEdit.TheVariants as sheets
+use Rattle.dom_edits.specs.declared.edits.Edit.TheVariants.{Document, Sheets}
 use Rattle.job_json.specs.declared.edit.EditParts.{EditParts}
 use Rattle.job_json.specs.declared.edit.LentEdit.{LentEdit}
-use Rattle.job_json.specs.declared.edit.LentEdit.TheVariants.{Insert, Remove, Move, Set, Unset, State}
+use Rattle.job_json.specs.declared.edit.LentEdit.TheVariants.{Insert, Remove, Move, Set, Unset, State, Sheets as of_sheets}
+use Rattle.job_json.specs.declared.sheet_edit.LentSheetEdit.{LentSheetEdit}
+use Rattle.job_json.specs.declared.sheet_edit.LentSheetEdit.TheVariants as lent
 use Rattle.job_json.specs.declared.edit_items.EditItems.{EditItems}
 use Rattle.job_json.specs.declared.batch_items.BatchItems.{BatchItems}
 use Rattle.job_json.specs.Checked.{Checked, ◌>>=◌, wanted, at_member}
 use Rattle.job_json.specs.Words.{whole, name_of}
 use Rattle.job_json.specs.NewNodes.{new_nodes_in}
 use Rattle.job_json.specs.Edits.{state_from, no_edit, edit_in, batch_in}
-use Rattle.job_json.specs.Kept.{AreRead}
+use Rattle.job_json.specs.Kept.{AreRead, IsSheetOf, sheet_kept}
+
+-- an edit of sheets whose text stands in the input
+abbrev pub lent_sheets_seen : LentSheetEdit → SheetEdit
+lent_sheets_seen (lent.Add index sheet) = sheets.Add index sheet.origin sheet.enabled (chars sheet.text.now)
+lent_sheets_seen (lent.Remove sheet) = sheets.Remove sheet
+lent_sheets_seen (lent.Replace sheet text) = sheets.Replace sheet (chars text.now)
+lent_sheets_seen (lent.Enable sheet on) = sheets.Enable sheet on
 
 -- an edit whose texts stand in the input
 abbrev pub lent_seen : LentEdit → Edit
@@ -27,6 +38,7 @@ lent_seen (Move node parent index) = Document (doc.Move node parent index)
 lent_seen (Set node name value) = Document (doc.Set node (chars name.now) (chars value.now))
 lent_seen (Unset node name) = Document (doc.Unset node (chars name.now))
 lent_seen (State node state on) = Document (doc.State node state on)
+lent_seen (of_sheets edit) = Sheets (lent_sheets_seen edit)
 
 -- the members of an edit
 pub record IsEditOf (s : EditParts) (ms : Members) : Type 0 where
@@ -39,6 +51,8 @@ pub record IsEditOf (s : EditParts) (ms : Members) : Type 0 where
   pub value : option_map (λ t. t.now) s.value ≡ option_and_then as_str (get_member (codes "value") ms)
   pub state : s.state ≡ state_from (get_member (codes "state") ms)
   pub on : s.on ≡ option_and_then as_bool (get_member (codes "on") ms)
+  pub sheet : s.sheet ≡ option_and_then whole (get_member (codes "sheet") ms)
+  pub input : IsSheetOf s.input ms
 
 abbrev pub insert_kept : EditParts → Checked Edit
 insert_kept s = do
@@ -79,6 +93,29 @@ state_kept s = do
   on ← at_member (codes "on") (wanted s.on)
   Ok (Document (doc.State node state on))
 
+abbrev pub add_sheet_kept : EditParts → Checked Edit
+add_sheet_kept s = do
+  index ← at_member (codes "index") (wanted s.index)
+  sheet ← sheet_kept s.input
+  Ok (Sheets (sheets.Add index sheet.origin sheet.enabled sheet.text))
+
+abbrev pub remove_sheet_kept : EditParts → Checked Edit
+remove_sheet_kept s = do
+  sheet ← at_member (codes "sheet") (wanted s.sheet)
+  Ok (Sheets (sheets.Remove sheet))
+
+abbrev pub replace_sheet_kept : EditParts → Checked Edit
+replace_sheet_kept s = do
+  sheet ← at_member (codes "sheet") (wanted s.sheet)
+  text ← at_member (codes "text") (wanted (option_map chars (option_map (λ t. t.now) s.input.text)))
+  Ok (Sheets (sheets.Replace sheet text))
+
+abbrev pub enable_sheet_kept : EditParts → Checked Edit
+enable_sheet_kept s = do
+  sheet ← at_member (codes "sheet") (wanted s.sheet)
+  on ← at_member (codes "on") (wanted s.on)
+  Ok (Sheets (sheets.Enable sheet on))
+
 abbrev pub kept_by : List ℕ → EditParts → Checked Edit
 kept_by word s =
     if bytes_eq word (codes "insert") then insert_kept s
@@ -87,6 +124,10 @@ kept_by word s =
     else if bytes_eq word (codes "set") then set_kept s
     else if bytes_eq word (codes "unset") then unset_kept s
     else if bytes_eq word (codes "state") then state_kept s
+    else if bytes_eq word (codes "add_sheet") then add_sheet_kept s
+    else if bytes_eq word (codes "remove_sheet") then remove_sheet_kept s
+    else if bytes_eq word (codes "replace_sheet") then replace_sheet_kept s
+    else if bytes_eq word (codes "enable_sheet") then enable_sheet_kept s
     else no_edit
 
 abbrev pub edit_kept : EditParts → Checked Edit

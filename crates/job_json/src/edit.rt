@@ -5,16 +5,20 @@ ghost use Rattle.json_reader.specs.Taken.{taken, Says};
 ghost use Rattle.job_json.specs.Checked.{map_ok};
 ghost use Rattle.job_json.specs.Edits.{edit_in};
 ghost use Rattle.job_json.specs.KeptEdits.{lent_seen, insert_kept, remove_kept, move_kept, set_kept, unset_kept, state_kept, edit_kept};
+ghost use Rattle.job_json.specs.KeptEdits.{add_sheet_kept, remove_sheet_kept, replace_sheet_kept, enable_sheet_kept};
 
 use crate::checked::Checked;
 use crate::name::name_in;
 use crate::new_nodes::take_new_nodes;
 use crate::pointer::{in_member, to_member};
+use crate::sheet::SheetParts;
+use crate::sheet_edit::LentSheetEdit;
 use crate::states::state_named;
 use dom_edits::{DocEdit, Edit, NewNodes};
 use json::Reader;
-use json_reader::{KeepMembers, Stop, boolean, object, pass, text, whole};
+use json_reader::{KeepMembers, Stop, boolean, object, text, whole};
 use std::alloc::Global;
+use std::mem::replace;
 use stylo_base::{NoMemory, State, Text};
 
 /// An edit of the right shape, its texts still in the input.
@@ -47,6 +51,7 @@ pub(crate) enum LentEdit<'a> {
         state: State,
         on: bool,
     },
+    Sheets(LentSheetEdit<'a>),
 }
 
 impl<'a> LentEdit<'a> {
@@ -84,6 +89,7 @@ impl<'a> LentEdit<'a> {
                 name: Text::of_str(alloc, name)?,
             },
             LentEdit::State { node, state, on } => DocEdit::State { node, state, on },
+            LentEdit::Sheets(edit) => return Ok(Edit::Sheets(edit.owned(alloc)?)),
         };
         Ok(Edit::Document(edit))
     }
@@ -103,6 +109,9 @@ struct EditParts<'a> {
     value: Option<&'a str>,
     state: Option<State>,
     on: Option<bool>,
+    sheet: Option<u64>,
+    /// The members that a sheet of a job has too.
+    input: SheetParts<'a>,
 }
 
 impl<'a> KeepMembers<'a> for EditParts<'a> {
@@ -110,18 +119,21 @@ impl<'a> KeepMembers<'a> for EditParts<'a> {
 
     ghost keeps = { IsEditOf };
 
+    // (the members of the edits that jobs have most come first)
+    #[inline]
     fn member(&mut self, key: &'a str, reader: &mut Reader<'a>, depth: usize) -> Result<(), Stop> {
         match key {
             "op" => self.op = text(reader, depth)?,
             "node" => self.node = whole(reader, depth)?,
-            "parent" => self.parent = whole(reader, depth)?,
-            "index" => self.index = whole(reader, depth)?,
-            "nodes" => self.nodes = take_new_nodes(self.alloc, reader, depth)?,
             "name" => self.name = name_in(text(reader, depth)?),
             "value" => self.value = text(reader, depth)?,
             "state" => self.state = state_named(text(reader, depth)?),
             "on" => self.on = boolean(reader, depth)?,
-            _ => pass(reader, depth)?,
+            "parent" => self.parent = whole(reader, depth)?,
+            "index" => self.index = whole(reader, depth)?,
+            "nodes" => self.nodes = take_new_nodes(self.alloc, reader, depth)?,
+            "sheet" => self.sheet = whole(reader, depth)?,
+            _ => self.input.member(key, reader, depth)?,
         }
         Ok(())
     }
@@ -149,6 +161,8 @@ pub(crate) fn take_edit<'a>(
         value: None,
         state: None,
         on: None,
+        sheet: None,
+        input: SheetParts::new(),
     };
     if !object(reader, depth, &mut parts)? {
         return Ok(Err(Text::new(alloc)));
@@ -157,9 +171,9 @@ pub(crate) fn take_edit<'a>(
 }
 
 impl<'a> EditParts<'a> {
-    /// The edit of the members: its word first.
-    fn judge(self) -> Result<Checked<LentEdit<'a>>, NoMemory>
-        ensures { IfOk result (λ edit. map_ok lent_seen edit ≡ edit_kept self.entry) }
+    /// The edit of the members: its word first. The nodes are taken out, so that the parts aren't moved for each edit.
+    fn judge(&mut self) -> Result<Checked<LentEdit<'a>>, NoMemory>
+        ensures { IfOk result (λ edit. map_ok lent_seen edit ≡ edit_kept self.old) }
     {
         let Some(word) = self.op else {
             return Ok(Err(to_member(self.alloc, "op")?));
@@ -171,33 +185,30 @@ impl<'a> EditParts<'a> {
             "set" => self.set(),
             "unset" => self.unset(),
             "state" => self.state(),
+            "add_sheet" => self.add_sheet(),
+            "remove_sheet" => self.remove_sheet(),
+            "replace_sheet" => self.replace_sheet(),
+            "enable_sheet" => self.enable_sheet(),
             _ => Ok(Err(to_member(self.alloc, "op")?)),
         }
     }
 
-    fn insert(self) -> Result<Checked<LentEdit<'a>>, NoMemory>
-        ensures { IfOk result (λ edit. map_ok lent_seen edit ≡ insert_kept self.entry) }
+    fn insert(&mut self) -> Result<Checked<LentEdit<'a>>, NoMemory>
+        ensures { IfOk result (λ edit. map_ok lent_seen edit ≡ insert_kept self.old) }
     {
-        let EditParts {
-            alloc,
-            parent,
-            index,
-            nodes,
-            ..
-        } = self;
-        let Some(parent) = parent else {
-            return Ok(Err(to_member(alloc, "parent")?));
+        let Some(parent) = self.parent else {
+            return Ok(Err(to_member(self.alloc, "parent")?));
         };
-        let Some(index) = index else {
-            return Ok(Err(to_member(alloc, "index")?));
+        let Some(index) = self.index else {
+            return Ok(Err(to_member(self.alloc, "index")?));
         };
-        match nodes {
+        match replace(&mut self.nodes, Err(Text::new(self.alloc))) {
             Ok(nodes) => Ok(Ok(LentEdit::Insert {
                 parent,
                 index,
                 nodes,
             })),
-            Err(path) => Ok(Err(in_member(alloc, "nodes", &path)?)),
+            Err(path) => Ok(Err(in_member(self.alloc, "nodes", &path)?)),
         }
     }
 
@@ -269,5 +280,50 @@ impl<'a> EditParts<'a> {
             return Ok(Err(to_member(self.alloc, "on")?));
         };
         Ok(Ok(LentEdit::State { node, state, on }))
+    }
+
+    fn add_sheet(&self) -> Result<Checked<LentEdit<'a>>, NoMemory>
+        ensures { IfOk result (λ edit. map_ok lent_seen edit ≡ add_sheet_kept self.now) }
+    {
+        let Some(index) = self.index else {
+            return Ok(Err(to_member(self.alloc, "index")?));
+        };
+        match self.input.judge(self.alloc)? {
+            Ok(sheet) => Ok(Ok(LentEdit::Sheets(LentSheetEdit::Add { index, sheet }))),
+            Err(path) => Ok(Err(path)),
+        }
+    }
+
+    fn remove_sheet(&self) -> Result<Checked<LentEdit<'a>>, NoMemory>
+        ensures { IfOk result (λ edit. map_ok lent_seen edit ≡ remove_sheet_kept self.now) }
+    {
+        let Some(sheet) = self.sheet else {
+            return Ok(Err(to_member(self.alloc, "sheet")?));
+        };
+        Ok(Ok(LentEdit::Sheets(LentSheetEdit::Remove { sheet })))
+    }
+
+    fn replace_sheet(&self) -> Result<Checked<LentEdit<'a>>, NoMemory>
+        ensures { IfOk result (λ edit. map_ok lent_seen edit ≡ replace_sheet_kept self.now) }
+    {
+        let Some(sheet) = self.sheet else {
+            return Ok(Err(to_member(self.alloc, "sheet")?));
+        };
+        let Some(text) = self.input.text else {
+            return Ok(Err(to_member(self.alloc, "text")?));
+        };
+        Ok(Ok(LentEdit::Sheets(LentSheetEdit::Replace { sheet, text })))
+    }
+
+    fn enable_sheet(&self) -> Result<Checked<LentEdit<'a>>, NoMemory>
+        ensures { IfOk result (λ edit. map_ok lent_seen edit ≡ enable_sheet_kept self.now) }
+    {
+        let Some(sheet) = self.sheet else {
+            return Ok(Err(to_member(self.alloc, "sheet")?));
+        };
+        let Some(on) = self.on else {
+            return Ok(Err(to_member(self.alloc, "on")?));
+        };
+        Ok(Ok(LentEdit::Sheets(LentSheetEdit::Enable { sheet, on })))
     }
 }

@@ -16,6 +16,7 @@ mod node;
 mod node_list;
 mod pointer;
 mod sheet;
+mod sheet_edit;
 mod sheet_items;
 mod sheet_list;
 mod slots;

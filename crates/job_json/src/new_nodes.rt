@@ -104,6 +104,7 @@ fn limit_told(kind: Kind) -> NodeLimit
 }
 
 /// Takes a list of nodes that are to be put in.
+#[inline(never)]
 pub(crate) fn take_new_nodes(
     alloc: Global,
     reader: &mut Reader<'_>,

@@ -1,11 +1,12 @@
 //! One style sheet of a job.
 
 ghost use Rattle.std.specs.Prelude.{◌≡◌, ◌<◌, length, None, option_map, option_and_then, IfOk, OnOk};
+ghost use Rattle.serde_json.specs.Data.{no_members};
 ghost use Rattle.json_reader.specs.Taken.{taken, Says};
 ghost use Rattle.job_json.specs.Checked.{map_ok};
 ghost use Rattle.job_json.specs.Words.{origin_named};
 ghost use Rattle.job_json.specs.Shape.{sheet_in};
-ghost use Rattle.job_json.specs.Kept.{sheet_seen, sheet_kept};
+ghost use Rattle.job_json.specs.Kept.{sheet_seen, IsSheetOf, sheet_kept};
 
 use crate::checked::Checked;
 use crate::pointer::to_member;
@@ -25,10 +26,10 @@ pub(crate) struct LentSheet<'a> {
 
 /// What is kept of the members of a sheet. None: it is not what it must be.
 #[derive(Drop)]
-struct SheetParts<'a> {
+pub(crate) struct SheetParts<'a> {
     origin: Option<Origin>,
     enabled: Option<bool>,
-    text: Option<&'a str>,
+    pub text: Option<&'a str>,
 }
 
 impl<'a> KeepMembers<'a> for SheetParts<'a> {
@@ -58,11 +59,7 @@ pub(crate) fn take_sheet<'a>(
     ensures shorter { OnOk result (length reader.new < length reader.old) }
     ensures err { result ≡ Err Stop.NotJson → taken depth reader.old ≡ None }
 {
-    let mut parts = SheetParts {
-        origin: None,
-        enabled: Some(true),
-        text: None,
-    };
+    let mut parts = SheetParts::new();
     if !object(reader, depth, &mut parts)? {
         return Ok(Err(Text::new(alloc)));
     }
@@ -70,8 +67,19 @@ pub(crate) fn take_sheet<'a>(
 }
 
 impl<'a> SheetParts<'a> {
+    /// A sheet with no members.
+    pub fn new() -> SheetParts<'a>
+        ensures { IsSheetOf result no_members }
+    {
+        SheetParts {
+            origin: None,
+            enabled: Some(true),
+            text: None,
+        }
+    }
+
     /// The sheet of the members.
-    fn judge(&self, alloc: Global) -> Result<Checked<LentSheet<'a>>, NoMemory>
+    pub fn judge(&self, alloc: Global) -> Result<Checked<LentSheet<'a>>, NoMemory>
         ensures { IfOk result (λ sheet. map_ok sheet_seen sheet ≡ sheet_kept self.now) }
     {
         let Some(origin) = self.origin else {

@@ -1,7 +1,8 @@
 //! The order of cascade layers (css-cascade-5, section 6.4).
 
-ghost use Rattle.std.specs.Prelude.{◌≡◌, [], IfOk};
+ghost use Rattle.std.specs.Prelude.{◌≡◌, [], IfOk, not};
 ghost use Rattle.layer_model.specs.Order.{layer_order, layer_rank, layers_of, names_of, rank_in, with_names};
+ghost use Rattle.layer_model.specs.Swapped.{swapped, swapped_in};
 ghost use Rattle.layer_order.specs.Nested.{IsNesting, below_none};
 ghost use Rattle.layer_order.specs.View.{declarations, origin_of};
 
@@ -53,6 +54,15 @@ impl Layers {
     }
 }
 
+/// Whether no two layers of one origin that are there before and after stand in another order. It takes no memory.
+pub fn same_relative_order(before: &Layers, after: &Layers) -> bool
+    ensures { result ≡ not (swapped before.now after.now) }
+{
+    before.of_user_agent.is_kept_in(&after.of_user_agent)
+        && before.of_user.is_kept_in(&after.of_user)
+        && before.of_author.is_kept_in(&after.of_author)
+}
+
 /// The layers of one origin, lowest first; what is in no layer is last.
 #[derive(Drop)]
 struct Order {
@@ -90,6 +100,23 @@ impl Order {
             Some(place) => place as u32,
             None => self.names.len() as u32 - 1,
         }
+    }
+
+    /// Whether those of these layers that are in the other order too stand there as they do here: the places at which
+    /// they are found rise.
+    fn is_kept_in(&self, after: &Order) -> bool
+        ensures { result ≡ not (swapped_in self.now after.now) }
+    {
+        let mut least = 0;
+        for name in self.names.as_slice() {
+            if let Some(place) = after.names.get_index_of(name) {
+                if place < least {
+                    return false;
+                }
+                least = place + 1;
+            }
+        }
+        true
     }
 }
 

@@ -10,7 +10,7 @@ mod origin;
 mod part;
 mod sheet_input;
 
-pub use layers::Layers;
+pub use layers::{Layers, same_relative_order};
 pub use name::LayerName;
 pub use origin::Origin;
 pub use part::Part;

@@ -62,6 +62,18 @@ fn first_type(compound: &Compound) -> Option<&Atom>
 }
 
 impl Key {
+    /// Another key of the same name.
+    pub fn copy(&self, alloc: Global) -> Result<Key, NoMemory>
+        ensures { IfOk result (λ key. key_seen key ≡ key_seen self.now) }
+    {
+        match self {
+            Key::Id(name) => Ok(Key::Id(name.copy(alloc)?)),
+            Key::Class(class) => Ok(Key::Class(class.copy(alloc)?)),
+            Key::Type(tag) => Ok(Key::Type(tag.copy(alloc)?)),
+            Key::Any => Ok(Key::Any),
+        }
+    }
+
     /// The key of a selector with this rightmost compound.
     pub(crate) fn of_compound(alloc: Global, compound: &Compound) -> Result<Key, NoMemory>
         ensures { IfOk result (λ key. key_seen key ≡ key_of_compound (compound_of compound.now)) }

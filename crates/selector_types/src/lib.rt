@@ -1,10 +1,12 @@
-//! Selectors as data, how specific they are, and the key by which their rules are found.
+//! Selectors as data, how specific they are, and the key by which their rules are found; and what an edit of sheets
+//! changed.
 #![tactic(auto)]
 
 mod complex;
 mod keys;
 pub mod measure;
 mod selector;
+mod sheet_change;
 mod simple;
 pub mod weight;
 
@@ -12,5 +14,6 @@ pub use complex::{Combinator, Complex, Compound, Left, Test};
 pub use keys::{Key, key_of};
 pub use measure::Measure;
 pub use selector::Selector;
+pub use sheet_change::SheetChange;
 pub use simple::{AnB, AttributeOperator, Nth, Simple};
 pub use stylo_base::Specificity;

@@ -4,7 +4,7 @@ use crate::scripts::first_wrong;
 use std::test::Fail;
 
 /// Scripts, each with what it is about.
-const SCRIPTS: [(&str, &str); 16] = [
+const SCRIPTS: [(&str, &str); 18] = [
     (
         "no rule speaks of the class",
         "1 html; 2 p in 1
@@ -245,6 +245,41 @@ remove 3
 restyle 0 0
 style 5 no node",
     ),
+    (
+        "layers in another order, by another text, and the same text again",
+        "1 html; 2 p in 1
+@layer a, b;
+sheet 1 author @layer a{p{color:red}} @layer b{p{color:lime}}
+restyle 2 2
+style 2 color: #00ff00
+text 1 @layer b, a;
+style 1 stale
+restyle 2 2
+style 2 color: #ff0000
+text 1 @layer b, a;
+restyle 0 0
+refused text 9 p{}
+refused sheet 3 user p{}",
+    ),
+    (
+        "a sheet that is switched on, and one that goes",
+        "1 html; 2 p in 1
+p[k]{color:red}
+hide 1
+restyle 2 2
+set 2 k
+restyle 0 0
+show 1
+style 2 stale
+restyle 1 1
+style 2 color: #ff0000
+show 1
+restyle 0 0
+drop 1
+restyle 1 1
+style 2
+refused drop 1",
+    ),
 ];
 
 #[test]
@@ -281,7 +316,14 @@ move 3 1 0
 remove 4
 restyle 2 2
 style 5 font-size: 20px
-style 4 no node";
+style 4 no node
+sheet 1 user @layer a{p{height:1px}}
+text 2 @layer a{p{height:2px}}
+hide 1
+restyle 3 3
+style 2 height: 2px; font-size: 20px
+drop 2
+restyle 1 2";
 
 /// `rt try --test --fail-alloc N` has one allocation fail: what is tried again then is right.
 #[test]

@@ -3,6 +3,8 @@
 //!
 //! - `set 2 class a` and `unset 2 class`, edits of an attribute; `on 2 hover` and `off 2 hover`, edits of that state;
 //! - `insert 1 0 q`, an insertion in 1 at 0 of one node; `remove 2`; `move 2 1 0`, a move of 2 into 1 at 0;
+//! - `sheet 0 user TEXT`, a sheet of that origin put in at 0; `text 1 TEXT`, another text of sheet 1; `drop 1`, its
+//!   removal; `show 1` and `hide 1`, by which it takes part or not;
 //! - `refused set 7 k v`, an edit that is refused;
 //! - `restyle 1 2`, a restyle that matches one element and cascades two;
 //! - `style 2 TEXT`, the printed properties of an element's style, or `stale`, or `no node`.
@@ -10,7 +12,7 @@
 //! Each function owns one value at most when it returns: what is let go at each way out of it is proved there.
 
 use crate::counting::CountingGate;
-use dom_edits::{DocEdit, Edit, NewNodes};
+use dom_edits::{DocEdit, Edit, NewNodes, SheetEdit};
 use dom_tree::{Attr, NodeInput, NodeList, States};
 use layer_order::Origin;
 use sheet_set::SheetInput;
@@ -254,6 +256,8 @@ fn edit_of(alloc: Global, word: &str, text: &str) -> Result<Edit, NoMemory> {
         "insert" => insert_of(alloc, text),
         "remove" => Ok(Edit::Document(DocEdit::Remove { node: number(text) })),
         "move" => Ok(move_of(text)),
+        "sheet" => added_sheet_of(alloc, text),
+        "text" | "drop" | "show" | "hide" => sheet_edit_of(alloc, word, text),
         _ => element_edit_of(alloc, word, text),
     }
 }
@@ -286,6 +290,40 @@ fn move_of(text: &str) -> Edit {
         parent: number(parent),
         index: number(index),
     })
+}
+
+/// A sheet that is put in: at which index, where it comes from, and its text.
+fn added_sheet_of(alloc: Global, text: &str) -> Result<Edit, NoMemory> {
+    let (index, rest) = cut(text, ' ');
+    let (origin, text) = cut(rest, ' ');
+    Ok(Edit::Sheets(SheetEdit::Add {
+        index: number(index),
+        origin: if origin == "user" {
+            Origin::User
+        } else {
+            Origin::Author
+        },
+        enabled: true,
+        text: Text::of_str(alloc, text)?,
+    }))
+}
+
+/// An edit of one sheet.
+fn sheet_edit_of(alloc: Global, word: &str, text: &str) -> Result<Edit, NoMemory> {
+    let (sheet, text) = cut(text, ' ');
+    let sheet = number(sheet);
+    let edit = match word {
+        "text" => SheetEdit::Replace {
+            sheet,
+            text: Text::of_str(alloc, text)?,
+        },
+        "drop" => SheetEdit::Remove { sheet },
+        _ => SheetEdit::Enable {
+            sheet,
+            on: word == "show",
+        },
+    };
+    Ok(Edit::Sheets(edit))
 }
 
 /// An edit of one element in place.

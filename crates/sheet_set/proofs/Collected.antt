@@ -1,5 +1,5 @@
 -- One rule, one declaration and one sheet more.
-use Rattle.std.proofs.Common.{◌≡◌, ℕ, ◌+◌, List, [], ◌∷◌, ◌++◌, length, map, true, false, Option, Some, None, refl, sym, ap, ◌∙◌, arith, append_assoc, append-nil}
+use Rattle.std.proofs.Common.{◌≡◌, ℕ, ◌+◌, List, [], ◌∷◌, ◌++◌, length, map, Option, Some, None, refl, sym, ap, ◌∙◌, arith, append_assoc, append-nil}
 use Rattle.std.specs.Prelude.{Vec, flat_map, filter_map, option_and_then, option_map, option_to_list}
 use Rattle.std.proofs.lemmas.List.{map-append}
 use Rattle.std.specs.List.{cons_option}
@@ -12,13 +12,13 @@ use Rattle.selector_model.specs.Selector as model_selector
 use Rattle.sheet_model.specs.Declared as model
 use Rattle.sheet_model.specs.SelectorsIn.{selectors_in}
 use Rattle.sheet_model.specs.Declared.{block_declared}
-use Rattle.sheet_model.specs.StyleRules.{StyleRule, style_rule_of, style_rule_in, style_rules_in, layer_in}
-use Rattle.sheet_model.specs.Sources.{PlacedRule, placed, all_placed, edition_of, enabled_among, rules_from, sheet_layers}
+use Rattle.sheet_model.specs.StyleRules.{StyleRule, style_rule_of, style_rule_in, layer_in}
+use Rattle.sheet_model.specs.Sources.{PlacedRule, placed, all_placed}
 use Rattle.layer_order.specs.View.{origin_of}
 use Rattle.selector_types.specs.declared.selector.Selector.{Selector}
 use Rattle.selector_types.specs.View.{selector_of}
 use Rattle.sheet_set.specs.declared.sheet_rule.SheetRule.{SheetRule}
-use Rattle.sheet_set.specs.View.{own_layers, own_rules, rule_count, placed_rule_of, rules_with}
+use Rattle.sheet_set.specs.Rules.{rule_count, placed_rule_of, rules_with}
 use Rattle.shorthands.specs.View.{declared_of}
 
 -- what is kept so far, and what each item that is left gives, is the whole: one item more
@@ -107,40 +107,6 @@ pub layers_given : (sheet : Sheet) (rules : List Rule) → filter_map (layer_giv
 layers_given sheet [] = refl
 layers_given sheet (rule ∷ rules) =
     given_step sheet (layer_in rule) (filter_map layer_in rules) (filter_map (layer_given sheet) rules) (layers_given sheet rules)
-
--- Sheet by sheet: of a list of enabled and disabled ones.
-pub sheet_enabled : (whole found new : List PlacedRule) (position next : ℕ) (sheet : Sheet) (left : List Sheet) → sheet.enabled ≡ true
-    → new ≡ found ++ all_placed sheet position 0 (style_rules_in (edition_of sheet) sheet.text) → next ≡ position + 1 → found ++ rules_from position (enabled_among (sheet ∷ left)) ≡ whole → new ++ rules_from next (enabled_among left) ≡ whole
-sheet_enabled whole found new position next sheet left on added n before =
-    let own = all_placed sheet position 0 (style_rules_in (edition_of sheet) sheet.text) in
-    let rest = enabled_among left in
-    ap (λ l. l ++ rules_from next rest) added
-    ∙ (append_assoc found own (rules_from next rest)
-    ∙ (ap (λ k. found ++ (own ++ rules_from k rest)) n ∙ (rw on at before)))
-
-pub sheet_disabled : {A : Type 0} (whole found : List A) (f : List Sheet → List A) (sheet : Sheet) (left : List Sheet) → sheet.enabled ≡ false
-    → found ++ f (enabled_among (sheet ∷ left)) ≡ whole → found ++ f (enabled_among left) ≡ whole
-sheet_disabled whole found f sheet left off before = rw off at before
-
-pub layers_enabled : (whole found new : List (Origin × LayerName)) (sheet : Sheet) (left : List Sheet) → sheet.enabled ≡ true
-    → new ≡ found ++ sheet_layers sheet → found ++ flat_map sheet_layers (enabled_among (sheet ∷ left)) ≡ whole → new ++ flat_map sheet_layers (enabled_among left) ≡ whole
-layers_enabled whole found new sheet left on added before =
-    ap (λ l. l ++ flat_map sheet_layers (enabled_among left)) added
-    ∙ (append_assoc found (sheet_layers sheet) (flat_map sheet_layers (enabled_among left)) ∙ (rw on at before))
-
--- the rules of its own that a sheet has
-pub own_enabled : (sheet : Sheet) → sheet.enabled ≡ true → own_rules sheet ≡ []
-own_enabled sheet on = rw on refl
-
-pub own_disabled : (sheet : Sheet) → sheet.enabled ≡ false → own_rules sheet ≡ all_placed sheet 0 0 (style_rules_in (edition_of sheet) sheet.text)
-own_disabled sheet off = rw off refl
-
--- and the layers
-pub layers_with_all : (sheet : Sheet) → sheet.enabled ≡ true → own_layers sheet ≡ []
-layers_with_all sheet on = rw on refl
-
-pub layers_of_own : (sheet : Sheet) → sheet.enabled ≡ false → own_layers sheet ≡ sheet_layers sheet
-layers_of_own sheet off = rw off refl
 
 -- one item more of a list whose items stand for those of the whole
 pub one_placed : {A C : Type 0} (f : A → C) (items new : List A) (item : A) (left after : List C) (first : C) (whole : List C) → new ≡ items ++ item ∷ [] → left ≡ first ∷ after → f item ≡ first → map f items ++ left ≡ whole → map f new ++ after ≡ whole

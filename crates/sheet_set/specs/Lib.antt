@@ -1,4 +1,13 @@
+pub mod Fits
+pub mod Kept
 pub mod Parts
+pub mod Planned
 pub mod Ranks
+pub mod Renumbered
+pub mod Room
+pub mod Rules
+pub mod Standing
+pub mod StepOf
+pub mod TellsMarks
 pub mod View
 pub mod Writable

@@ -2,10 +2,10 @@
 
 ghost use Rattle.std.specs.Prelude.{◌≡◌, ◌+◌, ◌++◌, ◌∷◌, [], IfOk, OnOk, length, option_to_list};
 ghost use Rattle.css_rules.specs.View.{style_of};
-ghost use Rattle.layer_order.specs.View.{declarations, origin_of, sheet_of};
+ghost use Rattle.layer_order.specs.View.{declarations, origin_of};
 ghost use Rattle.sheet_model.specs.Sources.{all_placed, edition_of, sheet_layers};
 ghost use Rattle.sheet_model.specs.StyleRules.{style_rule_of, style_rules_in};
-ghost use Rattle.sheet_set.specs.View.{rule_count, rules_with};
+ghost use Rattle.sheet_set.specs.Rules.{rule_count, rules_with, sheet_read};
 
 use crate::parse_block::parse_block;
 use crate::{SheetInput, SheetRule};
@@ -24,13 +24,6 @@ pub(crate) struct RuleCollector {
     pub layers: Vec<(Origin, LayerName)>,
 }
 
-/// The number of a sheet, and its position among the enabled ones.
-#[derive(Clone, Copy, Debug)]
-pub(crate) struct SheetPosition {
-    pub number: u32,
-    pub position: u32,
-}
-
 impl RuleCollector {
     /// No rules and no layers.
     pub fn new(alloc: Global) -> RuleCollector
@@ -45,28 +38,24 @@ impl RuleCollector {
         }
     }
 
-    /// Adds the rules and layers of a sheet.
+    /// Adds the rules and layers of a sheet's text, the rules as those of a sheet at position 0.
     pub fn add_sheet(
         &mut self,
         alloc: Global,
-        at: SheetPosition,
+        at: SheetEdition,
         sheet: &SheetInput,
     ) -> Result<(), NoMemory>
         requires { length self.old.rules.items ≡ length self.old.selectors.items }
         ensures adds { OnOk result (rules_with self.new.rules.items self.new.selectors.items
             ≡ rules_with self.old.rules.items self.old.selectors.items
-            ++ all_placed (sheet_of at.number sheet.now) at.position 0
-            (style_rules_in (edition_of (sheet_of at.number sheet.now)) sheet.now.text)) }
+            ++ all_placed (sheet_read at sheet.now) 0 0
+            (style_rules_in (edition_of (sheet_read at sheet.now)) sheet.now.text)) }
         ensures layers { OnOk result (declarations self.new.layers.items
-            ≡ declarations self.old.layers.items ++ sheet_layers (sheet_of at.number sheet.now)) }
+            ≡ declarations self.old.layers.items ++ sheet_layers (sheet_read at sheet.now)) }
         ensures paired { OnOk result (length self.new.rules.items ≡ length self.new.selectors.items) }
     {
-        let edition = SheetEdition {
-            sheet: at.number,
-            edition: 0,
-        };
         let mut index = 0;
-        for rule in &edition_rules(alloc, edition, sheet.text.as_str())? {
+        for rule in &edition_rules(alloc, at, sheet.text.as_str())? {
             match rule {
                 Rule::Style(style) => index = self.add_style(alloc, at, sheet, index, style)?,
                 Rule::Layer(context) => self.add_layer(sheet.origin, context)?,
@@ -80,7 +69,7 @@ impl RuleCollector {
     fn add_style(
         &mut self,
         alloc: Global,
-        at: SheetPosition,
+        at: SheetEdition,
         sheet: &SheetInput,
         index: u64,
         style: &StyleBlock,
@@ -88,7 +77,7 @@ impl RuleCollector {
         requires { length self.old.rules.items ≡ length self.old.selectors.items }
         ensures adds { OnOk result (rules_with self.new.rules.items self.new.selectors.items
             ≡ rules_with self.old.rules.items self.old.selectors.items
-            ++ all_placed (sheet_of at.number sheet.now) at.position index
+            ++ all_placed (sheet_read at sheet.now) 0 index
             (option_to_list (style_rule_of (style_of style.now)))) }
         ensures next { IfOk result (λ next. next ≡ index + rule_count (style_rule_of (style_of style.now))) }
         ensures paired { OnOk result (length self.new.rules.items ≡ length self.new.selectors.items) }
@@ -102,7 +91,7 @@ impl RuleCollector {
             declarations,
             sheet.origin,
             style.context.layer.share()?,
-            at,
+            at.sheet,
             index,
         )?;
         let next = rule.end();

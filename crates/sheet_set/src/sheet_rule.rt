@@ -5,7 +5,6 @@ ghost use Rattle.shorthands.specs.View.{declared_count};
 
 use crate::Declared;
 use crate::count::count_all;
-use crate::rule_collector::SheetPosition;
 use layer_order::{LayerName, Origin};
 use stylo_base::NoMemory;
 
@@ -26,17 +25,17 @@ pub struct SheetRule {
 }
 
 impl SheetRule {
-    /// A rule of the sheet at a position. Where 2^64 declarations or more come before its end, it is
+    /// A rule of a sheet at position 0. Where 2^64 declarations or more come before its end, it is
     /// as if memory ran out.
     pub(crate) fn new(
         declarations: Vec<Declared>,
         origin: Origin,
         layer: LayerName,
-        at: SheetPosition,
+        sheet: u32,
         first_index: u64,
     ) -> Result<SheetRule, NoMemory>
         ensures { IfOk result (λ rule. (rule.declarations ≡ declarations) × ((rule.origin ≡ origin)
-            × ((rule.layer ≡ layer) × ((rule.sheet ≡ at.number) × ((rule.position ≡ at.position)
+            × ((rule.layer ≡ layer) × ((rule.sheet ≡ sheet) × ((rule.position ≡ 0)
             × (rule.first_index ≡ first_index)))))) }
     {
         let count = count_all(declarations.as_slice())?;
@@ -47,8 +46,8 @@ impl SheetRule {
             declarations,
             origin,
             layer,
-            sheet: at.number,
-            position: at.position,
+            sheet,
+            position: 0,
             first_index,
             count,
         })
@@ -96,6 +95,13 @@ impl SheetRule {
         ensures { result ≡ self.now.position }
     {
         self.position
+    }
+
+    /// Puts it at another position of its sheet.
+    pub(crate) fn put(&mut self, position: u32)
+        ensures { self.new ≡ record self.old { position = position } }
+    {
+        self.position = position;
     }
 
     /// How many declarations are kept before it in its sheet's text.

@@ -1,12 +1,20 @@
 //! The style sheets of a document.
 
-ghost use Rattle.std.specs.Prelude.{◌≡◌, map, vec_len};
+ghost use Rattle.std.specs.Prelude.{◌≡◌, ◌≤◌, length, map, vec_len};
+ghost use Rattle.base_model.specs.Limits.{number_limit, sheet_limit};
+ghost use Rattle.edit_model.specs.SheetApply.{AreNumbered};
+ghost use Rattle.sheet_model.specs.Sources.{layers_of_sheets, rules_of_sheets};
+ghost use Rattle.sheet_set.specs.Kept.{kept_seen, taking};
 ghost use Rattle.sheet_set.specs.Ranks.{rank_seen};
+ghost use Rattle.sheet_set.specs.Rules.{AreSame, rules_with, unplaced};
 
 use crate::copied::copied;
+use crate::kept_layers::layers_of;
 use crate::ranks::ranks_of;
-use crate::rule_collector::{RuleCollector, SheetPosition};
+use crate::renumber::renumber;
+use crate::taking_in::{taken_again, taken_in};
 use crate::{KeptSheet, SheetInput, SheetRule};
+use css_rules::SheetEdition;
 use layer_order::Layers;
 use selector_types::Selector;
 use std::alloc::Global;
@@ -16,22 +24,27 @@ use stylo_base::NoMemory;
 /// sheets and of their texts.
 #[derive(Drop)]
 pub struct Sheets {
-    sheets: Vec<KeptSheet>,
-    rules: Vec<SheetRule>,
-    selectors: Vec<Vec<Selector>>,
-    ranks: Vec<u32>,
-    layers: Layers,
+    pub(crate) sheets: Vec<KeptSheet>,
+    /// The last number that was given to a sheet.
+    pub(crate) last: u32,
+    pub(crate) rules: Vec<SheetRule>,
+    pub(crate) selectors: Vec<Vec<Selector>>,
+    pub(crate) ranks: Vec<u32>,
+    pub(crate) layers: Layers,
     ghost paired: { vec_len rules ≡ vec_len selectors },
     ghost ranked: { ranks.items ≡ map (rank_seen layers) rules.items },
+    ghost of_texts: { AreSame (rules_with rules.items selectors.items)
+        (rules_of_sheets (map kept_seen sheets.items)) },
+    ghost layered: { layers ≡ layers_of_sheets (map kept_seen sheets.items) },
+    ghost numbered: { ∥ AreNumbered (record { listed = map kept_seen sheets.items; last = last }) ∥₁ },
+    ghost few: { length sheets.items ≤ sheet_limit },
+    ghost given: { last ≤ number_limit },
 }
 
 impl Sheets {
-    ghost use Rattle.std.specs.Prelude.{◌≤◌, IfOk, length};
-    ghost use Rattle.base_model.specs.Limits.{sheet_limit};
-    ghost use Rattle.layer_order.specs.View.{declarations, sheets_of};
-    ghost use Rattle.sheet_model.specs.Sources.{layers_of_sheets, rules_of_sheets};
-    ghost use Rattle.layer_model.specs.Order.{layers_of};
-    ghost use Rattle.sheet_set.specs.View.{kept_layers, kept_seen, own_kept, own_layers, own_rules, rules_of, rules_with};
+    ghost use Rattle.std.specs.Prelude.{IfOk};
+    ghost use Rattle.layer_order.specs.View.{sheets_of};
+    ghost use Rattle.sheet_set.specs.View.{listed_seen};
 
     /// These sheets, which are numbered from 1; there may be none. A rule whose selectors can't be read
     /// is dropped, and so is a declaration of an unknown property, or of a value that the property does
@@ -39,13 +52,8 @@ impl Sheets {
     /// those of all.
     pub fn start(alloc: Global, sheets: &[SheetInput]) -> Result<Sheets, NoMemory>
         requires { length sheets.now ≤ sheet_limit }
-        ensures rules { IfOk result (λ started. rules_of started ≡ rules_of_sheets (sheets_of sheets.now)) }
-        ensures layers { IfOk result (λ started. started.layers ≡ layers_of_sheets (sheets_of sheets.now)) }
-        ensures sheets { IfOk result (λ started. map kept_seen started.sheets.items ≡ sheets_of sheets.now) }
-        ensures own { IfOk result (λ started.
-            map own_kept started.sheets.items ≡ map own_rules (sheets_of sheets.now)) }
-        ensures disabled { IfOk result (λ started.
-            map kept_layers started.sheets.items ≡ map own_layers (sheets_of sheets.now)) }
+        ensures { IfOk result (λ started. listed_seen started
+            ≡ record { listed = sheets_of sheets.now; last = length sheets.now }) }
     {
         Sheets::of_list(alloc, copied(alloc, sheets)?)
     }
@@ -53,55 +61,61 @@ impl Sheets {
     /// The same of a list of sheets that it takes over: no text is copied.
     pub fn of_list(alloc: Global, sheets: Vec<SheetInput>) -> Result<Sheets, NoMemory>
         requires { length sheets.items ≤ sheet_limit }
-        ensures rules { IfOk result (λ started. rules_of started ≡ rules_of_sheets (sheets_of sheets.items)) }
-        ensures layers { IfOk result (λ started. started.layers ≡ layers_of_sheets (sheets_of sheets.items)) }
-        ensures sheets { IfOk result (λ started. map kept_seen started.sheets.items ≡ sheets_of sheets.items) }
-        ensures own { IfOk result (λ started.
-            map own_kept started.sheets.items ≡ map own_rules (sheets_of sheets.items)) }
-        ensures disabled { IfOk result (λ started.
-            map kept_layers started.sheets.items ≡ map own_layers (sheets_of sheets.items)) }
+        ensures { IfOk result (λ started. listed_seen started
+            ≡ record { listed = sheets_of sheets.items; last = length sheets.items }) }
     {
-        let mut found = RuleCollector::new(alloc);
+        let mut rules = Vec::new(alloc);
+        let mut selectors = Vec::new(alloc);
         let mut list = Vec::with_capacity(alloc, sheets.len())?;
-        let mut at = SheetPosition {
-            number: 1,
-            position: 0,
-        };
         for sheet in sheets {
-            let mut own = RuleCollector::new(alloc);
-            if sheet.enabled {
-                found.add_sheet(alloc, at, &sheet)?;
-                at.position += 1;
-            } else {
-                own.add_sheet(alloc, SheetPosition { position: 0, ..at }, &sheet)?;
-            }
-            let kept = KeptSheet::new(at.number, sheet, own);
+            let at = SheetEdition {
+                sheet: list.len() as u32 + 1,
+                edition: 0,
+            };
+            let kept = taken_in(alloc, at, sheet, &mut rules, &mut selectors)?;
             list.push(kept)?;
-            at.number += 1;
         }
-        Sheets::of_collected(alloc, list, found)
+        let last = list.len() as u32;
+        Sheets::of_kept(alloc, list, last, rules, selectors)
     }
 
-    /// The sheets of this list, with what was collected of the enabled ones.
-    fn of_collected(
+    /// The same sheets, with texts of their own, which are read again.
+    pub fn copy(&self, alloc: Global) -> Result<Sheets, NoMemory>
+        ensures { IfOk result (λ copied. listed_seen copied ≡ listed_seen self.now) }
+    {
+        let mut rules = Vec::new(alloc);
+        let mut selectors = Vec::new(alloc);
+        let mut list = Vec::with_capacity(alloc, self.sheets.len())?;
+        for sheet in &self.sheets {
+            let kept = taken_again(alloc, sheet, &mut rules, &mut selectors)?;
+            list.push(kept)?;
+        }
+        Sheets::of_kept(alloc, list, self.last, rules, selectors)
+    }
+
+    /// The sheets of this list with the last number that was given to one, and the rules of the enabled ones.
+    fn of_kept(
         alloc: Global,
         sheets: Vec<KeptSheet>,
-        found: RuleCollector,
+        last: u32,
+        rules: Vec<SheetRule>,
+        selectors: Vec<Vec<Selector>>,
     ) -> Result<Sheets, NoMemory>
-        requires { length found.rules.items ≡ length found.selectors.items }
-        ensures rules { IfOk result (λ made. rules_of made ≡ rules_with found.rules.items found.selectors.items) }
-        ensures layers { IfOk result (λ made. made.layers ≡ layers_of (declarations found.layers.items)) }
-        ensures sheets { IfOk result (λ made. made.sheets ≡ sheets) }
+        requires paired { vec_len rules ≡ vec_len selectors }
+        requires texts { AreSame (unplaced (rules_with rules.items selectors.items)) (taking sheets.items) }
+        requires numbered { ∥ AreNumbered (record { listed = map kept_seen sheets.items; last = last }) ∥₁ }
+        requires few { length sheets.items ≤ sheet_limit }
+        requires given { last ≤ number_limit }
+        ensures { IfOk result (λ made. listed_seen made
+            ≡ record { listed = map kept_seen sheets.items; last = last }) }
     {
-        let RuleCollector {
-            rules,
-            selectors,
-            layers,
-        } = found;
-        let layers = Layers::of(alloc, layers.as_slice())?;
+        let mut rules = rules;
+        renumber(&sheets, &mut rules, 0);
+        let layers = layers_of(alloc, &sheets)?;
         let ranks = ranks_of(alloc, &layers, rules.as_slice())?;
         Ok(Sheets {
             sheets,
+            last,
             rules,
             selectors,
             ranks,

@@ -124,6 +124,7 @@ fn new_count(edit: &Edit) -> usize
 {
     match edit {
         Edit::Document(edit) => edit.new_count(),
+        Edit::Sheets(_) => 0,
     }
 }
 

@@ -11,8 +11,7 @@ ghost use Rattle.scene_model.specs.Document.{document_of};
 ghost use Rattle.session_model.specs.Batches.{edited_all, report_of, reports_from};
 ghost use Rattle.session_model.specs.Standing.{restyled, started};
 ghost use Rattle.session_model.specs.StandingInvariant.{IsReached};
-ghost use Rattle.sheet_set.specs.View.{kept_seen};
-ghost use Rattle.style_session.specs.Sessions.{AreOfTexts};
+ghost use Rattle.sheet_set.specs.View.{listed_seen};
 ghost use Rattle.style_cli.specs.Loops.{GrewByFront};
 ghost use Rattle.style_cli.specs.Printing.{Serves, batches_seen, edits_seen};
 ghost use Rattle.style_cli.specs.Text.{batch_text, scene_from, text_from, text_of};
@@ -88,8 +87,7 @@ fn grown(alloc: Global, nodes: NodeList) -> Result<Doc, NoMemory>
 #[inline(never)]
 fn rules_of(alloc: Global, sheets: SheetList) -> Result<Sheets, NoMemory>
     requires { length sheets ≤ sheet_limit }
-    ensures texts { IfOk result AreOfTexts }
-    ensures sheets { IfOk result (λ rules. map kept_seen rules.sheets.items ≡ sheets_of sheets) }
+    ensures { IfOk result (λ rules. listed_seen rules ≡ record { listed = sheets_of sheets; last = length sheets }) }
 {
     Sheets::of_list(alloc, sheets.into_vec())
 }

@@ -3,6 +3,8 @@ use Rattle.std.proofs.Common.{◌≡◌, ℕ, ◌<◌, ◌≤◌, List, [], map,
 use Rattle.std.specs.Prelude.{IfErr, IfSome}
 use Rattle.std.specs.declared.sync.Arc.{Arc}
 use Rattle.std.proofs.Math.Bool.{or_assoc}
+use Rattle.std.proofs.Math.Logic.{∥∥₁_elim}
+use Rattle.std.specs.Coded.{Coded-set, coded_bool}
 use Rattle.std.proofs.lemmas.Bool.{false≢true, false_from_ne_true, or_parts}
 use Rattle.scene_model.specs.Document.{Document}
 use Rattle.scene_model.specs.Lookups.{is_element, IsElement}
@@ -35,7 +37,7 @@ use Rattle.session_model.specs.StandingInvariant.{AllKeep}
 use Rattle.style_session.specs.Answers.{error_of, refusal_of}
 use Rattle.style_session.specs.Edits.{AddsMarks, AreFreshToo, AreGoneToo, AreMarkedToo, IsFreshStill}
 use Rattle.style_session.specs.SessionView.{is_fresh_in, scene_seen, slot_at, standing_seen}
-use Rattle.style_session.specs.Sessions.{AreGiven, AreOfTexts, CanMark, IsSession}
+use Rattle.style_session.specs.Sessions.{AreGiven, CanMark, IsSession}
 use Rattle.style_session.specs.declared.fresh.Fresh.{Fresh}
 use Rattle.style_session.specs.declared.marking.Marking.{Marking}
 use Rattle.style_session.specs.declared.style_cache.StyleCache.{StyleCache}
@@ -114,9 +116,10 @@ pub error-seen : (scene : Scene) (edit : ModelEdit) → refusal_of scene (of_doc
 error-seen scene edit = error_by scene (refusal scene.document edit) _
 
 -- The marks are those that the model tells of.
-marked-now : (old new : Document) (sheets : Sheets) (marks now : List ℕ) → AreOfTexts sheets → AreMarkedToo old.elements new.elements (sources_seen sheets) marks now → (x : ℕ) → is_in x now ≡ (is_in x marks || is_marked old.elements new.elements (marking_selectors (map kept_seen sheets.sheets.items)) x)
-marked-now old new sheets marks now texts h x =
-    subst (λ (s : Sources). is_in x now ≡ (is_in x marks || is_marked old.elements new.elements (selectors_of s) x)) (sources-texts sheets texts) (h x)
+marked-now : (old new : Document) (sheets : Sheets) (marks now : List ℕ) → AreMarkedToo old.elements new.elements (sources_seen sheets) marks now → (x : ℕ) → is_in x now ≡ (is_in x marks || is_marked old.elements new.elements (marking_selectors (map kept_seen sheets.sheets.items)) x)
+marked-now old new sheets marks now h x =
+    ∥∥₁_elim (sources-texts sheets) (Coded-set coded_bool _ _) (λ same.
+    subst (λ (s : Sources). is_in x now ≡ (is_in x marks || is_marked old.elements new.elements (selectors_of s) x)) same (h x))
 
 none_out : (a b : Bool) → a ≡ false → (a && b) ≡ false
 none_out true b h = absurd (false≢true (sym h))
@@ -124,7 +127,7 @@ none_out false b h = refl
 
 -- an edit that is done, whichever it is
 
-module _ {A : Type 0} (old new : Document) (sheets : Sheets) (prepared : Prepared) (marking : Option Marking) (marks now : Members) (fresh later : Fresh) (gone left : List ℕ) (kept : List (Option (Arc Style A))) (recent : List ℕ) (cache : StyleCache) (edit : ModelEdit) (w : IsShaped edit) (was : IsSession old sheets prepared marking marks fresh gone kept recent cache) (h : applied old edit ≡ accepted new) (marked : AreMarkedToo old.elements new.elements (sources_seen sheets) marks.items now.items) (freshened : AreFreshToo old new edit fresh later) where
+module _ {A : Type 0} (old new : Document) (sheets : Sheets) (prepared : Option Prepared) (marking : Option Marking) (marks now : Members) (fresh later : Fresh) (gone left : List ℕ) (kept : List (Option (Arc Style A))) (recent : List ℕ) (cache : StyleCache) (edit : ModelEdit) (w : IsShaped edit) (was : IsSession old sheets prepared marking marks fresh gone kept recent cache) (h : applied old edit ≡ accepted new) (marked : AreMarkedToo old.elements new.elements (sources_seen sheets) marks.items now.items) (freshened : AreFreshToo old new edit fresh later) where
   is : Changes old new edit
   is = changes-applied old new was.sound edit w h
 
@@ -141,11 +144,11 @@ module _ {A : Type 0} (old new : Document) (sheets : Sheets) (prepared : Prepare
 
   pub edited-seen : standing_seen new sheets now.items (is_fresh_in later) kept recent ≡ edited (standing_seen old sheets marks.items (is_fresh_in fresh) kept recent) (of_document edit)
   edited-seen =
-      edited-with (scene_seen old sheets) new edit w was.sound h marks.items now.items recent (is_fresh_in fresh) (is_fresh_in later) (slot_at kept) was.marks_given was.recent_given none_above (marked-now old new sheets marks.items now.items was.texts marked) fresh_now
+      edited-with (scene_seen old sheets) new edit w was.sound h marks.items now.items recent (is_fresh_in fresh) (is_fresh_in later) (slot_at kept) was.marks_given was.recent_given none_above (marked-now old new sheets marks.items now.items marked) fresh_now
 
   keeps : AllKeep (standing_seen new sheets now.items (is_fresh_in later) kept recent)
   keeps =
-      keeps-edited (scene_seen old sheets) new edit w was.sound h marks.items now.items recent (is_fresh_in fresh) (is_fresh_in later) (slot_at kept) was.marks_given was.recent_given none_above (marked-now old new sheets marks.items now.items was.texts marked) fresh_now was.keeps
+      keeps-edited (scene_seen old sheets) new edit w was.sound h marks.items now.items recent (is_fresh_in fresh) (is_fresh_in later) (slot_at kept) was.marks_given was.recent_given none_above (marked-now old new sheets marks.items now.items marked) fresh_now was.keeps
 
   -- an element that is not fresh now was one before, and not fresh
   places : (x : ℕ) → IsElement new.elements x → is_fresh_in later x ≡ false → x < length kept
@@ -159,7 +162,7 @@ module _ {A : Type 0} (old new : Document) (sheets : Sheets) (prepared : Prepare
   -- what is marked now was, or is an element
   marks_given : AreGiven new.last now.items
   marks_given x above =
-      marked-now old new sheets marks.items now.items was.texts marked x
+      marked-now old new sheets marks.items now.items marked x
       ∙ (ap (λ b. b || is_marked old.elements new.elements (marking_selectors (map kept_seen sheets.sheets.items)) x) (given_still marks.items was.marks_given x above)
       ∙ unmarked (no-element new sound x above))
     where
@@ -180,12 +183,10 @@ module _ {A : Type 0} (old new : Document) (sheets : Sheets) (prepared : Prepare
         by true e = absurd (false≢true (sym here ∙ gone_too.removed x e out))
         by false e = was.absent x e (false_from_ne_true (is_in x gone) (λ before. false≢true (sym here ∙ gone_too.stays x before)))
 
-    pub session-edited : (marking_later : Option Marking) → IfSome marking_later (CanMark new (sources_seen sheets) now) → (marking_later ≡ None → now.items ≡ []) → IsSession new sheets prepared marking_later now later left kept recent cache
-    session-edited marking_later can unmarked = record {
+    pub session-edited : (marking_later : Option Marking) → IfSome marking_later (CanMark new (sources_seen sheets) now) → IsSession new sheets prepared marking_later now later left kept recent cache
+    session-edited marking_later can = record {
       sound = sound;
-      texts = was.texts;
       can_mark = can;
-      unmarked = unmarked;
       places = places;
       marks_given = marks_given;
       recent_given = given_still recent was.recent_given;
@@ -193,7 +194,7 @@ module _ {A : Type 0} (old new : Document) (sheets : Sheets) (prepared : Prepare
       absent = absent;
       keeps = keeps;
       once = was.once;
-      fits = was.fits;
+      ready = was.ready;
     }
 
 -- and one that is not
@@ -204,21 +205,19 @@ same_fresh fresh later still =
     let by_items : List ℕ → ℕ → Bool = λ l x. later.all || is_in x l in
     ap by_all (sym still.all) ∙ ap by_items (sym still.items)
 
-module _ {A : Type 0} (old : Document) (sheets : Sheets) (prepared : Prepared) (marking : Option Marking) (marks now : Members) (fresh later : Fresh) (gone left : List ℕ) (kept : List (Option (Arc Style A))) (recent : List ℕ) (cache : StyleCache) (was : IsSession old sheets prepared marking marks fresh gone kept recent cache) (marks_same : now.items ≡ marks.items) (still : IsFreshStill fresh later) where
+module _ {A : Type 0} (old : Document) (sheets : Sheets) (prepared : Option Prepared) (marking : Option Marking) (marks now : Members) (fresh later : Fresh) (gone left : List ℕ) (kept : List (Option (Arc Style A))) (recent : List ℕ) (cache : StyleCache) (was : IsSession old sheets prepared marking marks fresh gone kept recent cache) (marks_same : now.items ≡ marks.items) (still : IsFreshStill fresh later) where
   -- it is seen as before
   pub refused-same : standing_seen old sheets now.items (is_fresh_in later) kept recent ≡ standing_seen old sheets marks.items (is_fresh_in fresh) kept recent
   refused-same =
       ap (λ l. standing_seen old sheets l (is_fresh_in later) kept recent) marks_same
       ∙ ap (λ (f : ℕ → Bool). standing_seen old sheets marks.items f kept recent) (sym (same_fresh fresh later still))
 
-  pub session-refused : (new : Document) (marking_later : Option Marking) → AreGoneToo old old gone left → new ≡ old → IfSome marking_later (CanMark new (sources_seen sheets) now) → (marking_later ≡ None → now.items ≡ []) → IsSession new sheets prepared marking_later now later left kept recent cache
-  session-refused new marking_later too same can none =
+  pub session-refused : (new : Document) (marking_later : Option Marking) → AreGoneToo old old gone left → new ≡ old → IfSome marking_later (CanMark new (sources_seen sheets) now) → IsSession new sheets prepared marking_later now later left kept recent cache
+  session-refused new marking_later too same can =
       subst (λ (d : Document). IsSession d sheets prepared marking_later now later left kept recent cache) (sym same)
       (record {
         sound = was.sound;
-        texts = was.texts;
         can_mark = subst (λ (d : Document). IfSome marking_later (CanMark d (sources_seen sheets) now)) same can;
-        unmarked = none;
         places = λ x there calm. was.places x there (ap (λ (f : ℕ → Bool). f x) (same_fresh fresh later still) ∙ calm);
         marks_given = subst (AreGiven old.last) (sym marks_same) was.marks_given;
         recent_given = was.recent_given;
@@ -226,27 +225,27 @@ module _ {A : Type 0} (old : Document) (sheets : Sheets) (prepared : Prepared) (
         absent = λ x out here. was.absent x out (false_from_ne_true (is_in x gone) (λ before. false≢true (sym here ∙ too.stays x before)));
         keeps = subst AllKeep (sym refused-same) was.keeps;
         once = was.once;
-        fits = was.fits;
+        ready = was.ready;
       })
 
 -- an edit of the code, done or not
 
-pub edit-seen : {A T E : Type 0} (result : Result T E) (old new : Document) (sheets : Sheets) (prepared : Prepared) (marking : Option Marking) (marks now : Members) (fresh later : Fresh) (gone left : List ℕ) (kept : List (Option (Arc Style A))) (recent : List ℕ) (cache : StyleCache) (edit : DocEdit) → IsSession old sheets prepared marking marks fresh gone kept recent cache → OnOk result (IsShaped (doc_edit_seen edit)) → OnOk result (applied old (doc_edit_seen edit) ≡ accepted new) → OnOk result (AreMarkedToo old.elements new.elements (sources_seen sheets) marks.items now.items) → OnOk result (AreFreshToo old new (doc_edit_seen edit) fresh later) → OnOk result (standing_seen new sheets now.items (is_fresh_in later) kept recent ≡ edited (standing_seen old sheets marks.items (is_fresh_in fresh) kept recent) (of_document (doc_edit_seen edit)))
+pub edit-seen : {A T E : Type 0} (result : Result T E) (old new : Document) (sheets : Sheets) (prepared : Option Prepared) (marking : Option Marking) (marks now : Members) (fresh later : Fresh) (gone left : List ℕ) (kept : List (Option (Arc Style A))) (recent : List ℕ) (cache : StyleCache) (edit : DocEdit) → IsSession old sheets prepared marking marks fresh gone kept recent cache → OnOk result (IsShaped (doc_edit_seen edit)) → OnOk result (applied old (doc_edit_seen edit) ≡ accepted new) → OnOk result (AreMarkedToo old.elements new.elements (sources_seen sheets) marks.items now.items) → OnOk result (AreFreshToo old new (doc_edit_seen edit) fresh later) → OnOk result (standing_seen new sheets now.items (is_fresh_in later) kept recent ≡ edited (standing_seen old sheets marks.items (is_fresh_in fresh) kept recent) (of_document (doc_edit_seen edit)))
 edit-seen (Ok x) old new sheets prepared marking marks now fresh later gone left kept recent cache edit was w h marked freshened =
     edited-seen old new sheets prepared marking marks now fresh later gone left kept recent cache (doc_edit_seen edit) w was h marked freshened
 edit-seen (Err e) old new sheets prepared marking marks now fresh later gone left kept recent cache edit was w h marked freshened = tt
 
-pub edit-refused : {A T E : Type 0} (result : Result T E) (old new : Document) (sheets : Sheets) (prepared : Prepared) (marking : Option Marking) (marks now : Members) (fresh later : Fresh) (gone : List ℕ) (kept : List (Option (Arc Style A))) (recent : List ℕ) (cache : StyleCache) → IsSession old sheets prepared marking marks fresh gone kept recent cache → OnErr result (new ≡ old) → OnErr result (now.items ≡ marks.items) → OnErr result (IsFreshStill fresh later) → OnErr result (standing_seen new sheets now.items (is_fresh_in later) kept recent ≡ standing_seen old sheets marks.items (is_fresh_in fresh) kept recent)
+pub edit-refused : {A T E : Type 0} (result : Result T E) (old new : Document) (sheets : Sheets) (prepared : Option Prepared) (marking : Option Marking) (marks now : Members) (fresh later : Fresh) (gone : List ℕ) (kept : List (Option (Arc Style A))) (recent : List ℕ) (cache : StyleCache) → IsSession old sheets prepared marking marks fresh gone kept recent cache → OnErr result (new ≡ old) → OnErr result (now.items ≡ marks.items) → OnErr result (IsFreshStill fresh later) → OnErr result (standing_seen new sheets now.items (is_fresh_in later) kept recent ≡ standing_seen old sheets marks.items (is_fresh_in fresh) kept recent)
 edit-refused (Ok x) old new sheets prepared marking marks now fresh later gone kept recent cache was same marks_same still = tt
 edit-refused (Err e) old new sheets prepared marking marks now fresh later gone kept recent cache was same marks_same still =
     ap (λ (d : Document). standing_seen d sheets now.items (is_fresh_in later) kept recent) same
     ∙ refused-same old sheets prepared marking marks now fresh later gone gone kept recent cache was marks_same still
 
-pub edit-session : {A T E : Type 0} (result : Result T E) (old new : Document) (sheets : Sheets) (prepared : Prepared) (marking later : Option Marking) (marks now : Members) (fresh fresh_later : Fresh) (gone left : List ℕ) (kept : List (Option (Arc Style A))) (recent : List ℕ) (cache : StyleCache) (edit : DocEdit) → IsSession old sheets prepared marking marks fresh gone kept recent cache → OnOk result (IsShaped (doc_edit_seen edit)) → OnOk result (applied old (doc_edit_seen edit) ≡ accepted new) → OnOk result (AreMarkedToo old.elements new.elements (sources_seen sheets) marks.items now.items) → OnOk result (AreFreshToo old new (doc_edit_seen edit) fresh fresh_later) → OnOk result (AreGoneToo old new gone left) → OnErr result (new ≡ old) → OnErr result (now.items ≡ marks.items) → OnErr result (IsFreshStill fresh fresh_later) → OnErr result (AreGoneToo old old gone left) → IfSome later (CanMark new (sources_seen sheets) now) → (later ≡ None → now.items ≡ []) → IsSession new sheets prepared later now fresh_later left kept recent cache
-edit-session (Ok x) old new sheets prepared marking later marks now fresh fresh_later gone left kept recent cache edit was w h marked freshened taken _ _ _ _ can none =
-    session-edited old new sheets prepared marking marks now fresh fresh_later gone left kept recent cache (doc_edit_seen edit) w was h marked freshened taken later can none
-edit-session (Err e) old new sheets prepared marking later marks now fresh fresh_later gone left kept recent cache edit was _ _ _ _ _ same marks_same still taken can none =
-    session-refused old sheets prepared marking marks now fresh fresh_later gone left kept recent cache was marks_same still new later taken same can none
+pub edit-session : {A T E : Type 0} (result : Result T E) (old new : Document) (sheets : Sheets) (prepared : Option Prepared) (marking later : Option Marking) (marks now : Members) (fresh fresh_later : Fresh) (gone left : List ℕ) (kept : List (Option (Arc Style A))) (recent : List ℕ) (cache : StyleCache) (edit : DocEdit) → IsSession old sheets prepared marking marks fresh gone kept recent cache → OnOk result (IsShaped (doc_edit_seen edit)) → OnOk result (applied old (doc_edit_seen edit) ≡ accepted new) → OnOk result (AreMarkedToo old.elements new.elements (sources_seen sheets) marks.items now.items) → OnOk result (AreFreshToo old new (doc_edit_seen edit) fresh fresh_later) → OnOk result (AreGoneToo old new gone left) → OnErr result (new ≡ old) → OnErr result (now.items ≡ marks.items) → OnErr result (IsFreshStill fresh fresh_later) → OnErr result (AreGoneToo old old gone left) → IfSome later (CanMark new (sources_seen sheets) now) → IsSession new sheets prepared later now fresh_later left kept recent cache
+edit-session (Ok x) old new sheets prepared marking later marks now fresh fresh_later gone left kept recent cache edit was w h marked freshened taken _ _ _ _ can =
+    session-edited old new sheets prepared marking marks now fresh fresh_later gone left kept recent cache (doc_edit_seen edit) w was h marked freshened taken later can
+edit-session (Err e) old new sheets prepared marking later marks now fresh fresh_later gone left kept recent cache edit was _ _ _ _ _ same marks_same still taken can =
+    session-refused old sheets prepared marking marks now fresh fresh_later gone left kept recent cache was marks_same still new later taken same can
 
 -- the answer to an edit that is not done, of a session
 pub refused-seen : {T : Type 0} (result : Result T EditRefused) (document : Document) (sheets : Sheets) (edit : DocEdit) → IfErr result (λ why. why ≡ unwrap_or (option_map refusal_answered (refusal document (doc_edit_seen edit))) NoMemory) → IfErr result (λ why. why ≡ refusal_of (scene_seen document sheets) (of_document (doc_edit_seen edit)))

@@ -1,6 +1,7 @@
 -- Restyles of a session.
 use Rattle.std.proofs.Common.{◌≡◌, ℕ, ◌<◌, ◌==◌, nat_eq, List, [], ◌∷◌, map, filter, find, length, Bool, true, false, cond, not, ◌&&◌, ◌||◌, Option, None, Some, option_map, refl, sym, ap, subst, ◌∙◌}
 use Rattle.std.specs.List.{AllByRecursion, IsDistinct, count_by}
+use Rattle.std.specs.Prelude.{is_some}
 use Rattle.std.specs.Option.{option_or}
 use Rattle.std.specs.declared.sync.Arc.{Arc}
 use Rattle.std.proofs.lemmas.Bool.{eqb-true, false≢true}
@@ -18,9 +19,11 @@ use Rattle.change_model.specs.Sound.{IsSound}
 use Rattle.value_model.specs.Style.{Style}
 use Rattle.invalidation_map.specs.Members.{Members}
 use Rattle.invalidation_map.specs.Steps.{HasRoom}
+use Rattle.sheet_model.specs.Sources.{Sources}
 use Rattle.sheet_set.specs.View.{sources_seen}
 use Rattle.sheet_set.specs.declared.sheets.Sheets.{Sheets}
 use Rattle.plain_style.specs.Fits.{Fits}
+use Rattle.plain_style.specs.Prepared.{IsPrepared}
 use Rattle.plain_style.specs.declared.prepared.Prepared.{Prepared}
 use Rattle.session_model.specs.Standing.{Standing, is_cascaded, kept_at, restyled}
 use Rattle.session_model.specs.StandingInvariant.{AllKeep}
@@ -30,7 +33,7 @@ use Rattle.session_model.specs.Walk.{result_at, results}
 use Rattle.style_session.specs.Answers.{counts_of, styled_seen}
 use Rattle.style_session.specs.FirstWalking.{AreAll}
 use Rattle.style_session.specs.SessionView.{is_fresh_in, is_gone, scene_seen, slot_at, standing_seen}
-use Rattle.style_session.specs.Sessions.{AreGiven, IsSession}
+use Rattle.style_session.specs.Sessions.{AreGiven, AreReady, IsSession}
 use Rattle.style_session.specs.Settled.{AreSettled}
 use Rattle.style_session.specs.declared.counts.Counts.{Counts}
 use Rattle.style_session.specs.declared.first_walk.FirstStyles.{FirstStyles}
@@ -95,18 +98,16 @@ numbers_seen (one ∷ list) = ap (λ l. one.number ∷ l) (numbers_seen list)
 
 -- of what a session is made of
 
-module _ {A : Type 0} (document : Document) (sheets : Sheets) (prepared : Prepared) (marking : Option Marking) (marks : Members) (fresh : Fresh) (gone : List ℕ) (kept : List (Option (Arc Style A))) (recent : List ℕ) (cache : StyleCache) (was : IsSession document sheets prepared marking marks fresh gone kept recent cache) where
+module _ {A : Type 0} (document : Document) (sheets : Sheets) (prepared : Option Prepared) (marking : Option Marking) (marks : Members) (fresh : Fresh) (gone : List ℕ) (kept : List (Option (Arc Style A))) (recent : List ℕ) (cache : StyleCache) (was : IsSession document sheets prepared marking marks fresh gone kept recent cache) where
   abbrev st : Standing
   st = standing_seen document sheets marks.items (is_fresh_in fresh) kept recent
 
   -- what a restyle leaves, once each element has its style
   module _ {B : Type 0} (now : Members) (later : Fresh) (settled : AreSettled now later) (styles : List (Option (Arc Style B))) (numbers : List ℕ) (done : standing_seen document sheets now.items (is_fresh_in later) styles numbers ≡ restyled st) where
-    pub session-anew : (known : StyleCache) (left : List ℕ) → left ≡ [] → now.room ≡ marks.room → HasRoom document.elements (length styles) → ((x : ℕ) → is_element document.elements x ≡ false → slot_at styles x ≡ None) → AreGiven document.last numbers → IsDistinct nat_eq numbers → Fits (sources_seen sheets) known.size prepared known.styler → IsSession document sheets prepared marking now later left styles numbers known
+    pub session-anew : (known : StyleCache) (left : List ℕ) → left ≡ [] → now.room ≡ marks.room → HasRoom document.elements (length styles) → ((x : ℕ) → is_element document.elements x ≡ false → slot_at styles x ≡ None) → AreGiven document.last numbers → IsDistinct nat_eq numbers → AreReady (sources_seen sheets) prepared known → IsSession document sheets prepared marking now later left styles numbers known
     session-anew known left empty room places absent given once fits = record {
       sound = was.sound;
-      texts = was.texts;
       can_mark = IfSome_then marking was.can_mark (λ made can. record { rows = can.rows; room = can.room; marks_room = λ x there. subst (λ n. x < n) (sym room) (can.marks_room x there) });
-      unmarked = λ _. settled.marked;
       places = λ x there _. places x there;
       marks_given = none_given document.last now.items settled.marked;
       recent_given = given;
@@ -114,7 +115,7 @@ module _ {A : Type 0} (document : Document) (sheets : Sheets) (prepared : Prepar
       absent = λ x out _. absent x out;
       keeps = keeps-restyled st (standing_seen document sheets now.items (is_fresh_in later) styles numbers) was.sound done;
       once = once;
-      fits = fits;
+      ready = fits;
     }
 
     pub others-anew : (x : ℕ) → IsElement document.elements x → is_in x (standing_seen document sheets now.items (is_fresh_in later) styles numbers).recent ≡ false → kept_at (standing_seen document sheets now.items (is_fresh_in later) styles numbers) x ≡ kept_at st x
@@ -141,7 +142,7 @@ module _ {A : Type 0} (document : Document) (sheets : Sheets) (prepared : Prepar
         session-anew marks fresh settled styles now (idle-seen styles now (dropped-there document.elements gone (slot_at kept) (slot_at styles) dropped) n) cache left empty refl
         (λ x there. subst (λ places. x < places) (sym long) (was.places x there (none x)))
         (λ x out. dropped-absent document.elements gone (slot_at kept) (slot_at styles) dropped x out (was.absent x out))
-        (none_given document.last now n) (none_twice now n) was.fits
+        (none_given document.last now n) (none_twice now n) was.ready
 
   -- the first one
   module _ (all : fresh.all ≡ true) (made : FirstStyles) (is : AreAll (scene_seen document sheets) made) where
@@ -224,21 +225,19 @@ module _ {A : Type 0} (document : Document) (sheets : Sheets) (prepared : Prepar
             let scene = scene_seen document sheets in
             some-given document was.sound (is_cascaded (standing_with scene marks.items some (slot_at kept) [])) numbers (named_seen ∙ found-numbers scene marks.items some (slot_at kept) [] was.sound keeps-seen (map styled_seen styled) is)
 
-        pub session-restyled : (known : StyleCache) (left : List ℕ) → left ≡ [] → now.room ≡ marks.room → HasRoom document.elements (length styles) → Fits (sources_seen sheets) known.size prepared known.styler → IsSession document sheets prepared marking now later left styles numbers known
+        pub session-restyled : (known : StyleCache) (left : List ℕ) → left ≡ [] → now.room ≡ marks.room → HasRoom document.elements (length styles) → AreReady (sources_seen sheets) prepared known → IsSession document sheets prepared marking now later left styles numbers known
         session-restyled known left empty room places fits =
             session-anew now later settled styles numbers restyled-seen known left empty room places absent given
             (subst (IsDistinct nat_eq) (sym named_seen) (found-once (scene_seen document sheets) marks.items some (slot_at kept) [] was.sound keeps-seen (map styled_seen styled) is))
             fits
 
 -- where memory runs out before styles are kept, only what the styler knows is another
-pub session-cached : {A : Type 0} (document : Document) (sheets : Sheets) (prepared : Prepared) (marking : Option Marking) (marks : Members) (fresh : Fresh) (gone : List ℕ) (kept now : List (Option (Arc Style A))) (recent : List ℕ) (cache later : StyleCache) → IsSession document sheets prepared marking marks fresh gone kept recent cache → Fits (sources_seen sheets) later.size prepared later.styler → now ≡ kept → IsSession document sheets prepared marking marks fresh gone now recent later
+pub session-cached : {A : Type 0} (document : Document) (sheets : Sheets) (prepared : Option Prepared) (marking : Option Marking) (marks : Members) (fresh : Fresh) (gone : List ℕ) (kept now : List (Option (Arc Style A))) (recent : List ℕ) (cache later : StyleCache) → IsSession document sheets prepared marking marks fresh gone kept recent cache → AreReady (sources_seen sheets) prepared later → now ≡ kept → IsSession document sheets prepared marking marks fresh gone now recent later
 session-cached document sheets prepared marking marks fresh gone kept now recent cache later was fits same =
     subst (λ slots. IsSession document sheets prepared marking marks fresh gone slots recent later) (sym same)
     (record {
       sound = was.sound;
-      texts = was.texts;
       can_mark = was.can_mark;
-      unmarked = was.unmarked;
       places = was.places;
       marks_given = was.marks_given;
       recent_given = was.recent_given;
@@ -246,5 +245,35 @@ session-cached document sheets prepared marking marks fresh gone kept now recent
       absent = was.absent;
       keeps = was.keeps;
       once = was.once;
-      fits = fits;
+      ready = fits;
     })
+
+-- what is made ready anew
+pub session-ready : {A : Type 0} (document : Document) (sheets : Sheets) (prepared ready : Option Prepared) (marking : Option Marking) (marks : Members) (fresh : Fresh) (gone : List ℕ) (kept : List (Option (Arc Style A))) (recent : List ℕ) (cache : StyleCache) → IsSession document sheets prepared marking marks fresh gone kept recent cache → AreReady (sources_seen sheets) ready cache → IsSession document sheets ready marking marks fresh gone kept recent cache
+session-ready document sheets prepared ready marking marks fresh gone kept recent cache was are = record {
+  sound = was.sound;
+  can_mark = was.can_mark;
+  places = was.places;
+  marks_given = was.marks_given;
+  recent_given = was.recent_given;
+  gone_given = was.gone_given;
+  absent = was.absent;
+  keeps = was.keeps;
+  once = was.once;
+  ready = are;
+}
+
+pub ready-now : {A : Type 0} (document : Document) (sheets : Sheets) (prepared ready : Option Prepared) (marking : Option Marking) (marks : Members) (fresh : Fresh) (gone : List ℕ) (kept : List (Option (Arc Style A))) (recent : List ℕ) (cache : StyleCache) → IsSession document sheets prepared marking marks fresh gone kept recent cache → ((known : StyleCache) → AreReady (sources_seen sheets) prepared known → AreReady (sources_seen sheets) ready known) → IsSession document sheets ready marking marks fresh gone kept recent cache
+ready-now document sheets prepared ready marking marks fresh gone kept recent cache was made =
+    session-ready document sheets prepared ready marking marks fresh gone kept recent cache was (made cache was.ready)
+
+pub ready-fits : (sources : Sources) (prepared : Option Prepared) (it : Prepared) (cache : StyleCache) → prepared ≡ Some it → AreReady sources prepared cache → Fits sources cache.size it cache.styler
+ready-fits sources prepared it cache is are = subst (λ (o : Option Prepared). AreReady sources o cache) is are
+
+pub fits-ready : (sources : Sources) (prepared : Option Prepared) (it : Prepared) (cache : StyleCache) → prepared ≡ Some it → Fits sources cache.size it cache.styler → AreReady sources prepared cache
+fits-ready sources prepared it cache is fits = subst (λ (o : Option Prepared). AreReady sources o cache) (sym is) fits
+
+-- where nothing was ready, whatever is made ready fits
+pub none-ready : (sources : Sources) (prepared : Option Prepared) (it : Prepared) (cache : StyleCache) → is_some prepared ≡ false → IsPrepared sources it → AreReady sources prepared cache → Fits sources cache.size it cache.styler
+none-ready sources None it cache none fits ready = ready sources it fits
+none-ready sources (Some other) it cache none fits ready = absurd (false≢true (sym none))

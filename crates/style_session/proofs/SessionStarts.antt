@@ -3,24 +3,21 @@ use Rattle.std.proofs.Common.{◌≡◌, ℕ, ◌<◌, ◌==◌, ◌+◌, nat_eq
 use Rattle.std.specs.List.{IsDistinct}
 use Rattle.std.specs.declared.sync.Arc.{Arc}
 use Rattle.std.proofs.lemmas.Bool.{and_parts, false≢true, false_from_ne_true, not-true}
-use Rattle.std.proofs.lemmas.List.{length-map}
 use Rattle.scene_model.specs.Document.{Document}
 use Rattle.scene_model.specs.Lookups.{is_element}
 use Rattle.scene_model.specs.Numbers.{is_in}
 use Rattle.change_model.specs.Sound.{IsSound}
 use Rattle.value_model.specs.Style.{Style}
 use Rattle.invalidation_map.specs.Members.{Members}
-use Rattle.layer_order.specs.View.{sheets_from, sheets_of}
+use Rattle.layer_order.specs.View.{sheets_of}
 use Rattle.layer_order.specs.declared.sheet_input.SheetInput.{SheetInput}
-use Rattle.sheet_set.specs.View.{kept_seen, sources_seen}
+use Rattle.sheet_set.specs.View.{listed_seen}
 use Rattle.sheet_set.specs.declared.sheets.Sheets.{Sheets}
-use Rattle.plain_style.specs.Fits.{Fits}
-use Rattle.plain_style.specs.declared.prepared.Prepared.{Prepared}
 use Rattle.session_model.specs.Standing.{started}
 use Rattle.session_model.specs.StandingInvariant.{AllKeep}
 use Rattle.session_model.proofs.KeepsLemmas.{keep-started}
 use Rattle.style_session.specs.SessionView.{is_fresh_in, scene_seen, slot_at, standing_seen}
-use Rattle.style_session.specs.Sessions.{AreGiven, AreOfTexts, IsSession}
+use Rattle.style_session.specs.Sessions.{AreGiven, IsSession, KnowsNothing}
 use Rattle.style_session.specs.Settled.{AreSettled, are_settled}
 use Rattle.style_session.specs.declared.fresh.Fresh.{Fresh}
 use Rattle.style_session.specs.declared.style_cache.StyleCache.{StyleCache}
@@ -61,12 +58,10 @@ none_twice xs e = subst (IsDistinct nat_eq) (sym e) tt
 pub none_given : (last : ℕ) (list : List ℕ) → list ≡ [] → AreGiven last list
 none_given last list e x above = ap (is_in x) e
 
-pub session-started : {A : Type 0} (document : Document) (sheets : Sheets) (prepared : Prepared) (marks : Members) (fresh : Fresh) (gone : List ℕ) (kept : List (Option (Arc Style A))) (recent : List ℕ) (cache : StyleCache) → IsSound document → AreOfTexts sheets → marks.items ≡ [] → recent ≡ [] → gone ≡ [] → fresh.all ≡ true → ((x : ℕ) → slot_at kept x ≡ None) → Fits (sources_seen sheets) cache.size prepared cache.styler → IsSession document sheets prepared None marks fresh gone kept recent cache
-session-started document sheets prepared marks fresh gone kept recent cache sound texts m r g f empty fits = record {
+pub session-started : {A : Type 0} (document : Document) (sheets : Sheets) (marks : Members) (fresh : Fresh) (gone : List ℕ) (kept : List (Option (Arc Style A))) (recent : List ℕ) (cache : StyleCache) → IsSound document → marks.items ≡ [] → recent ≡ [] → gone ≡ [] → fresh.all ≡ true → ((x : ℕ) → slot_at kept x ≡ None) → KnowsNothing cache → IsSession document sheets None None marks fresh gone kept recent cache
+session-started document sheets marks fresh gone kept recent cache sound m r g f empty ready = record {
   sound = sound;
-  texts = texts;
   can_mark = tt;
-  unmarked = λ _. m;
   places = λ x there calm. absurd (false≢true (sym calm ∙ all-fresh fresh f x));
   marks_given = none_given document.last marks.items m;
   recent_given = none_given document.last recent r;
@@ -74,17 +69,9 @@ session-started document sheets prepared marks fresh gone kept recent cache soun
   absent = λ x _ _. empty x;
   keeps = subst AllKeep (sym (started-seen document sheets marks.items recent fresh kept m r f empty)) (keep-started (scene_seen document sheets));
   once = none_twice recent r;
-  fits = fits;
+  ready = ready;
 }
 
--- the sheets are as many as the inputs
-
-length_from : (number : ℕ) (inputs : List SheetInput) → length (sheets_from number inputs) ≡ length inputs
-length_from number [] = refl
-length_from number (input ∷ inputs) = ap suc (length_from (number + 1) inputs)
-
-pub scene-started : (document : Document) (sheets : Sheets) (now : Document) (inputs : List SheetInput) → document ≡ now → map kept_seen sheets.sheets.items ≡ sheets_of inputs → scene_seen document sheets ≡ record { document = now; sheets = sheets_of inputs; last_sheet = length inputs }
+pub scene-started : (document : Document) (sheets : Sheets) (now : Document) (inputs : List SheetInput) → document ≡ now → listed_seen sheets ≡ record { listed = sheets_of inputs; last = length inputs } → scene_seen document sheets ≡ record { document = now; sheets = sheets_of inputs; last_sheet = length inputs }
 scene-started document sheets now inputs d s =
-    let long : length sheets.sheets.items ≡ length inputs =
-    sym (length-map sheets.sheets.items kept_seen) ∙ (ap length s ∙ length_from 1 inputs) in
-    λ i. record { document = d i; sheets = s i; last_sheet = long i }
+    λ i. record { document = d i; sheets = (s i).listed; last_sheet = (s i).last }

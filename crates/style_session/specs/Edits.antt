@@ -8,12 +8,14 @@ use Rattle.scene_model.specs.Numbers.{is_in}
 use Rattle.selector_model.specs.Selector.{Selector}
 use Rattle.sheet_model.specs.Sources.{Sources}
 use Rattle.edit_model.specs.Apply.{applied, is_fresh}
-use Rattle.edit_model.specs.Edit.{DocEdit, insert, remove, move, set, unset, set_state}
+use Rattle.edit_model.specs.Edit.{DocEdit, SheetEdit, insert, remove, move, set, unset, set_state}
 use Rattle.edit_model.specs.Refusal.{accepted}
 use Rattle.edit_model.specs.Marked.{is_marked}
+use Rattle.edit_model.specs.SheetApply.{SheetList, number_in}
 use Rattle.invalidation_map.specs.Rows.{Row, rows_of}
 use Rattle.invalidation_map.specs.Steps.{HasRoom}
 use Rattle.session_model.specs.Marking.{selectors_of}
+use Rattle.session_model.specs.SheetMarks.{is_marked_by_sheets}
 use Rattle.style_session.specs.declared.fresh.Fresh.{Fresh}
 
 -- for every list of selectors with these rows, in whatever order, what an edit marks by them
@@ -26,6 +28,12 @@ AddsMarks before now rows old new =
 abbrev pub AreMarkedToo : List Element → List Element → Sources → List ℕ → List ℕ → Type 0
 AreMarkedToo before now sources old new =
     (x : ℕ) → is_in x new ≡ (is_in x old || is_marked before now (selectors_of sources) x)
+
+-- the numbers that were marked, and those that an edit of sheets marks
+abbrev pub AreSheetMarksToo : List Element → SheetList → SheetList → SheetEdit → List ℕ → List ℕ → Type 0
+AreSheetMarksToo doc before after edit old new =
+    (x : ℕ) → is_in x new
+    ≡ (is_in x old || is_marked_by_sheets doc before.listed after.listed (number_in before.last edit) x)
 
 -- what was fresh still is, and so is what an edit makes fresh
 pub record AreFreshToo (old new : Document) (edit : DocEdit) (fresh now : Fresh) : Type 0 where

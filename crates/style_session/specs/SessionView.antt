@@ -1,5 +1,5 @@
 -- What a session stands for.
-use Rattle.std.specs.Prelude.{ℕ, List, filter, length, map, Bool, not, ◌&&◌, ◌||◌, Option, option_and_then, option_map, slice_get}
+use Rattle.std.specs.Prelude.{ℕ, List, filter, map, Bool, not, ◌&&◌, ◌||◌, Option, option_and_then, option_map, slice_get}
 use Rattle.std.specs.Arc.{arc_value}
 use Rattle.std.specs.declared.sync.Arc.{Arc}
 use Rattle.scene_model.specs.Element.{Element}
@@ -17,13 +17,13 @@ use Rattle.style_session.specs.declared.fresh.Fresh.{Fresh}
 abbrev pub slot_at : {A : Type 0} → List (Option (Arc Style A)) → ℕ → Option Style
 slot_at kept x = option_and_then (option_map arc_value) (slice_get kept x)
 
--- the scene of a document and its sheets, of which none was taken away
+-- the scene of a document and its sheets
 abbrev pub scene_seen : Document → Sheets → Scene
 scene_seen document sheets =
     record {
       document = document;
       sheets = map kept_seen sheets.sheets.items;
-      last_sheet = length sheets.sheets.items;
+      last_sheet = sheets.last;
     }
 
 -- the elements that have a number of the list, in tree order

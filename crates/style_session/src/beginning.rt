@@ -2,48 +2,42 @@
 
 ghost use Rattle.std.specs.Prelude.{◌≡◌, [], IfOk, true};
 ghost use Rattle.change_model.specs.Sound.{IsSound};
-ghost use Rattle.sheet_set.specs.View.{sources_seen};
-ghost use Rattle.plain_style.specs.Fits.{Fits};
+ghost use Rattle.style_session.specs.Sessions.{KnowsNothing};
 
 use crate::fresh::Fresh;
 use crate::style_cache::StyleCache;
 use dom_tree::Doc;
 use invalidation_map::ElementSet;
-use plain_style::Prepared;
-use sheet_set::Sheets;
 use std::alloc::Global;
 use stylo_base::NoMemory;
 
 /// What a session has beside its document and its sheets when it starts.
 #[derive(Drop)]
 pub(crate) struct Beginning {
-    pub prepared: Prepared,
     /// None.
     pub marks: ElementSet,
     /// All elements.
     pub fresh: Fresh,
     /// None.
     pub gone: ElementSet,
+    /// Nothing is known yet.
     pub cache: StyleCache,
 }
 
 impl Beginning {
-    /// That of a session over this document and these sheets.
-    pub(crate) fn of(alloc: Global, doc: &Doc, sheets: &Sheets) -> Result<Beginning, NoMemory>
+    /// That of a session over this document.
+    pub(crate) fn of(alloc: Global, doc: &Doc) -> Result<Beginning, NoMemory>
         ensures sound { IsSound doc.now }
         ensures marks { IfOk result (λ begun. begun.marks.items ≡ []) }
         ensures fresh { IfOk result (λ begun. begun.fresh.all ≡ true) }
         ensures gone { IfOk result (λ begun. begun.gone.items ≡ []) }
-        ensures fits { IfOk result (λ begun.
-            Fits (sources_seen sheets.now) begun.cache.size begun.prepared begun.cache.styler) }
+        ensures cache { IfOk result (λ begun. KnowsNothing begun.cache) }
     {
         // The order is not asked: the call tells that the document is sound.
         let _order = doc.in_tree_order();
-        let prepared = Prepared::of(alloc, sheets)?;
         let cache = StyleCache::start(alloc, doc.len())?;
         let marks = ElementSet::new(alloc, 0)?;
         Ok(Beginning {
-            prepared,
             marks,
             fresh: Fresh::start(alloc)?,
             gone: ElementSet::new(alloc, 0)?,

@@ -10,7 +10,6 @@ ghost use Rattle.session_model.specs.Walk.{result_at, results};
 ghost use Rattle.style_session.specs.Answers.{styled_seen};
 ghost use Rattle.style_session.specs.Lent.{lent};
 ghost use Rattle.style_session.specs.SessionView.{is_gone, slot_at};
-ghost use Rattle.style_session.specs.Sessions.{AreOfTexts};
 
 use crate::counts::Counts;
 use crate::lists::Lists;
@@ -43,7 +42,6 @@ impl Anew {
         cache: &mut StyleCache,
         gate: &G,
     ) -> Result<Anew, NoMemory>
-        requires texts { AreOfTexts inputs.now.sheets.now }
         requires keeps { AllKeep (lent inputs.now lists.now) }
         requires fits { Fits (sources_seen inputs.now.sheets.now) cache.old.size inputs.now.prepared.now
             cache.old.styler }

@@ -14,7 +14,6 @@ ghost use Rattle.session_model.specs.Standing.{style_in};
 ghost use Rattle.style_session.specs.FirstWalking.{AreAll, AreKept, IsBareFirst, IsFirstWalk, IsRight, Keeps, place_of as model_place_of};
 ghost use Rattle.style_session.specs.Lent.{scene_lent};
 ghost use Rattle.style_session.specs.SessionView.{slot_at};
-ghost use Rattle.style_session.specs.Sessions.{AreOfTexts};
 
 use crate::commit::{keep, make_places};
 use crate::lists::kept_style;
@@ -52,7 +51,6 @@ pub(crate) fn first_styles<G: Gate>(
     cache: &mut StyleCache,
     gate: &G,
 ) -> Result<FirstStyles, NoMemory>
-    requires texts { AreOfTexts inputs.now.sheets.now }
     requires fits { Fits (sources_seen inputs.now.sheets.now) cache.old.size inputs.now.prepared.now
         cache.old.styler }
     ensures styles { IfOk result (λ made. AreAll (scene_lent inputs.now) made) }
@@ -95,7 +93,6 @@ impl FirstWalk {
         cache: &mut StyleCache,
         root: u32,
     ) -> Result<(), NoMemory>
-        requires texts { AreOfTexts inputs.now.sheets.now }
         requires sound { IsSound inputs.now.doc.now }
         requires root { root_of inputs.now.doc.now.elements ≡ Some root }
         requires fits { Fits (sources_seen inputs.now.sheets.now) cache.old.size inputs.now.prepared.now
@@ -117,7 +114,6 @@ impl FirstWalk {
         cache: &mut StyleCache,
         number: u32,
     ) -> Result<(), NoMemory>
-        requires texts { AreOfTexts inputs.now.sheets.now }
         requires sound { IsSound inputs.now.doc.now }
         requires element { IsElement inputs.now.doc.now.elements number }
         requires child { IsSome (parent_of inputs.now.doc.now.elements number) }

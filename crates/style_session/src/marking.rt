@@ -1,6 +1,6 @@
 //! What marks elements.
 
-ghost use Rattle.std.specs.Prelude.{◌≡◌, IfErr, IfOk, IfSome, None, OnErr, OnOk, [], option_map, unwrap_or};
+ghost use Rattle.std.specs.Prelude.{◌≡◌, IfErr, IfOk, IfSome, OnErr, OnOk, option_map, unwrap_or};
 ghost use Rattle.std.specs.List.Sorted.{IsPermutation};
 ghost use Rattle.change_model.specs.Sound.{IsSound};
 ghost use Rattle.stylo_base.specs.declared.refusal.EditRefused.TheVariants.{NoMemory as out_of_memory};
@@ -92,8 +92,8 @@ impl Marking {
 }
 
 /// Edits a document. Adds what the edit marks, what it makes fresh, and the numbers of what it takes out. What
-/// marks elements is made at the first edit that nothing refuses. After an error the document is as it was,
-/// and nothing more is marked or fresh.
+/// marks elements is made at the first edit, since the sheets are as they are, that nothing refuses. After an
+/// error the document is as it was, and nothing more is marked or fresh.
 pub(crate) fn edit_marked(
     alloc: Global,
     doc: &mut Doc,
@@ -106,7 +106,6 @@ pub(crate) fn edit_marked(
 ) -> Result<(), EditRefused>
     requires sound { IsSound doc.old }
     requires can_mark { IfSome marking.old (CanMark doc.old (sources_seen sheets.now) marks.old) }
-    requires unmarked { marking.old ≡ None → marks.old.items ≡ [] }
     ensures accepted { OnOk result (applied doc.old (doc_edit_seen edit.now) ≡ accepted doc.new) }
     ensures marked { OnOk result (AreMarkedToo doc.old.elements doc.new.elements (sources_seen sheets.now)
         marks.old.items marks.new.items) }
@@ -120,7 +119,6 @@ pub(crate) fn edit_marked(
     ensures still { OnErr result (IsFreshStill fresh.old fresh.new) }
     ensures left { OnErr result (AreGoneToo doc.old doc.old gone.old.items gone.new.items) }
     ensures can_mark { IfSome marking.new (CanMark doc.new (sources_seen sheets.now) marks.new) }
-    ensures unmarked { marking.new ≡ None → marks.new.items ≡ [] }
 {
     if let Some(made) = marking {
         return made.edit(alloc, doc, marks, fresh, gone, edit);
@@ -129,9 +127,8 @@ pub(crate) fn edit_marked(
         return Err(why);
     }
     let mut made = Marking::of(alloc, doc, sheets)?;
-    let mut room = ElementSet::new(alloc, doc.last() as u32)?;
-    made.edit(alloc, doc, &mut room, fresh, gone, edit)?;
-    *marks = room;
+    marks.grow(doc.last() as u32)?;
+    made.edit(alloc, doc, marks, fresh, gone, edit)?;
     *marking = Some(made);
     Ok(())
 }

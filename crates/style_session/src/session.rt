@@ -7,13 +7,11 @@ ghost use Rattle.scene_model.specs.Document.{document_of};
 ghost use Rattle.scene_model.specs.Lookups.{IsElement};
 ghost use Rattle.scene_model.specs.Numbers.{is_in};
 ghost use Rattle.layer_order.specs.View.{sheets_of};
-ghost use Rattle.edit_model.specs.Edit.{of_document};
 ghost use Rattle.edit_model.specs.Refusal.{accepted};
-ghost use Rattle.dom_edits.specs.EditView.{doc_edit_seen, edit_seen};
+ghost use Rattle.dom_edits.specs.EditView.{edit_seen};
 ghost use Rattle.session_model.specs.Standing.{edited, elements_of, kept_at, restyled, scene_applied, started};
 ghost use Rattle.style_session.specs.Answers.{IsAnswer, counts_of, refusal_of};
 ghost use Rattle.style_session.specs.SessionView.{scene_seen};
-ghost use Rattle.style_session.specs.Sessions.{AreOfTexts};
 
 use crate::answer::{StyleAnswer, is_open};
 use crate::beginning::Beginning;
@@ -23,8 +21,9 @@ use crate::first_walk::{FirstStyles, first_styles};
 use crate::fresh::{Fresh, is_settled, settle};
 use crate::lists::Lists;
 use crate::marking::{Marking, edit_marked};
-use crate::style_cache::StyleCache;
-use dom_edits::{DocEdit, Edit};
+use crate::sheet_marking::edit_sheets;
+use crate::style_cache::{StyleCache, make_ready};
+use dom_edits::Edit;
 use dom_tree::{Doc, NodeList};
 use invalidation_map::ElementSet;
 use io_edges::Gate;
@@ -44,8 +43,9 @@ use stylo_base::{EditRefused, NoMemory};
 pub struct Session {
     doc: Doc,
     sheets: Sheets,
-    prepared: Prepared,
-    /// What marks elements. None: no edit was accepted yet.
+    /// What is made ready of the sheets. None: it is made by the next restyle.
+    prepared: Option<Prepared>,
+    /// What marks elements. None: it is made by the next edit of the document.
     marking: Option<Marking>,
     /// The elements that were marked since the last restyle.
     marks: ElementSet,
@@ -111,14 +111,12 @@ impl Session {
         _workers: u32,
         _share: u32,
     ) -> Result<Session, NoMemory>
-        requires texts { AreOfTexts sheets }
         requires workers { (1 ≤ _workers) × (_workers ≤ 64) }
         requires share { _share ≤ 64 }
         ensures { IfOk result (λ session. session ≡ started (scene_seen doc sheets)) }
     {
-        let begun = Beginning::of(alloc, &doc, &sheets)?;
+        let begun = Beginning::of(alloc, &doc)?;
         let Beginning {
-            prepared,
             marks,
             fresh,
             gone,
@@ -127,7 +125,7 @@ impl Session {
         Ok(Session {
             doc,
             sheets,
-            prepared,
+            prepared: None,
             marking: None,
             marks,
             fresh,
@@ -138,9 +136,9 @@ impl Session {
         })
     }
 
-    /// Edits the document, and marks the elements whose styles the edit may have changed. An error is the
-    /// first refusal in the order of unknown elements, places and limits, and where there is none, that
-    /// memory ran out; after it all is as it was.
+    /// Edits the document or its sheets, and marks the elements whose styles the edit may have changed. An
+    /// error is the first refusal in the order of unknown elements and sheets, places and limits, and where
+    /// there is none, that memory ran out; after it all is as it was.
     pub fn edit(&mut self, alloc: Global, edit: &Edit) -> Result<(), EditRefused>
         ensures accepted { OnOk result
             (scene_applied self.old.scene (edit_seen edit.now) ≡ accepted self.new.scene) }
@@ -148,16 +146,28 @@ impl Session {
         ensures refused { IfErr result (λ why. why ≡ refusal_of self.old.scene (edit_seen edit.now)) }
         ensures kept { OnErr result (self.new ≡ self.old) }
     {
-        edit_marked(
-            alloc,
-            &mut self.doc,
-            &self.sheets,
-            &mut self.marking,
-            &mut self.marks,
-            &mut self.fresh,
-            &mut self.gone,
-            doc_edit(edit),
-        )
+        match edit {
+            Edit::Document(edit) => edit_marked(
+                alloc,
+                &mut self.doc,
+                &self.sheets,
+                &mut self.marking,
+                &mut self.marks,
+                &mut self.fresh,
+                &mut self.gone,
+                edit,
+            ),
+            Edit::Sheets(edit) => edit_sheets(
+                alloc,
+                &self.doc,
+                &mut self.sheets,
+                &mut self.prepared,
+                &mut self.marking,
+                &mut self.marks,
+                &mut self.cache,
+                edit,
+            ),
+        }
     }
 
     /// Styles again what edits since the last restyle can have changed, with one pass of the gate, of
@@ -179,11 +189,12 @@ impl Session {
             drop_gone(&self.doc, &mut self.gone, &mut self.kept);
             return Ok(cascade_none(&mut self.recent));
         }
+        make_ready(alloc, &self.sheets, &mut self.prepared)?;
         let inputs = Inputs {
             alloc,
             doc: &self.doc,
             sheets: &self.sheets,
-            prepared: &self.prepared,
+            prepared: self.prepared.as_ref().unwrap(),
         };
         if self.fresh.all {
             let made = first_styles(&inputs, &mut self.cache, gate)?;
@@ -245,14 +256,5 @@ impl Session {
         ensures once { IsDistinct nat_eq result.now }
     {
         self.recent.as_slice()
-    }
-}
-
-/// The edit of the document that an edit is.
-fn doc_edit(edit: &Edit) -> &DocEdit
-    ensures { edit_seen edit.now ≡ of_document (doc_edit_seen result.now) }
-{
-    match edit {
-        Edit::Document(edit) => edit,
     }
 }

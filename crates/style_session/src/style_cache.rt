@@ -1,18 +1,18 @@
 //! What is known of styles from one restyle to the next.
 
-ghost use Rattle.std.specs.Prelude.{◌≡◌, IfOk, OnOk, Some, slice_get};
+ghost use Rattle.std.specs.Prelude.{◌≡◌, IfOk, IsSome, OnOk, Some, slice_get};
 ghost use Rattle.change_model.specs.Sound.{IsSound};
 ghost use Rattle.sheet_model.specs.Sources.{Sources};
 ghost use Rattle.cascade_model.specs.StyleOf.{root_of};
 ghost use Rattle.sheet_set.specs.View.{sources_seen};
 ghost use Rattle.plain_style.specs.Fits.{Fits};
-ghost use Rattle.plain_style.specs.Prepared.{IsPrepared};
 ghost use Rattle.plain_style.specs.declared.prepared.Prepared.{Prepared};
 ghost use Rattle.session_model.specs.Standing.{root_size_in, style_in};
 ghost use Rattle.style_session.specs.Lent.{scene_lent};
-ghost use Rattle.style_session.specs.Sessions.{AreOfTexts};
+ghost use Rattle.style_session.specs.Sessions.{AreReady, KnowsNothing};
 
-use plain_style::{Inputs, RootStyle, Styler};
+use plain_style::{Inputs, Prepared, RootStyle, Styler};
+use sheet_set::Sheets;
 use std::alloc::Global;
 use std::sync::Arc;
 use stylo_base::{Fixed, NoMemory};
@@ -30,14 +30,20 @@ pub(crate) struct StyleCache {
 impl StyleCache {
     /// Nothing is known yet. It serves a document of so many elements best.
     pub(crate) fn start(alloc: Global, elements: usize) -> Result<StyleCache, NoMemory>
-        ensures fits { (sources : Sources) (prepared : Prepared) → IsPrepared sources prepared
-            → IfOk result (λ cache. Fits sources cache.size prepared cache.styler) }
+        ensures { IfOk result KnowsNothing }
     {
         let slots = elements.clamp(64, MOST_STYLES).next_power_of_two();
         Ok(StyleCache {
             styler: Styler::start(alloc, slots)?,
             size: Fixed::clamp(16_000),
         })
+    }
+
+    /// Forgets all, so that it is right for any sheets. It takes no memory.
+    pub(crate) fn forget(&mut self)
+        ensures { KnowsNothing self.new }
+    {
+        self.styler.clear();
     }
 
     /// Forgets all where it has become large.
@@ -54,7 +60,6 @@ impl StyleCache {
     /// Styles the root, and makes all right for its font size, which `rem` stands for. It gives the style by
     /// its number in the table.
     pub(crate) fn root(&mut self, inputs: &Inputs<'_>, root: u32) -> Result<usize, NoMemory>
-        requires texts { AreOfTexts inputs.now.sheets.now }
         requires sound { IsSound inputs.now.doc.now }
         requires root { root_of inputs.now.doc.now.elements ≡ Some root }
         requires fits { Fits (sources_seen inputs.now.sheets.now) self.old.size inputs.now.prepared.now
@@ -84,4 +89,20 @@ impl StyleCache {
         self.styler.clear();
         self.size = size;
     }
+}
+
+/// Makes ready what styling needs of these sheets, where it isn't there.
+pub(crate) fn make_ready(
+    alloc: Global,
+    sheets: &Sheets,
+    prepared: &mut Option<Prepared>,
+) -> Result<(), NoMemory>
+    ensures there { OnOk result (IsSome prepared.new) }
+    ensures ready { (cache : StyleCache) → AreReady (sources_seen sheets.now) prepared.old cache
+        → AreReady (sources_seen sheets.now) prepared.new cache }
+{
+    if prepared.is_none() {
+        *prepared = Some(Prepared::of(alloc, sheets)?);
+    }
+    Ok(())
 }

@@ -14,7 +14,6 @@ ghost use Rattle.session_model.specs.Standing.{is_cascaded, is_style, style_in};
 ghost use Rattle.session_model.specs.StandingInvariant.{AllKeep};
 ghost use Rattle.session_model.specs.Walk.{results};
 ghost use Rattle.style_session.specs.Answers.{styled_seen};
-ghost use Rattle.style_session.specs.Sessions.{AreOfTexts};
 ghost use Rattle.style_session.specs.Lent.{lent};
 ghost use Rattle.style_session.specs.SessionView.{slot_at};
 ghost use Rattle.style_session.specs.Walking.{HandsOn, HasMet, IsBare, IsMet, IsParentMet, IsWalk, Learns, Meets, Widens, known_at};
@@ -50,7 +49,6 @@ pub(crate) fn restyled<G: Gate>(
     cache: &mut StyleCache,
     gate: &G,
 ) -> Result<Vec<Styled>, NoMemory>
-    requires texts { AreOfTexts inputs.now.sheets.now }
     requires keeps { AllKeep (lent inputs.now lists.now) }
     requires fits { Fits (sources_seen inputs.now.sheets.now) cache.old.size inputs.now.prepared.now
         cache.old.styler }
@@ -100,7 +98,6 @@ impl Walk {
         cache: &mut StyleCache,
         root: u32,
     ) -> Result<(), NoMemory>
-        requires texts { AreOfTexts inputs.now.sheets.now }
         requires keeps { AllKeep (lent inputs.now lists.now) }
         requires sound { IsSound inputs.now.doc.now }
         requires root { root_of inputs.now.doc.now.elements ≡ Some root }
@@ -138,7 +135,6 @@ impl Walk {
         cache: &mut StyleCache,
         number: u32,
     ) -> Result<(), NoMemory>
-        requires texts { AreOfTexts inputs.now.sheets.now }
         requires sound { IsSound inputs.now.doc.now }
         requires element { IsElement inputs.now.doc.now.elements number }
         requires child { IsSome (parent_of inputs.now.doc.now.elements number) }

@@ -134,7 +134,7 @@ inside_send =
       (
         search (sheets_send, sendable) depth 20,
         (
-          search (prepared_send, sendable) depth 20,
+          search (prepared_send, as_row_send, sendable, crosses) depth 40,
           (
             search (marking_send, as_row_send, sendable, crosses) depth 40,
             (

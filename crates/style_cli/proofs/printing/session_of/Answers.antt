@@ -9,7 +9,7 @@ use Rattle.style_cli.proofs.printing.session_of.Goals as goal
 
 pub returns-clause-session : goal.returns-clause-session
 returns-clause-session c =
-    let scene = scene-started c.in_ok-doc.doc c.in_ok-rules.rules (document_of c.args.nodes) c.args.sheets c.in_ok-doc.ensures c.in_ok-rules.ensures.sheets in
+    let scene = scene-started c.in_ok-doc.doc c.in_ok-rules.rules (document_of c.args.nodes) c.args.sheets c.in_ok-doc.ensures c.in_ok-rules.ensures in
     IfOk-weaker c.of_parts.result _ _ (λ session e. e ∙ ap started scene) c.of_parts.ensures
 
 pub returns-clause-reached : goal.returns-clause-reached

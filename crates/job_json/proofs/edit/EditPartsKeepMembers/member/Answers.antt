@@ -5,6 +5,7 @@ use Rattle.job_json.specs.Words.{whole, name_of, name_said, state_named}
 use Rattle.job_json.specs.NewNodes.{new_nodes_in}
 use Rattle.job_json.specs.Edits.{state_answered, state_from}
 use Rattle.job_json.proofs.Puts.{here, there, beside}
+use Rattle.job_json.proofs.SheetLaws.{input_beside}
 use Rattle.job_json.proofs.EditLaws.{answered_seen}
 use Rattle.job_json.proofs.edit.EditPartsKeepMembers.member.Goals as goal
 
@@ -24,6 +25,8 @@ returns-in_ok-self-in-op-clause-ok c =
         value = kept.value ∙ ap (option_and_then as_str) (beside key done.0 ms (codes "op") (codes "value") c.in-op.is refl);
         state = kept.state ∙ ap state_from (beside key done.0 ms (codes "op") (codes "state") c.in-op.is refl);
         on = kept.on ∙ ap (option_and_then as_bool) (beside key done.0 ms (codes "op") (codes "on") c.in-op.is refl);
+        sheet = kept.sheet ∙ ap (option_and_then whole) (beside key done.0 ms (codes "op") (codes "sheet") c.in-op.is refl);
+        input = input_beside _ key done.0 ms (codes "op") c.in-op.is refl refl refl kept.input;
       },
     )
 
@@ -43,6 +46,8 @@ returns-in_ok-self-in-node-clause-ok c =
         value = kept.value ∙ ap (option_and_then as_str) (beside key done.0 ms (codes "node") (codes "value") c.in-node.is refl);
         state = kept.state ∙ ap state_from (beside key done.0 ms (codes "node") (codes "state") c.in-node.is refl);
         on = kept.on ∙ ap (option_and_then as_bool) (beside key done.0 ms (codes "node") (codes "on") c.in-node.is refl);
+        sheet = kept.sheet ∙ ap (option_and_then whole) (beside key done.0 ms (codes "node") (codes "sheet") c.in-node.is refl);
+        input = input_beside _ key done.0 ms (codes "node") c.in-node.is refl refl refl kept.input;
       },
     )
 
@@ -62,6 +67,8 @@ returns-in_ok-self-in-parent-clause-ok c =
         value = kept.value ∙ ap (option_and_then as_str) (beside key done.0 ms (codes "parent") (codes "value") c.in-parent.is refl);
         state = kept.state ∙ ap state_from (beside key done.0 ms (codes "parent") (codes "state") c.in-parent.is refl);
         on = kept.on ∙ ap (option_and_then as_bool) (beside key done.0 ms (codes "parent") (codes "on") c.in-parent.is refl);
+        sheet = kept.sheet ∙ ap (option_and_then whole) (beside key done.0 ms (codes "parent") (codes "sheet") c.in-parent.is refl);
+        input = input_beside _ key done.0 ms (codes "parent") c.in-parent.is refl refl refl kept.input;
       },
     )
 
@@ -81,6 +88,8 @@ returns-in_ok-self-in-index-clause-ok c =
         value = kept.value ∙ ap (option_and_then as_str) (beside key done.0 ms (codes "index") (codes "value") c.in-index.is refl);
         state = kept.state ∙ ap state_from (beside key done.0 ms (codes "index") (codes "state") c.in-index.is refl);
         on = kept.on ∙ ap (option_and_then as_bool) (beside key done.0 ms (codes "index") (codes "on") c.in-index.is refl);
+        sheet = kept.sheet ∙ ap (option_and_then whole) (beside key done.0 ms (codes "index") (codes "sheet") c.in-index.is refl);
+        input = input_beside _ key done.0 ms (codes "index") c.in-index.is refl refl refl kept.input;
       },
     )
 
@@ -100,6 +109,8 @@ returns-in_ok-self-in-nodes-clause-ok c =
         value = kept.value ∙ ap (option_and_then as_str) (beside key done.0 ms (codes "nodes") (codes "value") c.in-nodes.is refl);
         state = kept.state ∙ ap state_from (beside key done.0 ms (codes "nodes") (codes "state") c.in-nodes.is refl);
         on = kept.on ∙ ap (option_and_then as_bool) (beside key done.0 ms (codes "nodes") (codes "on") c.in-nodes.is refl);
+        sheet = kept.sheet ∙ ap (option_and_then whole) (beside key done.0 ms (codes "nodes") (codes "sheet") c.in-nodes.is refl);
+        input = input_beside _ key done.0 ms (codes "nodes") c.in-nodes.is refl refl refl kept.input;
       },
     )
 
@@ -119,6 +130,8 @@ returns-in_ok-text-in-name-clause-ok c =
         value = kept.value ∙ ap (option_and_then as_str) (beside key done.0 ms (codes "name") (codes "value") c.in-name.is refl);
         state = kept.state ∙ ap state_from (beside key done.0 ms (codes "name") (codes "state") c.in-name.is refl);
         on = kept.on ∙ ap (option_and_then as_bool) (beside key done.0 ms (codes "name") (codes "on") c.in-name.is refl);
+        sheet = kept.sheet ∙ ap (option_and_then whole) (beside key done.0 ms (codes "name") (codes "sheet") c.in-name.is refl);
+        input = input_beside _ key done.0 ms (codes "name") c.in-name.is refl refl refl kept.input;
       },
     )
 
@@ -138,6 +151,8 @@ returns-in_ok-self-in-value-clause-ok c =
         value = sym done.2 ∙ ap (option_and_then as_str) (here key done.0 ms (codes "value") c.in-value.is);
         state = kept.state ∙ ap state_from (beside key done.0 ms (codes "value") (codes "state") c.in-value.is refl);
         on = kept.on ∙ ap (option_and_then as_bool) (beside key done.0 ms (codes "value") (codes "on") c.in-value.is refl);
+        sheet = kept.sheet ∙ ap (option_and_then whole) (beside key done.0 ms (codes "value") (codes "sheet") c.in-value.is refl);
+        input = input_beside _ key done.0 ms (codes "value") c.in-value.is refl refl refl kept.input;
       },
     )
 
@@ -159,6 +174,8 @@ returns-in_ok-text-in-state-clause-ok c =
             sym (answered_seen _) ∙ ap (option_map state_answered) c.state_named-self.ensures
             ∙ ap (λ o. option_map state_answered (option_and_then state_named o)) (sym done.2) ∙ ap state_from (here key done.0 ms (codes "state") c.in-state.is);
         on = kept.on ∙ ap (option_and_then as_bool) (beside key done.0 ms (codes "state") (codes "on") c.in-state.is refl);
+        sheet = kept.sheet ∙ ap (option_and_then whole) (beside key done.0 ms (codes "state") (codes "sheet") c.in-state.is refl);
+        input = input_beside _ key done.0 ms (codes "state") c.in-state.is refl refl refl kept.input;
       },
     )
 
@@ -178,13 +195,36 @@ returns-in_ok-self-in-on-clause-ok c =
         value = kept.value ∙ ap (option_and_then as_str) (beside key done.0 ms (codes "on") (codes "value") c.in-on.is refl);
         state = kept.state ∙ ap state_from (beside key done.0 ms (codes "on") (codes "state") c.in-on.is refl);
         on = sym done.2 ∙ ap (option_and_then as_bool) (here key done.0 ms (codes "on") c.in-on.is);
+        sheet = kept.sheet ∙ ap (option_and_then whole) (beside key done.0 ms (codes "on") (codes "sheet") c.in-on.is refl);
+        input = input_beside _ key done.0 ms (codes "on") c.in-on.is refl refl refl kept.input;
       },
     )
 
-pub returns-in_ok-pass-in_default-clause-ok : goal.returns-in_ok-pass-in_default-clause-ok
-returns-in_ok-pass-in_default-clause-ok c =
+pub returns-in_ok-self-in-sheet-clause-ok : goal.returns-in_ok-self-in-sheet-clause-ok
+returns-in_ok-self-in-sheet-clause-ok c =
     let key = c.args.key.now in
-    let done = c.in_ok-pass-in_default.ensures.ok in (
+    let done = c.in_ok-self-in-sheet.ensures.ok in (
+      done.0,
+      done.1,
+      λ ms kept. record {
+        op = kept.op ∙ ap (option_and_then as_str) (beside key done.0 ms (codes "sheet") (codes "op") c.in-sheet.is refl);
+        node = kept.node ∙ ap (option_and_then whole) (beside key done.0 ms (codes "sheet") (codes "node") c.in-sheet.is refl);
+        parent = kept.parent ∙ ap (option_and_then whole) (beside key done.0 ms (codes "sheet") (codes "parent") c.in-sheet.is refl);
+        index = kept.index ∙ ap (option_and_then whole) (beside key done.0 ms (codes "sheet") (codes "index") c.in-sheet.is refl);
+        nodes = kept.nodes ∙ ap new_nodes_in (beside key done.0 ms (codes "sheet") (codes "nodes") c.in-sheet.is refl);
+        name = kept.name ∙ ap (option_and_then name_of) (beside key done.0 ms (codes "sheet") (codes "name") c.in-sheet.is refl);
+        value = kept.value ∙ ap (option_and_then as_str) (beside key done.0 ms (codes "sheet") (codes "value") c.in-sheet.is refl);
+        state = kept.state ∙ ap state_from (beside key done.0 ms (codes "sheet") (codes "state") c.in-sheet.is refl);
+        on = kept.on ∙ ap (option_and_then as_bool) (beside key done.0 ms (codes "sheet") (codes "on") c.in-sheet.is refl);
+        sheet = sym done.2 ∙ ap (option_and_then whole) (here key done.0 ms (codes "sheet") c.in-sheet.is);
+        input = input_beside _ key done.0 ms (codes "sheet") c.in-sheet.is refl refl refl kept.input;
+      },
+    )
+
+pub returns-in_ok-member-in_default-clause-ok : goal.returns-in_ok-member-in_default-clause-ok
+returns-in_ok-member-in_default-clause-ok c =
+    let key = c.args.key.now in
+    let done = c.in_ok-member-in_default.ensures.ok in (
       done.0,
       done.1,
       λ ms kept. record {
@@ -197,5 +237,7 @@ returns-in_ok-pass-in_default-clause-ok c =
         value = kept.value ∙ ap (option_and_then as_str) (there key done.0 ms (codes "value") c.in_default.not-value);
         state = kept.state ∙ ap state_from (there key done.0 ms (codes "state") c.in_default.not-state);
         on = kept.on ∙ ap (option_and_then as_bool) (there key done.0 ms (codes "on") c.in_default.not-on);
+        sheet = kept.sheet ∙ ap (option_and_then whole) (there key done.0 ms (codes "sheet") c.in_default.not-sheet);
+        input = done.2 ms kept.input;
       },
     )

@@ -2,20 +2,20 @@ use Rattle.std.proofs.Common.{◌≡◌, ◌+◌, ◌∷◌, ◌++◌, [], Optio
 use Rattle.std.specs.Prelude.{flat_map, option_map, option_to_list}
 use Rattle.std.proofs.lemmas.List.Concat.{length-flat_map}
 use Rattle.css_rules.specs.View.{style_of}
-use Rattle.layer_order.specs.View.{origin_of, sheet_of}
+use Rattle.layer_order.specs.View.{origin_of}
 use Rattle.selector_types.specs.View.{selector_of}
 use Rattle.sheet_model.specs.SelectorsIn.{selectors_in}
 use Rattle.sheet_model.specs.Declared.{block_declared}
 use Rattle.sheet_model.specs.StyleRules.{StyleRule, style_rule_of}
 use Rattle.sheet_model.specs.Sources.{all_placed}
 use Rattle.shorthands.specs.View.{declared_count, declared_of}
-use Rattle.sheet_set.specs.View.{rule_count, rules_with}
+use Rattle.sheet_set.specs.Rules.{rule_count, rules_with, sheet_read}
 use Rattle.sheet_set.proofs.Collected.{rule_is, rules_with-last, style_is}
 use Rattle.sheet_set.proofs.rule_collector.RuleCollector.add_style.Goals as goal
 
 pub returns-clause-adds : goal.returns-clause-adds
 returns-clause-adds c =
-    let sheet = sheet_of c.args.at.number c.args.sheet.now in
+    let sheet = sheet_read c.args.at c.args.sheet.now in
     let style = style_of c.args.style.now in
     let before = c.args.self.now.rules.items in
     let lists = c.args.self.now.selectors.items in
@@ -28,8 +28,8 @@ returns-clause-adds c =
     ap (λ l. rules_with l c.push-2.new.self.items) c.in_ok-push.ensures.items
     ∙ (ap (rules_with (before ++ rule ∷ [])) c.in_ok-push-2.ensures.items
     ∙ (rules_with-last before lists rule list c.requires
-    ∙ ap (λ l. rules_with before lists ++ l) (ap (λ r. r ∷ []) (rule_is rule list.items _ style.context sheet c.args.at.position c.args.index kept (ap origin_of made.1.0) (made.1.1.0 ∙ c.in_ok-share.ensures) made.1.1.1.0 made.1.1.1.1.0 made.1.1.1.1.1)
-    ∙ sym (ap (λ (o : Option StyleRule). all_placed sheet c.args.at.position c.args.index (option_to_list o)) read))))
+    ∙ ap (λ l. rules_with before lists ++ l) (ap (λ r. r ∷ []) (rule_is rule list.items _ style.context sheet 0 c.args.index kept (ap origin_of made.1.0) (made.1.1.0 ∙ c.in_ok-share.ensures) made.1.1.1.0 made.1.1.1.1.0 made.1.1.1.1.1)
+    ∙ sym (ap (λ (o : Option StyleRule). all_placed sheet 0 c.args.index (option_to_list o)) read))))
 
 pub returns-clause-next : goal.returns-clause-next
 returns-clause-next c =

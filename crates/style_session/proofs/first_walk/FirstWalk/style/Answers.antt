@@ -9,7 +9,8 @@ use Rattle.session_model.specs.Standing.{style_in}
 use Rattle.style_session.specs.Lent.{scene_lent}
 use Rattle.style_session.specs.declared.style_cache.StyleCache.{StyleCache}
 use Rattle.style_session.proofs.FirstWalkLemmas.{first-grown, first-keeps, kept-more}
-use Rattle.style_session.proofs.WalkLentLemmas.{child-over, sources-texts}
+use Rattle.style_session.proofs.WalkLentLemmas.{child-over}
+use Rattle.style_session.proofs.SessionSheets.{sources-texts}
 use Rattle.style_session.proofs.first_walk.FirstWalk.style.Goals as goal
 
 pub style_of-requires-clause-room : goal.style_of-requires-clause-room
@@ -53,7 +54,7 @@ returns-clause-walk c =
     let grown = first-grown scene c.args.cache.now c.style_of.new.cache c.args.self.now c.in_ok-over.ensures.kept c.in_ok-over.ensures.size c.requires.walk in
     let at : slice_get c.child.new.self.table c.in_ok-style.style ≡ Some (style_in scene x) =
     c.in_ok-style.ensures.style (style_in scene p) over
-    ∙ ap Some (child-over inputs.doc.now.elements (sources_seen sheets) (sources_of (map kept_seen sheets.sheets.items)) c.style_of.new.cache.size x p (sources-texts sheets c.requires.texts) c.requires.sound.valid parent grown.size) in
+    ∙ ap Some (child-over inputs.doc.now.elements (sources_seen sheets) (sources_of (map kept_seen sheets.sheets.items)) c.style_of.new.cache.size x p (sources-texts sheets) c.requires.sound.valid parent grown.size) in
     let cache : StyleCache = record c.style_of.new.cache { styler = c.child.new.self } in
     on_ok_weaker c.keep.result
     (first-keeps scene cache x c.in_ok-style.style c.args.self.now c.keep.new.self (c.requires.walk.room x c.requires.element) at
@@ -71,7 +72,7 @@ returns-clause-kept c front are =
     let over = c.in_ok-over.ensures.style (style_in scene p) (c.requires.parent p parent) (c.requires.walk.known p) in
     let at : slice_get c.child.new.self.table c.in_ok-style.style ≡ Some (style_in scene x) =
     c.in_ok-style.ensures.style (style_in scene p) over
-    ∙ ap Some (child-over inputs.doc.now.elements (sources_seen sheets) (sources_of (map kept_seen sheets.sheets.items)) c.style_of.new.cache.size x p (sources-texts sheets c.requires.texts) c.requires.sound.valid parent (c.in_ok-over.ensures.size ∙ c.requires.walk.size)) in
+    ∙ ap Some (child-over inputs.doc.now.elements (sources_seen sheets) (sources_of (map kept_seen sheets.sheets.items)) c.style_of.new.cache.size x p (sources-texts sheets) c.requires.sound.valid parent (c.in_ok-over.ensures.size ∙ c.requires.walk.size)) in
     on_ok_weaker c.keep.result
     (λ keeps. kept-more scene front x c.in_ok-style.style c.args.self.now c.keep.new.self keeps are)
     (c.keep.ensures (style_in scene x) at)

@@ -8,7 +8,7 @@ invariant_of-result c =
     let begun = c.in_ok-begun.begun in
     let is = c.in_ok-begun.ensures in
     let kept = c.new.result.items in
-    session-started c.args.doc c.args.sheets begun.prepared begun.marks begun.fresh begun.gone.items kept c.new-2.result.items begun.cache is.sound c.requires.texts is.marks c.new-2.ensures.items is.gone is.fresh (λ x. ap (λ l. slot_at l x) c.new.ensures.items) is.fits
+    session-started c.args.doc c.args.sheets begun.marks begun.fresh begun.gone.items kept c.new-2.result.items begun.cache is.sound is.marks c.new-2.ensures.items is.gone is.fresh (λ x. ap (λ l. slot_at l x) c.new.ensures.items) is.cache
 
 pub returns : goal.returns
 returns c =

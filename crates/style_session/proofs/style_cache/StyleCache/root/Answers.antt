@@ -7,7 +7,8 @@ use Rattle.sheet_model.specs.Sources.{sources_of}
 use Rattle.sheet_set.specs.View.{kept_seen, sources_seen}
 use Rattle.session_model.specs.Standing.{root_size_in, style_in}
 use Rattle.style_session.specs.Lent.{scene_lent}
-use Rattle.style_session.proofs.WalkLentLemmas.{root-over, root_size-over, sources-texts}
+use Rattle.style_session.proofs.WalkLentLemmas.{root-over, root_size-over}
+use Rattle.style_session.proofs.SessionSheets.{sources-texts}
 use Rattle.style_session.proofs.style_cache.StyleCache.root.Goals as goal
 
 pub style-requires : goal.style-requires
@@ -27,7 +28,7 @@ returns-clause-style c =
     let made : arc_value c.in_ok-made.made ≡ own =
     c.in_ok-made.ensures
     ∙ (same_Some _ _ (sym c.style.ensures ∙ c.in_ok-style.ensures.style)
-    ∙ root-over inputs.doc.now.elements (sources_seen sheets) (sources_of (map kept_seen sheets.sheets.items)) c.args.root (sources-texts sheets c.requires.texts) c.requires.sound.valid c.requires.root) in
+    ∙ root-over inputs.doc.now.elements (sources_seen sheets) (sources_of (map kept_seen sheets.sheets.items)) c.args.root (sources-texts sheets) c.requires.sound.valid c.requires.root) in
     subst (λ (s : Style). IfOk c.adopt.result (λ style. slice_get c.adopt.new.self.table style ≡ Some s)) made c.adopt.ensures.style
 
 pub returns-clause-size : goal.returns-clause-size
@@ -37,7 +38,7 @@ returns-clause-size c =
     let sized : c.fit.new.self.size ≡ root_size_in (scene_lent inputs) =
     c.fit.ensures.size
     ∙ (c.in_ok-style.ensures.size
-    ∙ root_size-over inputs.doc.now.elements (sources_seen sheets) (sources_of (map kept_seen sheets.sheets.items)) c.args.root (sources-texts sheets c.requires.texts) c.requires.sound.valid c.requires.root) in
+    ∙ root_size-over inputs.doc.now.elements (sources_seen sheets) (sources_of (map kept_seen sheets.sheets.items)) c.args.root (sources-texts sheets) c.requires.sound.valid c.requires.root) in
     IfOk-weaker c.adopt.result (λ number. slice_get c.adopt.new.self.table number ≡ Some (arc_value c.in_ok-made.made)) (λ _. c.fit.new.self.size ≡ root_size_in (scene_lent inputs)) (λ _ _. sized) c.adopt.ensures.style
 
 pub returns-clause-fits : goal.returns-clause-fits

@@ -10,7 +10,8 @@ use Rattle.style_session.specs.Lent.{lent}
 use Rattle.style_session.specs.SessionView.{slot_at}
 use Rattle.style_session.specs.declared.style_cache.StyleCache.{StyleCache}
 use Rattle.style_session.proofs.WalkLemmas.{met-cascaded, walk-grown, walk-handed, walk-meets}
-use Rattle.style_session.proofs.WalkLentLemmas.{child-over, lent-kept, sources-texts}
+use Rattle.style_session.proofs.WalkLentLemmas.{child-over, lent-kept}
+use Rattle.style_session.proofs.SessionSheets.{sources-texts}
 use Rattle.style_session.proofs.walk.Walk.cascade.Goals as goal
 
 pub meet-requires-clause-due : goal.meet-requires-clause-due
@@ -44,7 +45,7 @@ returns-clause-walk c =
     let at : slice_get c.child.new.self.table c.in_ok-style.style ≡ Some own =
     c.in_ok-style.ensures.style (style_in st.scene p) c.in_ok-over.ensures.style
     ∙ ap Some (child-over doc (sources_seen sheets) (sources_of (map kept_seen sheets.sheets.items)) c.style_of.new.cache.size x p
-    (sources-texts sheets c.requires.texts) c.requires.sound.valid parent c.in_ok-over.ensures.walk.size) in
+    (sources-texts sheets) c.requires.sound.valid parent c.in_ok-over.ensures.walk.size) in
     let cache : StyleCache = record c.style_of.new.cache { styler = c.child.new.self } in
     let one : Styled = record { number = x; style = own; matched = c.is_matched.result } in
     let kept = lent-kept inputs lists x c.requires.sound c.requires.element in
@@ -67,7 +68,7 @@ returns-clause-met c front has =
     let at : slice_get c.child.new.self.table c.in_ok-style.style ≡ Some own =
     c.in_ok-style.ensures.style (style_in st.scene p) c.in_ok-over.ensures.style
     ∙ ap Some (child-over doc (sources_seen sheets) (sources_of (map kept_seen sheets.sheets.items)) c.style_of.new.cache.size x p
-    (sources-texts sheets c.requires.texts) c.requires.sound.valid parent c.in_ok-over.ensures.walk.size) in
+    (sources-texts sheets) c.requires.sound.valid parent c.in_ok-over.ensures.walk.size) in
     let kept = lent-kept inputs lists x c.requires.sound c.requires.element in
     let one : Bool → Styled = λ matched. record { number = x; style = own; matched = matched } in
     on_ok_weaker c.hand_on.result

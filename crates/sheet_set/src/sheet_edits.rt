@@ -1,0 +1,147 @@
+//! Edits of the style sheets of a document: planned with all memory that they take, then made without any.
+
+ghost use Rattle.std.specs.Prelude.{◌≡◌, ◌≤◌, IfErr, IfOk, None, OnErr, OnOk, length, option_map, unwrap_or};
+ghost use Rattle.base_model.specs.Limits.{number_limit, sheet_limit};
+ghost use Rattle.edit_model.specs.Refusal.{accepted};
+ghost use Rattle.edit_model.specs.SheetApply.{AreNumbered, number_in, sheet_refusal, sheets_applied};
+ghost use Rattle.sheet_model.specs.Sources.{layers_of_sheets};
+ghost use Rattle.stylo_base.specs.declared.refusal.EditRefused.TheVariants.{NoMemory as out_of_memory};
+ghost use Rattle.dom_edits.specs.EditView.{refusal_answered, sheet_edit_seen};
+ghost use Rattle.sheet_set.specs.Fits.{AreSameSheets, Fits};
+ghost use Rattle.sheet_set.specs.Planned.{planned};
+ghost use Rattle.sheet_set.specs.Room.{HasRoom};
+ghost use Rattle.sheet_set.specs.TellsMarks.{TellsMarks};
+ghost use Rattle.sheet_set.specs.View.{listed_seen};
+
+use crate::planning::{layers_after, step_of};
+use crate::ranks::put_layers;
+use crate::refused::refused;
+use crate::renumber::renumber;
+use crate::room::make_room;
+use crate::sheet_keys::change_of;
+use crate::sheet_step::SheetStep;
+use crate::stepping::make;
+use crate::{SheetPlan, Sheets};
+use dom_edits::SheetEdit;
+use layer_order::Layers;
+use selector_types::SheetChange;
+use std::alloc::Global;
+use stylo_base::{EditRefused, NoMemory};
+
+impl Sheets {
+    /// Why an edit is refused: the first refusal in the order of unknown sheets, places and limits. None: it is
+    /// accepted, where there is memory. It takes no memory.
+    pub fn refusal(&self, edit: &SheetEdit) -> Option<EditRefused>
+        ensures { result ≡ option_map refusal_answered
+            (sheet_refusal (listed_seen self.now) (sheet_edit_seen edit.now)) }
+    {
+        refused(&self.sheets, self.last, edit)
+    }
+
+    /// Plans an edit: what it needs is made, and what is seen of the sheets stays. Only the edit's own text is read.
+    pub fn plan(&mut self, alloc: Global, edit: &SheetEdit) -> Result<SheetPlan, EditRefused>
+        ensures same { AreSameSheets self.old self.new }
+        ensures planned { IfOk result (λ plan. accepted (planned plan.step (listed_seen self.old))
+            ≡ sheets_applied (listed_seen self.old) (sheet_edit_seen edit.now)) }
+        ensures fits { IfOk result (λ plan. Fits self.new plan) }
+        ensures change { IfOk result (λ plan. TellsMarks (listed_seen self.old).listed
+            (planned plan.step (listed_seen self.old)).listed
+            (number_in self.old.last (sheet_edit_seen edit.now)) plan.change) }
+        ensures refused { IfErr result (λ why. why ≡ unwrap_or
+            (option_map refusal_answered (sheet_refusal (listed_seen self.old) (sheet_edit_seen edit.now)))
+            out_of_memory) }
+    {
+        if let Some(why) = self.refusal(edit) {
+            return Err(why);
+        }
+        Ok(self.planned(alloc, edit)?)
+    }
+
+    /// The same of an edit that nothing refuses.
+    fn planned(&mut self, alloc: Global, edit: &SheetEdit) -> Result<SheetPlan, NoMemory>
+        requires { sheet_refusal (listed_seen self.old) (sheet_edit_seen edit.now) ≡ None }
+        ensures same { AreSameSheets self.old self.new }
+        ensures planned { IfOk result (λ plan. accepted (planned plan.step (listed_seen self.old))
+            ≡ sheets_applied (listed_seen self.old) (sheet_edit_seen edit.now)) }
+        ensures fits { IfOk result (λ plan. Fits self.new plan) }
+        ensures change { IfOk result (λ plan. TellsMarks (listed_seen self.old).listed
+            (planned plan.step (listed_seen self.old)).listed
+            (number_in self.old.last (sheet_edit_seen edit.now)) plan.change) }
+    {
+        let step = step_of(alloc, &self.sheets, self.last, edit)?;
+        let layers = layers_after(alloc, &self.sheets, &step)?;
+        let change = change_of(
+            alloc,
+            &self.sheets,
+            &self.selectors,
+            &step,
+            &self.layers,
+            layers.as_ref(),
+        )?;
+        make_room(
+            &mut self.sheets,
+            &mut self.rules,
+            &mut self.selectors,
+            &mut self.ranks,
+            &step,
+        )?;
+        Ok(SheetPlan {
+            change,
+            step,
+            layers,
+        })
+    }
+
+    /// Makes an edit that was planned. It takes no memory.
+    pub fn commit(&mut self, plan: SheetPlan)
+        requires { Fits self.old plan }
+        ensures { listed_seen self.new ≡ planned plan.step (listed_seen self.old) }
+    {
+        let SheetPlan { step, layers, .. } = plan;
+        self.make(step, layers);
+    }
+
+    /// Makes a step of an edit, with the layers of all sheets after it. None: they stay.
+    fn make(&mut self, step: SheetStep, layers: Option<Layers>)
+        requires room { HasRoom self.old.sheets self.old.rules self.old.selectors self.old.ranks step }
+        requires numbered { AreNumbered (planned step (listed_seen self.old)) }
+        requires few { length (planned step (listed_seen self.old)).listed ≤ sheet_limit }
+        requires given { (planned step (listed_seen self.old)).last ≤ number_limit }
+        requires layers { unwrap_or layers self.old.layers
+            ≡ layers_of_sheets (planned step (listed_seen self.old)).listed }
+        ensures { listed_seen self.new ≡ planned step (listed_seen self.old) }
+    {
+        let Sheets {
+            sheets,
+            last,
+            rules,
+            selectors,
+            ranks,
+            layers: kept,
+        } = self;
+        make(sheets, last, rules, selectors, ranks, kept, step);
+        renumber(sheets, rules, 0);
+        put_layers(kept, ranks, layers, rules);
+    }
+
+    /// Makes an edit, or refuses it; then all is as it was. The answer is what it changed.
+    pub fn apply(&mut self, alloc: Global, edit: &SheetEdit) -> Result<SheetChange, EditRefused>
+        ensures applied { OnOk result (accepted (listed_seen self.new)
+            ≡ sheets_applied (listed_seen self.old) (sheet_edit_seen edit.now)) }
+        ensures change { IfOk result (TellsMarks (listed_seen self.old).listed (listed_seen self.new).listed
+            (number_in self.old.last (sheet_edit_seen edit.now))) }
+        ensures refused { IfErr result (λ why. why ≡ unwrap_or
+            (option_map refusal_answered (sheet_refusal (listed_seen self.old) (sheet_edit_seen edit.now)))
+            out_of_memory) }
+        ensures kept { OnErr result (AreSameSheets self.old self.new) }
+    {
+        let plan = self.plan(alloc, edit)?;
+        let SheetPlan {
+            change,
+            step,
+            layers,
+        } = plan;
+        self.make(step, layers);
+        Ok(change)
+    }
+}
