@@ -1,7 +1,7 @@
 //! The printed lines.
 
 use property_table::{Color, Keyword, PropId, Value};
-use report_text::{batch_line, element_line, refused_line};
+use report_text::{Sums, batch_line, element_line, element_line_len, refused_line, summary_line};
 use std::alloc::Global;
 use std::test::Fail;
 use style_value::{Style, StyleDraft};
@@ -25,6 +25,24 @@ fn refused(rt: HostRuntime) -> Result<(), Fail> {
     Ok(())
 }
 
+#[test]
+fn summary(rt: HostRuntime) -> Result<(), Fail> {
+    let sums = Sums {
+        accepted: 7,
+        refused: 1,
+        matched: 10,
+        cascaded: 12,
+        lines: 20,
+        bytes: u64::MAX,
+    };
+    let line = summary_line(rt.alloc(), 5, 2, &sums)?;
+    assert_eq!(rt;
+        line.as_str(),
+        "nodes 5, batches 2, accepted 7, refused 1, matched 10, cascaded 12, lines 20, bytes 18446744073709551615\n"
+    );
+    Ok(())
+}
+
 /// a style that has no box, and a negative margin
 fn boxless(alloc: Global) -> Result<Style, NoMemory> {
     let mut draft = StyleDraft::inheriting(alloc, &Style::initial(alloc)?)?;
@@ -34,18 +52,15 @@ fn boxless(alloc: Global) -> Result<Style, NoMemory> {
     draft.finish(alloc)
 }
 
-fn boxless_line(alloc: Global) -> Result<Text, NoMemory> {
-    let style = boxless(alloc)?;
-    element_line(alloc, u32::MAX, "é→😀", &style)
-}
-
 #[test]
 fn element(rt: HostRuntime) -> Result<(), Fail> {
-    let line = boxless_line(rt.alloc())?;
+    let style = boxless(rt.alloc())?;
+    let line = element_line(rt.alloc(), u32::MAX, "é→😀", &style)?;
     assert_eq!(rt;
         line.as_str(),
         "4294967295 é→😀{display: none; margin-top: -1.5px}\n"
     );
+    assert_eq!(rt; element_line_len(u32::MAX, "é→😀", &style), 56);
     Ok(())
 }
 

@@ -1,6 +1,8 @@
-//! What the bytes of an input give.
+//! What the bytes of an input give, and what a number makes.
 
-use job_json::{Job, read};
+use dom_edits::{DocEdit, Edit};
+use dom_tree::Doc;
+use job_json::{Job, generate, read};
 use std::alloc::Global;
 use std::test::Fail;
 
@@ -58,5 +60,32 @@ fn sheet_text(rt: HostRuntime) -> Result<(), Fail> {
         r#"{"version":1,"nodes":[{"tag":"p"}],"sheets":[{"origin":"author","text":"p { }","text":"a\u00e9\n\"{}"}]}"#,
     )?;
     assert!(rt; has_text(&job, "a\u{e9}\n\"{}"));
+    Ok(())
+}
+
+/// Whether the element 3 of a document is a `u` of class `c9` with the id `n2`.
+fn has_third(doc: &Doc) -> bool {
+    doc.contains(3)
+        && doc.tag(3) == "u"
+        && doc.attribute(3, "class") == Some("c9")
+        && doc.attribute(3, "id") == Some("n2")
+}
+
+/// Whether a job has two batches, of which the first begins by giving the element 3 the class `c8`.
+fn sets_class(job: &Job) -> bool {
+    let [batch, _] = job.batches.as_slice() else {
+        return false;
+    };
+    match batch.first() {
+        Some(Edit::Document(DocEdit::Set { node: 3, value, .. })) => value.as_str() == "c8",
+        _ => false,
+    }
+}
+
+#[test]
+fn made_from_a_number(rt: HostRuntime) -> Result<(), Fail> {
+    let job = generate(rt.alloc(), 1, 5, 2)?;
+    let doc = Doc::start(rt.alloc(), &job.nodes)?;
+    assert!(rt; has_third(&doc) && sets_class(&job));
     Ok(())
 }

@@ -10,3 +10,5 @@ pub mod Held
 pub mod Slots
 pub mod Kept
 pub mod KeptEdits
+pub mod Draws
+pub mod Gen

@@ -1,4 +1,4 @@
-//! Reads a job: the document, the style sheets and the batches of edits that its JSON says.
+//! Jobs: the document, the style sheets and the batches of edits. A job is read from JSON, or made from a number.
 #![tactic(auto)]
 
 mod attributes;
@@ -6,8 +6,12 @@ mod batch_items;
 mod batch_list;
 mod checked;
 mod document;
+mod drawn_edits;
+mod drawn_nodes;
+mod draws;
 mod edit;
 mod edit_items;
+mod generating;
 mod kept_nodes;
 mod limits;
 mod name;
@@ -32,6 +36,7 @@ ghost use Rattle.job_json.specs.JobOf.{verdict_of, verdict_on, not_json, bad_sha
 use crate::document::take_job;
 pub use batch_list::BatchList;
 use dom_tree::NodeList;
+pub use generating::generate;
 use json::{Reader, Scratch};
 use json_reader::Stop;
 pub use sheet_list::SheetList;

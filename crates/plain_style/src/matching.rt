@@ -8,7 +8,7 @@ ghost use Rattle.layer_model.specs.Order.{Layers};
 ghost use Rattle.selector_types.specs.declared.selector.Selector.{Selector};
 ghost use Rattle.shorthands.specs.View.{declared_of};
 ghost use Rattle.sheet_set.specs.Ranks.{rank_seen};
-ghost use Rattle.sheet_set.specs.View.{placed_rule_of, sources_seen};
+ghost use Rattle.sheet_set.specs.View.{placed_rule_of, put_at, sources_seen};
 ghost use Rattle.plain_style.specs.MatchedRules.{declarations_of};
 
 use crate::matched_rules::{self, MatchedRule};
@@ -49,10 +49,15 @@ pub(crate) fn declarations<'a>(
 {
     let rules = sheets.rules();
     let ranks = sheets.ranks();
+    let positions = sheets.positions();
     let mut list = Vec::with_capacity(alloc, room(rules, found))?;
     for one in found {
         if let Some(rule) = rules.get(one.rule) {
-            add_declarations(&mut list, rule, ranks[one.rule], one.specificity)?;
+            let place = RulePlace {
+                rank: ranks[one.rule],
+                position: positions[one.rule],
+            };
+            add_declarations(&mut list, rule, place, one.specificity)?;
         }
     }
     Ok(list)
@@ -69,17 +74,24 @@ fn room(rules: &[SheetRule], found: &[MatchedRule]) -> usize {
     room
 }
 
-/// Adds the declarations of a rule whose layer has this rank.
+/// The rank of a rule's layer, and the position of its sheet.
+#[derive(Clone, Copy)]
+struct RulePlace {
+    rank: u32,
+    position: u32,
+}
+
+/// Adds the declarations of a rule at a place.
 fn add_declarations<'a>(
     list: &mut Vec<Matched<'a>>,
     rule: &'a SheetRule,
-    rank: u32,
+    place: RulePlace,
     specificity: Specificity,
 ) -> Result<(), NoMemory>
-    ensures { (layers : Layers) (selectors : List Selector) → rank ≡ rank_seen layers rule.now
+    ensures { (layers : Layers) (selectors : List Selector) → place.rank ≡ rank_seen layers rule.now
         → OnOk result (flat_map matched_of list.new.items ≡ flat_map matched_of list.old.items
-        ++ all_matched layers (placed_rule_of rule.now selectors) specificity rule.now.first_index
-        (flat_map declared_of rule.now.declarations.items)) }
+        ++ all_matched layers (put_at place.position (placed_rule_of rule.now selectors)) specificity
+        rule.now.body.value.first_index (flat_map declared_of rule.now.body.value.declarations.items)) }
 {
     let mut index = rule.first_index();
     for declared in rule.declarations() {
@@ -87,10 +99,10 @@ fn add_declarations<'a>(
             declared,
             origin: rule.origin(),
             attached: false,
-            layer: rank,
+            layer: place.rank,
             specificity,
             sheet: rule.sheet(),
-            position: rule.position(),
+            position: place.position,
             index,
         };
         list.extend_from_slice(&[one])?;

@@ -86,7 +86,7 @@ separator_bytes (b ∷ before) (a ∷ after) first second =
     some_texts b a before after (chars (b ∷ before)) (chars (a ∷ after)) first second refl refl
 
 -- the texts that are kept, with what stands between, are the whole
-kept_whole : (style : Style) (own custom : List ℕ) → IsUtf8 own → IsUtf8 custom → chars own ≡ joined between (declaration_texts table style.values) → chars custom ≡ custom_declarations style.custom → chars own ++ (separator own custom ++ chars custom) ≡ printed_declarations style
+pub kept_whole : (style : Style) (own custom : List ℕ) → IsUtf8 own → IsUtf8 custom → chars own ≡ joined between (declaration_texts table style.values) → chars custom ≡ custom_declarations style.custom → chars own ++ (separator own custom ++ chars custom) ≡ printed_declarations style
 unfolding custom_texts
 kept_whole style own custom first second text texts =
     let xs : List Characters = declaration_texts table style.values in

@@ -1,3 +1,4 @@
 mod Examples
 pub mod AppendLemmas
 pub mod DeclarationLemmas
+pub mod LengthLemmas

@@ -1,6 +1,11 @@
 //! The printed lines.
 #![tactic(auto)]
 
+mod lengths;
 mod lines;
 
-pub use lines::{batch_line, element_line, push_element_line, push_refused_line, refused_line};
+pub use lengths::element_line_len;
+pub use lines::{
+    Sums, batch_line, element_line, push_element_line, push_refused_line, refused_line,
+    summary_line,
+};

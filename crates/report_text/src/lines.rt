@@ -6,6 +6,7 @@ ghost use Rattle.stylo_base.specs.Ascii.{is_all_ascii};
 ghost use Rattle.stylo_base.specs.KindName.{name_of};
 ghost use Rattle.value_model.specs.Printed.{printed_declarations};
 ghost use Rattle.report_text.specs.Lines.{batch_line, element_line, refusal_text, refused_line, separator};
+ghost use Rattle.report_text.specs.Lines.{summary_line};
 
 use std::alloc::Global;
 use style_value::Style;
@@ -30,6 +31,41 @@ pub fn batch_line(
     push_count(&mut line, " refused, ", matched)?;
     push_count(&mut line, " matched, ", cascaded)?;
     line.push_str(" cascaded\n")?;
+    Ok(line)
+}
+
+/// Sums over all batches.
+#[derive(Clone, Copy, Debug, PartialEq, Eq)]
+pub struct Sums {
+    /// The edits that were accepted.
+    pub accepted: u64,
+    /// The edits that were refused.
+    pub refused: u64,
+    /// The elements that were matched.
+    pub matched: u64,
+    /// The elements that were cascaded.
+    pub cascaded: u64,
+    /// The lines that printing all batches takes.
+    pub lines: u64,
+    /// The bytes of these lines, each with its line feed.
+    pub bytes: u64,
+}
+
+/// The line of sums over the batches of a generated job: how many nodes it begins with, how many
+/// batches follow, and the sums.
+pub fn summary_line(alloc: Global, nodes: u64, batches: u64, sums: &Sums) -> Result<Text, NoMemory>
+    ensures { IfOk result (λ t. t ≡ summary_line nodes batches sums.now) }
+{
+    let mut line = Text::new(alloc);
+    push_count(&mut line, "nodes ", nodes)?;
+    push_count(&mut line, ", batches ", batches)?;
+    push_count(&mut line, ", accepted ", sums.accepted)?;
+    push_count(&mut line, ", refused ", sums.refused)?;
+    push_count(&mut line, ", matched ", sums.matched)?;
+    push_count(&mut line, ", cascaded ", sums.cascaded)?;
+    push_count(&mut line, ", lines ", sums.lines)?;
+    push_count(&mut line, ", bytes ", sums.bytes)?;
+    line.push_str("\n")?;
     Ok(line)
 }
 
@@ -121,7 +157,7 @@ fn push_declarations(line: &mut Text, style: &Style) -> Result<(), NoMemory>
 }
 
 /// What stands between two texts of declarations: nothing, where one of them is empty.
-fn separator(before: &str, after: &str) -> &'static str
+pub(crate) fn separator(before: &str, after: &str) -> &'static str
     ensures text { result.now ≡ separator before.now after.now }
     ensures ascii { is_all_ascii result.now ≡ true }
 {

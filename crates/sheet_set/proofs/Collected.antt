@@ -42,9 +42,9 @@ pub style_is : (style : StyleBlock) (selectors : List model_selector.Selector) �
 style_is style selectors is =
     ap (option_and_then (λ ss. Some (record { selectors = ss; declarations = block_declared style.block; context = style.context }))) is
 
-pub rule_is : (rule : SheetRule) (list : List Selector) (kept : List model.Declared) (context : Context) (sheet : Sheet) (position index : ℕ) → flat_map declared_of rule.declarations.items ≡ kept → origin_of rule.origin ≡ sheet.origin
-    → rule.layer ≡ context.layer → rule.sheet ≡ sheet.number → rule.position ≡ position → rule.first_index ≡ index → placed_rule_of rule list ≡ placed sheet position index (record { selectors = map selector_of list; declarations = kept; context = context })
-rule_is rule list kept context sheet position index d o l n p i = cc
+pub rule_is : (rule : SheetRule) (list : List Selector) (kept : List model.Declared) (context : Context) (sheet : Sheet) (index : ℕ) → flat_map declared_of rule.body.value.declarations.items ≡ kept → origin_of rule.body.value.origin ≡ sheet.origin
+    → rule.body.value.layer ≡ context.layer → rule.body.value.sheet ≡ sheet.number → rule.body.value.first_index ≡ index → placed_rule_of rule list ≡ placed sheet 0 index (record { selectors = map selector_of list; declarations = kept; context = context })
+rule_is rule list kept context sheet index d o l n i = cc
 
 -- rules after rules: those that come later are counted on
 pub all_placed-append : (sheet : Sheet) (position index : ℕ) (rule : Option StyleRule) (rules : List StyleRule) → all_placed sheet position index (option_to_list rule ++ rules) ≡ all_placed sheet position index (option_to_list rule) ++ all_placed sheet position (index + rule_count rule) rules

@@ -9,21 +9,21 @@ use Rattle.edit_model.specs.SheetApply.{with_enabled}
 use Rattle.sheet_set.specs.declared.kept_sheet.KeptSheet.{KeptSheet}
 use Rattle.sheet_set.specs.Kept.{kept_seen, taking}
 use Rattle.sheet_set.specs.Planned.{at_place, in_place}
-use Rattle.sheet_set.specs.Rules.{AreSame, put_at, rules_at, taking_part, unplaced}
+use Rattle.sheet_set.specs.Rules.{AreSame, rules_at, taking_part}
 use Rattle.sheet_set.proofs.MovedRules.{taking-off, taking-on, with_part, without_part}
 use Rattle.sheet_set.proofs.Taking.{at-enabled, rules_count, taking-append}
 
 -- the list without the sheet at a place
 module _ (sheets : List KeptSheet) (place : ℕ) (it : KeptSheet) (within : place < length sheets) (is : it ≡ get_or sheets place it) where
-  pub leaves-on : it.enabled ≡ true → (old : List PlacedRule) (at : ℕ) → at ≡ length (taking (take place sheets)) → AreSame (unplaced old) (taking sheets)
-      → AreSame (unplaced (take at old ++ drop it.count (drop at old))) (taking (take place sheets ++ drop (place + 1) sheets))
+  pub leaves-on : it.enabled ≡ true → (old : List PlacedRule) (at : ℕ) → at ≡ length (taking (take place sheets)) → AreSame old (taking sheets)
+      → AreSame (take at old ++ drop it.count (drop at old)) (taking (take place sheets ++ drop (place + 1) sheets))
   leaves-on on old at is_at texts =
       let before = taking (take place sheets) in
       let after = taking (drop (place + 1) sheets) in
-      ∥∥₁_map texts (λ t. without_part (put_at 0) old before (rules_at 0 (kept_seen it)) after at it.count (t ∙ taking-on sheets place it within is on) (sym is_at) (rules_count it)
+      ∥∥₁_map texts (λ t. without_part old before (rules_at 0 (kept_seen it)) after at it.count (t ∙ taking-on sheets place it within is on) (sym is_at) (rules_count it)
       ∙ sym (taking-append (take place sheets) (drop (place + 1) sheets)))
 
-  pub leaves-off : it.enabled ≡ false → (old : List PlacedRule) → AreSame (unplaced old) (taking sheets) → AreSame (unplaced old) (taking (take place sheets ++ drop (place + 1) sheets))
+  pub leaves-off : it.enabled ≡ false → (old : List PlacedRule) → AreSame old (taking sheets) → AreSame old (taking (take place sheets ++ drop (place + 1) sheets))
   leaves-off off old texts =
       ∥∥₁_map texts (λ t. t ∙ (taking-off sheets place it within is off ∙ sym (taking-append (take place sheets) (drop (place + 1) sheets))))
 
@@ -36,17 +36,17 @@ module _ (sheets : List KeptSheet) (place : ℕ) where
   with_one now = taking-append (take place sheets) (now ∷ drop place sheets)
 
   pub comes-on : (it now : KeptSheet) (old more : List PlacedRule) (at : ℕ) → at ≡ length (taking (take place sheets)) → kept_seen now ≡ with_enabled true (kept_seen it)
-      → AreSame (unplaced more) (rules_at 0 (kept_seen it)) → AreSame (unplaced old) (taking sheets)
-      → AreSame (unplaced (take at old ++ (more ++ drop at old))) (taking (take place sheets ++ now ∷ drop place sheets))
+      → AreSame more (rules_at 0 (kept_seen it)) → AreSame old (taking sheets)
+      → AreSame (take at old ++ (more ++ drop at old)) (taking (take place sheets ++ now ∷ drop place sheets))
   comes-on it now old more at is_at seen its texts =
       let before = taking (take place sheets) in
       let after = taking (drop place sheets) in
       let part : taking_part (kept_seen now) ≡ rules_at 0 (kept_seen it) = ap taking_part seen ∙ at-enabled (kept_seen it) true 0 in
-      ∥∥₁_map₂ its texts (λ i t. with_part (put_at 0) old more before after at (t ∙ parts) (sym is_at)
+      ∥∥₁_map₂ its texts (λ i t. with_part old more before after at (t ∙ parts) (sym is_at)
       ∙ (ap (λ l. before ++ (l ++ after)) (i ∙ sym part) ∙ sym (with_one now)))
 
-  pub comes-off : (now : KeptSheet) (old : List PlacedRule) → now.enabled ≡ false → AreSame (unplaced old) (taking sheets)
-      → AreSame (unplaced old) (taking (take place sheets ++ now ∷ drop place sheets))
+  pub comes-off : (now : KeptSheet) (old : List PlacedRule) → now.enabled ≡ false → AreSame old (taking sheets)
+      → AreSame old (taking (take place sheets ++ now ∷ drop place sheets))
   comes-off now old off texts =
       let before = taking (take place sheets) in
       let after = taking (drop place sheets) in

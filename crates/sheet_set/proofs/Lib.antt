@@ -12,10 +12,12 @@ pub mod MovedRules
 pub mod PartsLemmas
 pub mod Places
 pub mod Placing
+pub mod Positioned
 pub mod PlainLemmas
 pub mod PlanLemmas
 pub mod Ranked
 pub mod RoomLemmas
+pub mod RulesAfter
 pub mod SheetAt
 pub mod Standings
 pub mod StepKeys

@@ -5,42 +5,33 @@ use Rattle.std.specs.Prelude.{Vec}
 use Rattle.std.specs.Coded.{le_prop}
 use Rattle.std.specs.declared.alloc.Global.{Global}
 use Rattle.std.proofs.lemmas.Bool.{cond-true, cond-false}
-use Rattle.std.proofs.lemmas.List.{length-map, map-append, take-map, drop-map, take_at, drop_at, take-append-drop}
+use Rattle.std.proofs.lemmas.List.{map-append, take-map, drop-map, take_at, drop_at, take-append-drop}
 use Rattle.selector_types.specs.declared.selector.Selector.{Selector}
 use Rattle.sheet_set.specs.declared.sheet_rule.SheetRule.{SheetRule}
 use Rattle.sheet_set.specs.declared.kept_sheet.KeptSheet.{KeptSheet}
 use Rattle.sheet_set.specs.Kept.{kept_seen, taking}
-use Rattle.sheet_set.specs.Rules.{AreSame, put_at, rules_at, rules_with, taking_part, unplaced}
+use Rattle.sheet_set.specs.Rules.{AreSame, rules_at, rules_with, taking_part}
 use Rattle.sheet_set.proofs.Left.{item_at}
 use Rattle.sheet_set.proofs.Taking.{length-with, taking-append}
 
--- a list whose items stand for three parts: what is at an index, and what is around it
-module _ {A B : Type 0} (f : A → B) (whole : List A) (first part last : List B) (at count : ℕ) (is : map f whole ≡ first ++ (part ++ last)) (before : length first ≡ at) (long : length part ≡ count) where
-  front : map f (take at whole) ≡ first
-  front = sym (take-map f at whole) ∙ (ap (take at) is ∙ take_at first (part ++ last) at before)
+-- a list of three parts: what is at an index, and what is around it
+module _ {A : Type 0} (whole first part last : List A) (at count : ℕ) (is : whole ≡ first ++ (part ++ last)) (before : length first ≡ at) (long : length part ≡ count) where
+  behind : drop at whole ≡ part ++ last
+  behind = ap (drop at) is ∙ drop_at first (part ++ last) at before
 
-  behind : map f (drop at whole) ≡ part ++ last
-  behind = sym (drop-map f at whole) ∙ (ap (drop at) is ∙ drop_at first (part ++ last) at before)
+  pub part_is : take count (drop at whole) ≡ part
+  part_is = ap (take count) behind ∙ take_at part last count long
 
-  pub part_is : map f (take count (drop at whole)) ≡ part
-  part_is = sym (take-map f count (drop at whole)) ∙ (ap (take count) behind ∙ take_at part last count long)
-
-  rest_is : map f (drop count (drop at whole)) ≡ last
-  rest_is = sym (drop-map f count (drop at whole)) ∙ (ap (drop count) behind ∙ drop_at part last count long)
-
-  pub without_part : map f (take at whole ++ drop count (drop at whole)) ≡ first ++ last
+  pub without_part : take at whole ++ drop count (drop at whole) ≡ first ++ last
   without_part =
-      map-append f (take at whole) (drop count (drop at whole))
-      ∙ (ap (λ l. l ++ map f (drop count (drop at whole))) front ∙ ap (λ l. first ++ l) rest_is)
+      ap (λ l. l ++ drop count (drop at whole)) (ap (take at) is ∙ take_at first (part ++ last) at before)
+      ∙ ap (λ l. first ++ l) (ap (drop count) behind ∙ drop_at part last count long)
 
--- and one whose items stand for two, with more between them
-pub with_part : {A B : Type 0} (f : A → B) (whole more : List A) (first last : List B) (at : ℕ) → map f whole ≡ first ++ last → length first ≡ at → map f (take at whole ++ (more ++ drop at whole)) ≡ first ++ (map f more ++ last)
-with_part f whole more first last at is before =
-    let front : map f (take at whole) ≡ first = sym (take-map f at whole) ∙ (ap (take at) is ∙ take_at first last at before) in
-    let behind : map f (drop at whole) ≡ last = sym (drop-map f at whole) ∙ (ap (drop at) is ∙ drop_at first last at before) in
-    map-append f (take at whole) (more ++ drop at whole)
-    ∙ (ap (λ l. l ++ map f (more ++ drop at whole)) front
-    ∙ ap (λ l. first ++ l) (map-append f more (drop at whole) ∙ ap (λ l. map f more ++ l) behind))
+-- and one of two, with more between them
+pub with_part : {A : Type 0} (whole more first last : List A) (at : ℕ) → whole ≡ first ++ last → length first ≡ at → take at whole ++ (more ++ drop at whole) ≡ first ++ (more ++ last)
+with_part whole more first last at is before =
+    ap (λ l. l ++ (more ++ drop at whole)) (ap (take at) is ∙ take_at first last at before)
+    ∙ ap (λ l. first ++ (more ++ l)) (ap (drop at) is ∙ drop_at first last at before)
 
 -- what stands beside a list does as it does
 pub beside_cut : {A B : Type 0} (f : A → B) (whole : List A) (at count : ℕ) → take at (map f whole) ++ drop count (drop at (map f whole)) ≡ map f (take at whole ++ drop count (drop at whole))
@@ -74,10 +65,14 @@ module _ (sheets : List KeptSheet) (place : ℕ) (it : KeptSheet) (within : plac
       taking-around
       ∙ ap (λ l. taking (take place sheets) ++ (l ++ taking (drop (place + 1) sheets))) (cond-false it.enabled (rules_at 0 (kept_seen it)) [] off)
 
--- no more rules take part than are kept
-pub total-within : (rules : List SheetRule) (lists : List (Vec Selector Global)) (sheets : List KeptSheet) → length rules ≡ length lists → AreSame (unplaced (rules_with rules lists)) (taking sheets) → length (taking sheets) ≤ length rules
+-- no more rules take part than are kept, and no fewer
+pub total-within : (rules : List SheetRule) (lists : List (Vec Selector Global)) (sheets : List KeptSheet) → length rules ≡ length lists → AreSame (rules_with rules lists) (taking sheets) → length (taking sheets) ≤ length rules
 total-within rules lists sheets same texts =
-    ∥∥₁_elim texts le_prop (λ is. omega (arith, ap length is, length-map (rules_with rules lists) (put_at 0), length-with rules lists same))
+    ∥∥₁_elim texts le_prop (λ is. omega (arith, ap length is, length-with rules lists same))
+
+pub total-least : (rules : List SheetRule) (lists : List (Vec Selector Global)) (sheets : List KeptSheet) → length rules ≡ length lists → AreSame (rules_with rules lists) (taking sheets) → length rules ≤ length (taking sheets)
+total-least rules lists sheets same texts =
+    ∥∥₁_elim texts le_prop (λ is. omega (arith, ap length is, length-with rules lists same))
 
 pub front-within : (sheets : List KeptSheet) (place : ℕ) → length (taking (take place sheets)) ≤ length (taking sheets)
 front-within sheets place =

@@ -12,18 +12,7 @@ use Rattle.sheet_model.specs.StyleRules.{StyleRule, style_rules_in}
 use Rattle.sheet_model.specs.Sources.{PlacedRule, placed, all_placed, edition_of, enabled_among, rules_from, rules_of_sheets, layers_of_sheets, sheet_layers}
 use Rattle.selector_types.specs.declared.selector.Selector.{Selector}
 use Rattle.sheet_set.specs.declared.sheet_rule.SheetRule.{SheetRule}
-use Rattle.sheet_set.specs.View.{placed_rule_of, rules_with}
-
--- the rules of one sheet, which has this position, and how many there are
-abbrev pub rules_at : ℕ → Sheet → List PlacedRule
-rules_at position sheet = all_placed sheet position 0 (style_rules_in (edition_of sheet) sheet.text)
-
-abbrev pub count_in : Sheet → ℕ
-count_in sheet = length (style_rules_in (edition_of sheet) sheet.text)
-
--- a rule of a sheet that has another position
-abbrev pub put_at : ℕ → PlacedRule → PlacedRule
-put_at position rule = record rule { position = position }
+use Rattle.sheet_set.specs.Rules.{count_in, placed_rule_of, put_at, rules_at, rules_with}
 
 pub placed-put : (sheet : Sheet) (old new index : ℕ) (rules : List StyleRule) → map (put_at new) (all_placed sheet old index rules) ≡ all_placed sheet new index rules
 placed-put sheet old new index [] = refl

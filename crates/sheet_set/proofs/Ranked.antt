@@ -1,22 +1,23 @@
--- The ranks of rules, and their places when their sheets are counted again.
-use Rattle.std.proofs.Common.{◌≡◌, ℕ, ◌+◌, List, [], ◌∷◌, ◌++◌, length, map, take, drop, true, false, Bool, cond, refl, sym, ap, ◌∙◌, arith}
+-- The ranks of rules, and what is kept of a list of sheets before it is edited and afterwards.
+use Rattle.std.proofs.Common.{◌≡◌, ℕ, ◌+◌, List, [], ◌∷◌, ◌++◌, length, map, true, false, Bool, cond, refl, sym, ap, ◌∙◌, arith}
 use Rattle.std.proofs.Math.Logic.{∥∥₁_map}
 use Rattle.std.specs.Prelude.{Vec}
 use Rattle.std.specs.declared.alloc.Global.{Global}
-use Rattle.std.proofs.lemmas.Simd.{map-map}
-use Rattle.std.proofs.lemmas.List.{map-append, take-append-drop}
+use Rattle.std.proofs.lemmas.List.{map-append}
 use Rattle.base_model.specs.Sheet.{Sheet}
 use Rattle.layer_model.specs.Order.{Layers}
-use Rattle.sheet_model.specs.Sources.{enabled_among, rules_from, rules_of_sheets}
+use Rattle.sheet_model.specs.StyleRules.{style_rules_in}
+use Rattle.sheet_model.specs.Sources.{PlacedRule, edition_of, enabled_among, rules_from, rules_of_sheets}
 use Rattle.selector_types.specs.declared.selector.Selector.{Selector}
 use Rattle.sheet_set.specs.declared.sheet_rule.SheetRule.{SheetRule}
 use Rattle.sheet_set.specs.declared.kept_sheet.KeptSheet.{KeptSheet}
 use Rattle.sheet_set.specs.Kept.{kept_seen, taking}
+use Rattle.sheet_set.specs.Positions.{positions_from}
 use Rattle.sheet_set.specs.Ranks.{rank_seen}
-use Rattle.sheet_set.specs.Renumbered.{put, put_all, renumbered}
-use Rattle.sheet_set.specs.Rules.{AreSame, put_at, rules_at, rules_with, unplaced}
+use Rattle.sheet_set.specs.Rules.{AreSame, placed_at, placed_rule_of, put_at, rules_at, rules_with}
 use Rattle.sheet_set.specs.Standing.{AreKept, rank_placed}
-use Rattle.sheet_set.proofs.Taking.{renumbered-right, unplaced-at}
+use Rattle.sheet_set.proofs.Placing.{placed-put}
+use Rattle.sheet_set.proofs.Positioned.{positions-right}
 
 -- the ranks of rules with their selectors are those of the rules
 pub ranks-with : (layers : Layers) (rules : List SheetRule) (lists : List (Vec Selector Global)) → length rules ≡ length lists
@@ -26,30 +27,20 @@ ranks-with layers (rule ∷ rules) [] same = absurd (omega (arith, same))
 ranks-with layers (rule ∷ rules) (list ∷ lists) same =
     ap (λ rest. rank_seen layers rule ∷ rest) (ranks-with layers rules lists (omega (arith, same)))
 
--- and a position changes none
-ranks-put : (layers : Layers) (position : ℕ) (rules : List SheetRule) → map (rank_seen layers) (put_all position rules) ≡ map (rank_seen layers) rules
-ranks-put layers position rules = map-map (rank_seen layers) (put position) rules
+-- rules wherever their sheets stand
+abbrev unplaced : List PlacedRule → List PlacedRule
+unplaced rules = map (put_at 0) rules
 
-pub ranks-renumbered : (layers : Layers) (position : ℕ) (sheets : List KeptSheet) (rules : List SheetRule) → map (rank_seen layers) (renumbered position sheets rules) ≡ map (rank_seen layers) rules
-ranks-renumbered layers position [] rules = refl
-ranks-renumbered layers position (kept ∷ sheets) rules =
-    by kept.enabled (ranks-renumbered layers (position + 1) sheets (drop kept.count rules)) (ranks-renumbered layers position sheets rules)
-  where
-    by : (b : Bool) → map (rank_seen layers) (renumbered (position + 1) sheets (drop kept.count rules)) ≡ map (rank_seen layers) (drop kept.count rules)
-        → map (rank_seen layers) (renumbered position sheets rules) ≡ map (rank_seen layers) rules
-        → map (rank_seen layers) (cond b (put_all position (take kept.count rules) ++ renumbered (position + 1) sheets (drop kept.count rules)) (renumbered position sheets rules))
-        ≡ map (rank_seen layers) rules
-    by true rest same =
-        let c : ℕ = kept.count in
-        let later : List SheetRule = renumbered (position + 1) sheets (drop c rules) in
-        map-append (rank_seen layers) (put_all position (take c rules)) later
-        ∙ (ap (λ l. l ++ map (rank_seen layers) later) (ranks-put layers position (take c rules))
-        ∙ (ap (λ l. map (rank_seen layers) (take c rules) ++ l) rest
-        ∙ (sym (map-append (rank_seen layers) (take c rules) (drop c rules)) ∙ ap (map (rank_seen layers)) (take-append-drop c rules))))
-    by false rest same = same
+lifted : (positions : List ℕ) (rules : List SheetRule) (lists : List (Vec Selector Global)) → length rules ≡ length lists → length positions ≡ length rules
+    → unplaced (placed_at positions (rules_with rules lists)) ≡ rules_with rules lists
+lifted [] [] lists same long = refl
+lifted [] (rule ∷ rules) lists same long = absurd (omega (arith, long))
+lifted (position ∷ positions) [] lists same long = absurd (omega (arith, long))
+lifted (position ∷ positions) (rule ∷ rules) [] same long = absurd (omega (arith, same))
+lifted (position ∷ positions) (rule ∷ rules) (list ∷ lists) same long =
+    ap (λ rest. placed_rule_of rule list.items ∷ rest) (lifted positions rules lists (omega (arith, same)) (omega (arith, long)))
 
--- the rules of all sheets, wherever these stand
-pub unplaced-from : (position : ℕ) (sheets : List KeptSheet) → unplaced (rules_from position (enabled_among (map kept_seen sheets))) ≡ taking sheets
+unplaced-from : (position : ℕ) (sheets : List KeptSheet) → unplaced (rules_from position (enabled_among (map kept_seen sheets))) ≡ taking sheets
 unplaced-from position [] = refl
 unplaced-from position (kept ∷ sheets) = by kept.enabled (λ p. unplaced-from p sheets)
   where
@@ -60,24 +51,28 @@ unplaced-from position (kept ∷ sheets) = by kept.enabled (λ p. unplaced-from 
         let sheet : Sheet = kept_seen kept in
         let others : List Sheet = enabled_among (map kept_seen sheets) in
         map-append (put_at 0) (rules_at position sheet) (rules_from (position + 1) others)
-        ∙ (ap (λ l. l ++ unplaced (rules_from (position + 1) others)) (unplaced-at position sheet)
+        ∙ (ap (λ l. l ++ unplaced (rules_from (position + 1) others)) (placed-put sheet position 0 0 (style_rules_in (edition_of sheet) sheet.text))
         ∙ ap (λ l. rules_at 0 sheet ++ l) (again (position + 1)))
     by false again = again position
 
 -- what a list of sheets keeps, before it is edited and afterwards
-module _ (sheets : List KeptSheet) (rules : List SheetRule) (lists : List (Vec Selector Global)) (layers : Layers) (ranks : List ℕ) where
-  pub kept_of : length rules ≡ length lists → ranks ≡ map (rank_seen layers) rules → AreSame (rules_with rules lists) (rules_of_sheets (map kept_seen sheets)) → AreKept sheets rules lists layers ranks
+module _ (sheets : List KeptSheet) (rules : List SheetRule) (lists : List (Vec Selector Global)) where
+  pub taken_of : (positions : List ℕ) → length rules ≡ length lists → length positions ≡ length rules → AreSame (placed_at positions (rules_with rules lists)) (rules_of_sheets (map kept_seen sheets))
+      → AreSame (rules_with rules lists) (taking sheets)
   unfolding rules_of_sheets
-  kept_of same ranked texts = record {
-    texts = ∥∥₁_map texts (λ t. ap unplaced t ∙ unplaced-from 0 sheets);
+  taken_of positions same long texts =
+      ∥∥₁_map texts (λ t. sym (lifted positions rules lists same long) ∙ (ap unplaced t ∙ unplaced-from 0 sheets))
+
+  pub kept_of : (layers : Layers) (ranks positions : List ℕ) → length rules ≡ length lists → length positions ≡ length rules → ranks ≡ map (rank_seen layers) rules
+      → AreSame (placed_at positions (rules_with rules lists)) (rules_of_sheets (map kept_seen sheets)) → AreKept sheets rules lists layers ranks
+  kept_of layers ranks positions same long ranked texts = record {
+    texts = taken_of positions same long texts;
     paired = same;
     ranked = ranked ∙ sym (ranks-with layers rules lists same);
   }
 
-  pub texts_of : AreKept sheets rules lists layers ranks → AreSame (rules_with (renumbered 0 sheets rules) lists) (rules_of_sheets (map kept_seen sheets))
+  pub texts_of : (positions : List ℕ) → AreSame (rules_with rules lists) (taking sheets) → positions ≡ positions_from 0 sheets
+      → AreSame (placed_at positions (rules_with rules lists)) (rules_of_sheets (map kept_seen sheets))
   unfolding rules_of_sheets
-  texts_of kept = ∥∥₁_map kept.texts (λ t. renumbered-right 0 sheets rules lists kept.paired t)
-
-  pub ranks_kept : AreKept sheets rules lists layers ranks → ranks ≡ map (rank_seen layers) (renumbered 0 sheets rules)
-  ranks_kept kept =
-      kept.ranked ∙ (ranks-with layers rules lists kept.paired ∙ sym (ranks-renumbered layers 0 sheets rules))
+  texts_of positions texts are =
+      ∥∥₁_map texts (λ t. ap (placed_at positions) t ∙ (ap (λ ps. placed_at ps (taking sheets)) are ∙ positions-right 0 sheets))

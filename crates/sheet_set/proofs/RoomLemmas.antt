@@ -1,5 +1,5 @@
 -- What a step needs room for.
-use Rattle.std.proofs.Common.{◌≡◌, ℕ, ◌<◌, List, cond, subst, vec_len}
+use Rattle.std.proofs.Common.{◌≡◌, ℕ, ◌<◌, subst, vec_len}
 use Rattle.std.specs.Prelude.{Vec, vec_capacity}
 use Rattle.std.specs.declared.alloc.Global.{Global}
 use Rattle.selector_types.specs.declared.selector.Selector.{Selector}
@@ -7,15 +7,7 @@ use Rattle.sheet_set.specs.declared.sheet_rule.SheetRule.{SheetRule}
 use Rattle.sheet_set.specs.declared.kept_sheet.KeptSheet.{KeptSheet}
 use Rattle.sheet_set.specs.declared.sheet_step.SheetStep.{SheetStep}
 use Rattle.sheet_set.specs.declared.sheet_step.SheetStep.TheVariants.{Stay, Come, Go, Put, Turn}
-use Rattle.sheet_set.specs.Room.{HasMore, HasRoom, IsAtPlace, waiting_at}
-
--- how many rules come with a step
-abbrev pub rules_more : List KeptSheet → SheetStep → ℕ
-rules_more sheets Stay = 0
-rules_more sheets (Come place sheet on) = cond on sheet.count 0
-rules_more sheets (Go place room) = 0
-rules_more sheets (Put place sheet room) = sheet.count
-rules_more sheets (Turn place room) = waiting_at place sheets
+use Rattle.sheet_set.specs.Room.{HasMore, HasRoom, IsAtPlace, rules_more}
 
 pub room-for : (sheets : Vec KeptSheet Global) (rules : Vec SheetRule Global) (lists : Vec (Vec Selector Global) Global) (ranks : Vec ℕ Global) (step : SheetStep) (more : ℕ)
     → IsAtPlace sheets.items step → vec_len sheets < vec_capacity sheets → HasMore rules lists ranks more → more ≡ rules_more sheets.items step → HasRoom sheets rules lists ranks step

@@ -49,6 +49,12 @@ found-at (kept ∷ sheets) place within P at =
     let it : KeptSheet = get_or (kept ∷ sheets) place kept in
     (it, (get_or_default (kept ∷ sheets) place kept it within, at kept))
 
+pub kept-at : (sheets : List KeptSheet) (place : ℕ) → place < length sheets → (it : KeptSheet) × (it ≡ get_or sheets place it)
+kept-at [] place within = absurd (omega (arith, within))
+kept-at (kept ∷ sheets) place within =
+    let it : KeptSheet = get_or (kept ∷ sheets) place kept in
+    (it, get_or_default (kept ∷ sheets) place kept it within)
+
 pub any-at : (n : ℕ) (sheets : List KeptSheet) (place : ℕ) → place < length sheets → ((d : KeptSheet) → is_of n (kept_seen (get_or sheets place d)) ≡ true)
     → list_any (is_of n) (map kept_seen sheets) ≡ true
 any-at n sheets place within at =

@@ -10,7 +10,7 @@ use Rattle.sheet_set.specs.declared.sheet_rule.SheetRule.{SheetRule}
 use Rattle.sheet_set.specs.declared.kept_sheet.KeptSheet.{KeptSheet}
 use Rattle.sheet_set.specs.Kept.{kept_seen, taking}
 use Rattle.sheet_set.specs.Ranks.{rank_seen}
-use Rattle.sheet_set.specs.Rules.{AreSame, rules_at, rules_with, unplaced}
+use Rattle.sheet_set.specs.Rules.{AreSame, rules_at, rules_with}
 use Rattle.sheet_set.specs.Standing.{AreKept, rank_placed}
 use Rattle.sheet_set.proofs.Going.{comes-off, comes-on, leaves-off, leaves-on}
 use Rattle.sheet_set.proofs.MovedRules.{beside_cut, beside_put}
@@ -23,9 +23,9 @@ module _ (sheets : List KeptSheet) (rules : List SheetRule) (lists : List (Vec S
 
   -- and what is kept now
   module _ (now : List KeptSheet) (its : List SheetRule) (their : List (Vec Selector Global)) (standing : List ℕ) (paired : length its ≡ length their) where
-    from_parts : (all : List PlacedRule) → rules_with its their ≡ all → AreSame (unplaced all) (taking now) → standing ≡ map (rank_placed layers) all → AreKept now its their layers standing
+    from_parts : (all : List PlacedRule) → rules_with its their ≡ all → AreSame all (taking now) → standing ≡ map (rank_placed layers) all → AreKept now its their layers standing
     from_parts all are texts ranked = record {
-      texts = subst (λ l. AreSame (unplaced l) (taking now)) (sym are) texts;
+      texts = subst (λ l. AreSame l (taking now)) (sym are) texts;
       paired = paired;
       ranked = ranked ∙ ap (map (rank_placed layers)) (sym are);
     }
@@ -36,24 +36,24 @@ module _ (sheets : List KeptSheet) (rules : List SheetRule) (lists : List (Vec S
           → standing ≡ take at ranks ++ drop it.count (drop at ranks) → AreKept now its their layers standing
       left-on on at is_at are ranked =
           from_parts (take at old ++ drop it.count (drop at old)) are
-          (subst (λ l. AreSame (unplaced (take at old ++ drop it.count (drop at old))) (taking l)) (sym left) (leaves-on sheets place it within is on old at is_at kept.texts))
+          (subst (λ l. AreSame (take at old ++ drop it.count (drop at old)) (taking l)) (sym left) (leaves-on sheets place it within is on old at is_at kept.texts))
           (ranked ∙ (ap (λ l. take at l ++ drop it.count (drop at l)) kept.ranked ∙ beside_cut (rank_placed layers) old at it.count))
 
       pub left-off : it.enabled ≡ false → rules_with its their ≡ old → standing ≡ ranks → AreKept now its their layers standing
       left-off off are ranked =
-          from_parts old are (subst (λ l. AreSame (unplaced old) (taking l)) (sym left) (leaves-off sheets place it within is off old kept.texts)) (ranked ∙ kept.ranked)
+          from_parts old are (subst (λ l. AreSame old (taking l)) (sym left) (leaves-off sheets place it within is off old kept.texts)) (ranked ∙ kept.ranked)
 
     -- a sheet came to a place
     module _ (place : ℕ) (one : KeptSheet) (come : now ≡ take place sheets ++ one ∷ drop place sheets) where
       pub come-on : (it : KeptSheet) (its_rules : List SheetRule) (its_lists : List (Vec Selector Global)) (at : ℕ)
           → at ≡ length (taking (take place sheets)) → kept_seen one ≡ with_enabled true (kept_seen it)
-          → AreSame (unplaced (rules_with its_rules its_lists)) (rules_at 0 (kept_seen it)) → length its_rules ≡ length its_lists
+          → AreSame (rules_with its_rules its_lists) (rules_at 0 (kept_seen it)) → length its_rules ≡ length its_lists
           → rules_with its their ≡ take at old ++ (rules_with its_rules its_lists ++ drop at old)
           → standing ≡ take at ranks ++ (map (rank_seen layers) its_rules ++ drop at ranks) → AreKept now its their layers standing
       come-on it its_rules its_lists at is_at seen own same are ranked =
           let more = rules_with its_rules its_lists in
           from_parts (take at old ++ (more ++ drop at old)) are
-          (subst (λ l. AreSame (unplaced (take at old ++ (more ++ drop at old))) (taking l)) (sym come) (comes-on sheets place it one old more at is_at seen own kept.texts))
+          (subst (λ l. AreSame (take at old ++ (more ++ drop at old)) (taking l)) (sym come) (comes-on sheets place it one old more at is_at seen own kept.texts))
           (ranked
           ∙ (ap (λ l. take at l ++ (map (rank_seen layers) its_rules ++ drop at l)) kept.ranked
           ∙ (ap (λ l. take at (map (rank_placed layers) old) ++ (l ++ drop at (map (rank_placed layers) old))) (sym (ranks-with layers its_rules its_lists same))
@@ -61,4 +61,4 @@ module _ (sheets : List KeptSheet) (rules : List SheetRule) (lists : List (Vec S
 
       pub come-off : one.enabled ≡ false → rules_with its their ≡ old → standing ≡ ranks → AreKept now its their layers standing
       come-off off are ranked =
-          from_parts old are (subst (λ l. AreSame (unplaced old) (taking l)) (sym come) (comes-off sheets place one old off kept.texts)) (ranked ∙ kept.ranked)
+          from_parts old are (subst (λ l. AreSame old (taking l)) (sym come) (comes-off sheets place one old off kept.texts)) (ranked ∙ kept.ranked)

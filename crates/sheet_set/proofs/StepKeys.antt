@@ -6,13 +6,13 @@ use Rattle.std.specs.Coded.{le_prop}
 use Rattle.std.specs.declared.alloc.Global.{Global}
 use Rattle.std.proofs.lemmas.Bool.{cond-true, cond-false}
 use Rattle.std.proofs.lemmas.Simd.{map-map}
-use Rattle.std.proofs.lemmas.List.{length-map, map-append}
+use Rattle.std.proofs.lemmas.List.{drop-map, length-map, map-append, take-map}
 use Rattle.std.proofs.lemmas.List.Folds.{flat_map-map}
 use Rattle.base_model.specs.Sheet.{Sheet}
 use Rattle.selector_model.specs.Key.{key_of}
 use Rattle.selector_model.specs.Selector as model
 use Rattle.sheet_model.specs.StyleRules.{style_rules_in}
-use Rattle.sheet_model.specs.Sources.{PlacedRule, edition_of, enabled_among, rules_from, rules_of_sheets}
+use Rattle.sheet_model.specs.Sources.{PlacedRule, edition_of}
 use Rattle.edit_model.specs.SheetApply.{with_enabled}
 use Rattle.session_model.specs.SheetMarks.{keys_in, selectors_in}
 use Rattle.selector_types.specs.View.{selector_of}
@@ -20,11 +20,10 @@ use Rattle.selector_types.specs.declared.selector.Selector.{Selector}
 use Rattle.sheet_set.specs.declared.sheet_rule.SheetRule.{SheetRule}
 use Rattle.sheet_set.specs.declared.kept_sheet.KeptSheet.{KeptSheet}
 use Rattle.sheet_set.specs.Kept.{kept_seen, taking}
-use Rattle.sheet_set.specs.Rules.{AreSame, put_at, rules_at, rules_with, unplaced}
+use Rattle.sheet_set.specs.Rules.{AreSame, rules_at, rules_with}
 use Rattle.sheet_set.specs.StepOf.{AreSelectorsOf, keys_of}
 use Rattle.sheet_set.proofs.MovedRules.{part_is, taking-on}
 use Rattle.sheet_set.proofs.Placing.{selectors-placed}
-use Rattle.sheet_set.proofs.Ranked.{unplaced-from}
 use Rattle.sheet_set.proofs.Taking.{counted-within, part_count, rules_count}
 
 abbrev in_list : Vec Selector Global → List model.Selector
@@ -61,18 +60,13 @@ with-selectors (rule ∷ rules) [] same = absurd (omega (arith, same))
 with-selectors (rule ∷ rules) (list ∷ lists) same =
     ap (λ l. in_list list ∷ l) (with-selectors rules lists (omega (arith, same)))
 
-unplaced-selectors : (rules : List PlacedRule) → map of_rule (unplaced rules) ≡ map of_rule rules
-unplaced-selectors rules = map-map of_rule (put_at 0) rules
-
 -- of a sheet that waits
 pub own-keys : (kept : KeptSheet) → kept.enabled ≡ false → ∥ keys_of kept.selectors.items ≡ keys_in (with_enabled true (kept_seen kept)) ∥₁
 own-keys kept off =
     let same : length kept.rules.items ≡ length kept.selectors.items = omega (arith, kept.paired, kept.rules.ok, kept.selectors.ok) in
-    let placed : List PlacedRule = rules_with kept.rules.items kept.selectors.items in
     ∥∥₁_map kept.own (λ own.
     keys-of-text kept.selectors.items (kept_seen kept)
-    (sym (with-selectors kept.rules.items kept.selectors.items same)
-    ∙ (sym (unplaced-selectors placed) ∙ ap (map of_rule) (own ∙ cond-false kept.enabled [] (rules_at 0 (kept_seen kept)) off))))
+    (sym (with-selectors kept.rules.items kept.selectors.items same) ∙ ap (map of_rule) (own ∙ cond-false kept.enabled [] (rules_at 0 (kept_seen kept)) off)))
 
 -- of a sheet that takes part, where those of all stand
 module _ (sheets : List KeptSheet) (place : ℕ) (it : KeptSheet) (within : place < length sheets) (is : it ≡ get_or sheets place it) (on : it.enabled ≡ true)
@@ -87,7 +81,9 @@ module _ (sheets : List KeptSheet) (place : ℕ) (it : KeptSheet) (within : plac
       ∙ (map-append of_rule first (its ++ last) ∙ ap (λ l. map of_rule first ++ l) (map-append of_rule its last)) in
       ∥∥₁_map all (λ are.
       keys-taking (take it.count (drop at lists)) (kept_seen it) on
-      (part_is in_list lists (map of_rule first) (map of_rule its) (map of_rule last) at it.count (are ∙ parts) (length-map first of_rule ∙ before) (length-map its of_rule ∙ rules_count it)))
+      (sym (take-map in_list it.count (drop at lists))
+      ∙ (ap (take it.count) (sym (drop-map in_list at lists))
+      ∙ part_is (map in_list lists) (map of_rule first) (map of_rule its) (map of_rule last) at it.count (are ∙ parts) (length-map first of_rule ∙ before) (length-map its of_rule ∙ rules_count it))))
 
   pub at-within : length (taking (take place sheets)) + it.count ≤ length lists
   at-within =
@@ -102,10 +98,6 @@ total-at sheets lists all =
     omega (arith, long))
 
 pub selectors-all : (sheets : List KeptSheet) (rules : List SheetRule) (lists : List (Vec Selector Global)) → length rules ≡ length lists
-    → AreSame (rules_with rules lists) (rules_of_sheets (map kept_seen sheets)) → AreSelectorsOf sheets lists
-unfolding rules_of_sheets
+    → AreSame (rules_with rules lists) (taking sheets) → AreSelectorsOf sheets lists
 selectors-all sheets rules lists same texts =
-    ∥∥₁_map texts (λ are.
-    let placed : List PlacedRule = rules_from 0 (enabled_among (map kept_seen sheets)) in
-    sym (with-selectors rules lists same)
-    ∙ (ap (map of_rule) are ∙ (sym (unplaced-selectors placed) ∙ ap (map of_rule) (unplaced-from 0 sheets))))
+    ∥∥₁_map texts (λ are. sym (with-selectors rules lists same) ∙ ap (map of_rule) are)

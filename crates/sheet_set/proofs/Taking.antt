@@ -1,26 +1,23 @@
--- The rules of sheets that take part: of one more, of one that comes or goes, and with the positions of their sheets.
-use Rattle.std.proofs.Common.{◌≡◌, ℕ, suc, ◌+◌, ◌-◌, ◌<◌, ◌≤◌, List, [], ◌∷◌, ◌++◌, length, map, flat_map, take, drop, get_or, true, false, Bool, cond, refl, sym, ap, ◌∙◌, append-nil, arith, length-append, length-drop}
+-- The rules of sheets that take part: of one more, and of one that comes or goes.
+use Rattle.std.proofs.Common.{◌≡◌, ℕ, suc, ◌+◌, ◌-◌, ◌<◌, ◌≤◌, List, [], ◌∷◌, ◌++◌, length, map, flat_map, take, drop, get_or, true, false, Bool, refl, sym, ap, ◌∙◌, append-nil, arith, length-append, length-drop}
 use Rattle.std.specs.Prelude.{Vec, min}
 use Rattle.std.specs.declared.alloc.Global.{Global}
 use Rattle.std.proofs.lemmas.Bool.{cond-true, cond-false}
-use Rattle.std.proofs.lemmas.Simd.{map-map}
-use Rattle.std.proofs.lemmas.List.{map-append, length-map, length-take, length-take-le, nil_from_length, take_more, take-append-drop, take-map, drop-map, take_at, drop_at}
+use Rattle.std.proofs.lemmas.List.{map-append, length-take, length-take-le, take_more, take-append-drop}
 use Rattle.std.proofs.lemmas.List.Concat.{flat_map-append}
 use Rattle.std.proofs.lemmas.List.Elements.{filter-append}
-use Rattle.std.proofs.lemmas.List.Sums.{sum_by-cons}
 use Rattle.base_model.specs.Origin.{Origin}
 use Rattle.base_model.specs.Sheet.{Sheet}
 use Rattle.layer_model.specs.Name.{LayerName}
 use Rattle.sheet_model.specs.StyleRules.{StyleRule, style_rules_in}
-use Rattle.sheet_model.specs.Sources.{PlacedRule, placed, all_placed, edition_of, enabled_among, rules_from, sheet_layers}
+use Rattle.sheet_model.specs.Sources.{placed, all_placed, edition_of, enabled_among, sheet_layers}
 use Rattle.edit_model.specs.SheetApply.{with_enabled}
 use Rattle.selector_types.specs.declared.selector.Selector.{Selector}
 use Rattle.sheet_set.specs.declared.sheet_rule.SheetRule.{SheetRule}
 use Rattle.sheet_set.specs.declared.kept_sheet.KeptSheet.{KeptSheet}
 use Rattle.sheet_set.specs.Kept.{kept_seen, taking}
-use Rattle.sheet_set.specs.Renumbered.{put, put_all, renumbered, taking_count}
-use Rattle.sheet_set.specs.Rules.{placed_rule_of, put_at, rules_at, rules_with, taking_part, unplaced}
-use Rattle.sheet_set.proofs.Placing.{length-placed, placed-put, rules_with-append, rules_with-take, rules_with-drop}
+use Rattle.sheet_set.specs.Rules.{rules_at, rules_with, taking_part}
+use Rattle.sheet_set.proofs.Placing.{length-placed, rules_with-append, rules_with-take, rules_with-drop}
 
 -- lists of the same length, up to an index and from it on
 pub same_front : {A B : Type 0} (at : ℕ) (xs : List A) (ys : List B) → length xs ≡ length ys → length (take at xs) ≡ length (take at ys)
@@ -66,19 +63,6 @@ module _ (at : ℕ) (rules : List SheetRule) (lists : List (Vec Selector Global)
   pub part_of : (count : ℕ) → rules_with (take count (drop at rules)) (take count (drop at lists)) ≡ take count (drop at (rules_with rules lists))
   part_of count = rules_with-take count (drop at rules) (drop at lists) ∙ ap (take count) (rules_with-drop at rules lists)
 
--- rules that all are put at a position
-with-put : (position : ℕ) (rules : List SheetRule) (lists : List (Vec Selector Global)) → rules_with (put_all position rules) lists ≡ map (put_at position) (rules_with rules lists)
-with-put position [] lists = refl
-with-put position (rule ∷ rules) [] = refl
-with-put position (rule ∷ rules) (list ∷ lists) =
-    ap (λ rest. put_at position (placed_rule_of rule list.items) ∷ rest) (with-put position rules lists)
-
-put-unplaced : (position : ℕ) (rules : List PlacedRule) → map (put_at position) (unplaced rules) ≡ map (put_at position) rules
-put-unplaced position rules = map-map (put_at position) (put_at 0) rules
-
-pub unplaced-at : (position : ℕ) (sheet : Sheet) → unplaced (rules_at position sheet) ≡ rules_at 0 sheet
-unplaced-at position sheet = placed-put sheet position 0 0 (style_rules_in (edition_of sheet) sheet.text)
-
 -- the rules of a list of sheets, part by part
 pub taking-append : (xs ys : List KeptSheet) → taking (xs ++ ys) ≡ taking xs ++ taking ys
 taking-append xs ys =
@@ -114,62 +98,6 @@ counted-within sheets i kept below is =
     let parts = ap length (taking-append (take (i + 1) sheets) (drop (i + 1) sheets)) in
     let both = length-append (taking (take (i + 1) sheets)) (taking (drop (i + 1) sheets)) in
     omega (arith, ap length whole, parts, both, counted-more sheets i kept below is)
-
--- how many they are
-taking_count_of : (kept : KeptSheet) (b : Bool) → length (cond b (rules_at 0 (kept_seen kept)) []) ≡ cond b kept.count 0
-taking_count_of kept true =
-    length-placed (kept_seen kept) 0 0 (style_rules_in (edition_of (kept_seen kept)) kept.text) ∙ sym kept.counted
-taking_count_of kept false = refl
-
-pub length-taking : (sheets : List KeptSheet) → length (taking sheets) ≡ taking_count sheets
-length-taking [] = refl
-length-taking (kept ∷ sheets) =
-    length-append (taking_part (kept_seen kept)) (taking sheets)
-    ∙ (ap (λ n. n + length (taking sheets)) (taking_count_of kept kept.enabled)
-    ∙ (ap (λ n. cond kept.enabled kept.count 0 + n) (length-taking sheets)
-    ∙ sym (sum_by-cons (λ (k : KeptSheet). cond k.enabled k.count 0) kept sheets)))
-
--- with the positions of their sheets they are the rules of all
-pub renumbered-right : (position : ℕ) (sheets : List KeptSheet) (rules : List SheetRule) (lists : List (Vec Selector Global)) → length rules ≡ length lists → unplaced (rules_with rules lists) ≡ taking sheets
-    → rules_with (renumbered position sheets rules) lists ≡ rules_from position (enabled_among (map kept_seen sheets))
-renumbered-right position [] rules lists same is =
-    nil_from_length (rules_with rules lists) (sym (length-map (rules_with rules lists) (put_at 0)) ∙ ap length is)
-renumbered-right position (kept ∷ sheets) rules lists same is =
-    by kept.enabled refl (λ p rs ls s i. renumbered-right p sheets rs ls s i)
-  where
-    by : (b : Bool) → kept.enabled ≡ b
-        → ((p : ℕ) (rs : List SheetRule) (ls : List (Vec Selector Global)) → length rs ≡ length ls → unplaced (rules_with rs ls) ≡ taking sheets → rules_with (renumbered p sheets rs) ls ≡ rules_from p (enabled_among (map kept_seen sheets)))
-        → rules_with (renumbered position (kept ∷ sheets) rules) lists ≡ rules_from position (enabled_among (map kept_seen (kept ∷ sheets)))
-    by true on again =
-        let c : ℕ = kept.count in
-        let sheet : Sheet = kept_seen kept in
-        let old : List PlacedRule = rules_with rules lists in
-        let others : List Sheet = enabled_among (map kept_seen sheets) in
-        let later : List SheetRule = renumbered (position + 1) sheets (drop kept.count rules) in
-        let all : unplaced old ≡ rules_at 0 sheet ++ taking sheets = is ∙ ap (λ l. l ++ taking sheets) (cond-true kept.enabled (rules_at 0 sheet) [] on) in
-        let long : length (rules_at 0 sheet) ≡ c = length-placed sheet 0 0 (style_rules_in (edition_of sheet) kept.text) ∙ sym kept.counted in
-        let front : unplaced (take c old) ≡ rules_at 0 sheet = sym (take-map (put_at 0) c old) ∙ (ap (take c) all ∙ take_at (rules_at 0 sheet) (taking sheets) c long) in
-        let behind : unplaced (drop c old) ≡ taking sheets = sym (drop-map (put_at 0) c old) ∙ (ap (drop c) all ∙ drop_at (rules_at 0 sheet) (taking sheets) c long) in
-        let its : rules_with (put_all position (take c rules)) (take c lists) ≡ rules_at position sheet =
-        with-put position (take c rules) (take c lists)
-        ∙ (ap (map (put_at position)) (rules_with-take c rules lists)
-        ∙ (sym (put-unplaced position (take c old)) ∙ (ap (map (put_at position)) front ∙ placed-put sheet 0 position 0 (style_rules_in (edition_of sheet) kept.text)))) in
-        let rest : rules_with later (drop c lists) ≡ rules_from (position + 1) others =
-        again (position + 1) (drop c rules) (drop c lists) (same_behind c rules lists same) (ap unplaced (rules_with-drop c rules lists) ∙ behind) in
-        ap (λ rs. rules_with rs lists) (cond-true kept.enabled (put_all position (take c rules) ++ later) (renumbered position sheets rules) on)
-        ∙ (ap (rules_with (put_all position (take c rules) ++ later)) (sym (take-append-drop c lists))
-        ∙ (rules_with-append (put_all position (take c rules)) later (take c lists) (drop c lists) (length-map (take c rules) (put position) ∙ same_front c rules lists same)
-        ∙ (ap (λ l. l ++ rules_with later (drop c lists)) its
-        ∙ (ap (λ l. rules_at position sheet ++ l) rest
-        ∙ sym (ap (rules_from position) (cond-true kept.enabled (sheet ∷ others) others on))))))
-    by false off again =
-        let c : ℕ = kept.count in
-        let sheet : Sheet = kept_seen kept in
-        let others : List Sheet = enabled_among (map kept_seen sheets) in
-        let later : List SheetRule = renumbered (position + 1) sheets (drop kept.count rules) in
-        ap (λ rs. rules_with rs lists) (cond-false kept.enabled (put_all position (take c rules) ++ later) (renumbered position sheets rules) off)
-        ∙ (again position rules lists same (is ∙ ap (λ l. l ++ taking sheets) (cond-false kept.enabled (rules_at 0 sheet) [] off))
-        ∙ sym (ap (rules_from position) (cond-false kept.enabled (sheet ∷ others) others off)))
 
 -- The layers that sheets declare, one sheet more.
 abbrev pub layers_in : List KeptSheet → List (Origin × LayerName)

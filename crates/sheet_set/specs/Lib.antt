@@ -2,8 +2,8 @@ pub mod Fits
 pub mod Kept
 pub mod Parts
 pub mod Planned
+pub mod Positions
 pub mod Ranks
-pub mod Renumbered
 pub mod Room
 pub mod Rules
 pub mod Standing

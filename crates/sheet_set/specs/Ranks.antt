@@ -6,4 +6,4 @@ use Rattle.sheet_set.specs.declared.sheet_rule.SheetRule.{SheetRule}
 
 -- how high the layer of a rule is
 abbrev pub rank_seen : Layers → SheetRule → ℕ
-rank_seen layers rule = layer_rank layers (origin_of rule.origin) rule.layer
+rank_seen layers rule = layer_rank layers (origin_of rule.body.value.origin) rule.body.value.layer

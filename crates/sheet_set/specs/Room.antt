@@ -1,5 +1,5 @@
 -- The room that a step of an edit needs, and what else has to be so that it can be made.
-use Rattle.std.specs.Prelude.{◌≡◌, ℕ, ◌+◌, ◌≤◌, ◌<◌, List, drop, take, length, sum_by, Vec, vec_len, vec_capacity, false, if◌then◌else◌, ⊤}
+use Rattle.std.specs.Prelude.{◌≡◌, ℕ, ◌+◌, ◌≤◌, ◌<◌, List, drop, take, length, flat_map, map, sum_by, Vec, vec_len, vec_capacity, false, if◌then◌else◌, ⊤}
 use Rattle.std.specs.declared.alloc.Global.{Global}
 use Rattle.selector_types.specs.declared.selector.Selector.{Selector}
 use Rattle.sheet_set.specs.declared.sheet_rule.SheetRule.{SheetRule}
@@ -7,6 +7,9 @@ use Rattle.sheet_set.specs.declared.kept_sheet.KeptSheet.{KeptSheet}
 use Rattle.sheet_set.specs.declared.kept_sheet.RuleRoom.{RuleRoom}
 use Rattle.sheet_set.specs.declared.sheet_step.SheetStep.{SheetStep}
 use Rattle.sheet_set.specs.declared.sheet_step.SheetStep.TheVariants.{Stay, Come, Go, Put, Turn}
+use Rattle.sheet_set.specs.Kept.{kept_seen}
+use Rattle.sheet_set.specs.Planned.{stepped}
+use Rattle.sheet_set.specs.Rules.{taking_part}
 use Rattle.sheet_set.specs.Standing.{count_at}
 
 -- room for so many rules more
@@ -43,6 +46,19 @@ HasRoom sheets rules lists ranks (Put place sheet room) =
     CanLeave sheets.items place room × ((sheet.enabled ≡ false) × HasMore rules lists ranks sheet.count)
 HasRoom sheets rules lists ranks (Turn place room) =
     CanLeave sheets.items place room × HasMore rules lists ranks (waiting_at place sheets.items)
+
+-- how many rules come with a step
+abbrev pub rules_more : List KeptSheet → SheetStep → ℕ
+rules_more sheets Stay = 0
+rules_more sheets (Come place sheet on) = if on then sheet.count else 0
+rules_more sheets (Go place room) = 0
+rules_more sheets (Put place sheet room) = sheet.count
+rules_more sheets (Turn place room) = waiting_at place sheets
+
+-- room for the position of each rule that takes part after a step
+abbrev pub HasPlaces : List KeptSheet → Vec ℕ Global → SheetStep → Type 0
+HasPlaces sheets positions step =
+    length (flat_map taking_part (stepped step (map kept_seen sheets))) ≤ vec_capacity positions
 
 -- the place of a step is one of the list, what leaves has room where it goes, and what comes is not enabled yet
 abbrev pub IsAtPlace : List KeptSheet → SheetStep → Type 0

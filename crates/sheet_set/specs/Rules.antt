@@ -19,16 +19,16 @@ use Rattle.sheet_set.specs.declared.sheet_rule.SheetRule.{SheetRule}
 abbrev pub rule_count : Option StyleRule → ℕ
 rule_count rule = option_map_or (λ r. length r.declarations) rule 0
 
--- a rule with its selectors
+-- a rule with its selectors, as one of the sheet at position 0
 abbrev pub placed_rule_of : SheetRule → List Selector → PlacedRule
 placed_rule_of rule selectors = record {
   selectors = map selector_of selectors;
-  declarations = flat_map declared_of rule.declarations.items;
-  origin = origin_of rule.origin;
-  layer = rule.layer;
-  sheet = rule.sheet;
-  position = rule.position;
-  first_index = rule.first_index;
+  declarations = flat_map declared_of rule.body.value.declarations.items;
+  origin = origin_of rule.body.value.origin;
+  layer = rule.body.value.layer;
+  sheet = rule.body.value.sheet;
+  position = 0;
+  first_index = rule.body.value.first_index;
 }
 
 -- rules, each with its own list of selectors
@@ -36,6 +36,15 @@ abbrev pub rules_with : List SheetRule → List (Vec Selector Global) → List P
 rules_with [] lists = []
 rules_with (rule ∷ rules) [] = []
 rules_with (rule ∷ rules) (list ∷ lists) = placed_rule_of rule list.items ∷ rules_with rules lists
+
+-- a rule of a sheet that has another position, and rules, each at its own
+abbrev pub put_at : ℕ → PlacedRule → PlacedRule
+put_at position rule = record rule { position = position }
+
+abbrev pub placed_at : List ℕ → List PlacedRule → List PlacedRule
+placed_at [] rules = []
+placed_at (position ∷ positions) [] = []
+placed_at (position ∷ positions) (rule ∷ rules) = put_at position rule ∷ placed_at positions rules
 
 -- a sheet, from what is kept of it
 abbrev pub sheet_made : ℕ → Origin → Bool → Characters → ℕ → Sheet
@@ -58,14 +67,7 @@ rules_at position sheet = all_placed sheet position 0 (style_rules_in (edition_o
 abbrev pub count_in : Sheet → ℕ
 count_in sheet = length (style_rules_in (edition_of sheet) sheet.text)
 
--- a rule of a sheet that has another position, and rules wherever their sheets stand
-abbrev pub put_at : ℕ → PlacedRule → PlacedRule
-put_at position rule = record rule { position = position }
-
-abbrev pub unplaced : List PlacedRule → List PlacedRule
-unplaced rules = map (put_at 0) rules
-
--- the rules of a sheet that take part, and those that wait until it does
+-- the rules of a sheet that take part, wherever it stands, and those that wait until it does
 abbrev pub taking_part : Sheet → List PlacedRule
 taking_part sheet = if sheet.enabled then rules_at 0 sheet else []
 

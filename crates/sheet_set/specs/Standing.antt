@@ -7,7 +7,7 @@ use Rattle.selector_types.specs.declared.selector.Selector.{Selector}
 use Rattle.sheet_set.specs.declared.sheet_rule.SheetRule.{SheetRule}
 use Rattle.sheet_set.specs.declared.kept_sheet.KeptSheet.{KeptSheet}
 use Rattle.sheet_set.specs.Kept.{taking}
-use Rattle.sheet_set.specs.Rules.{AreSame, rules_with, unplaced}
+use Rattle.sheet_set.specs.Rules.{AreSame, rules_with}
 
 -- how high the layer of a rule is
 abbrev pub rank_placed : Layers → PlacedRule → ℕ
@@ -16,7 +16,7 @@ rank_placed layers rule = layer_rank layers rule.origin rule.layer
 -- The rules with their selectors are those of the sheets that take part, and the ranks are theirs.
 pub record AreKept (sheets : List KeptSheet) (rules : List SheetRule) (lists : List (Vec Selector Global))
     (layers : Layers) (ranks : List ℕ) : Type 0 where
-  pub texts : AreSame (unplaced (rules_with rules lists)) (taking sheets)
+  pub texts : AreSame (rules_with rules lists) (taking sheets)
   pub paired : length rules ≡ length lists
   pub ranked : ranks ≡ map (rank_placed layers) (rules_with rules lists)
 

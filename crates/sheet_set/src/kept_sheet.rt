@@ -3,7 +3,7 @@
 ghost use Rattle.std.specs.Prelude.{◌≡◌, ◌≤◌, ◌+◌, ◌++◌, if◌then◌else◌, true, false, IfOk, drop, length, take, vec_capacity, vec_len};
 ghost use Rattle.layer_order.specs.View.{declarations, origin_of};
 ghost use Rattle.sheet_model.specs.Sources.{sheet_layers};
-ghost use Rattle.sheet_set.specs.Rules.{AreSame, count_in, rules_at, rules_with, sheet_made, sheet_read, unplaced, waiting};
+ghost use Rattle.sheet_set.specs.Rules.{AreSame, count_in, rules_at, rules_with, sheet_made, sheet_read, waiting};
 
 use crate::list_parts::{move_part, put_part};
 use crate::rule_collector::RuleCollector;
@@ -31,7 +31,7 @@ pub struct KeptSheet {
     selectors: Vec<Vec<Selector>>,
     ghost paired: { vec_len rules ≡ vec_len selectors },
     ghost held: { vec_len rules ≡ (if enabled then 0 else count) },
-    ghost own: { AreSame (unplaced (rules_with rules.items selectors.items))
+    ghost own: { AreSame (rules_with rules.items selectors.items)
         (waiting (sheet_made number origin enabled text edition)) },
     ghost declared: { declarations layers.items ≡ sheet_layers (sheet_made number origin enabled text edition) },
     ghost counted: { count ≡ count_in (sheet_made number origin enabled text edition) },
@@ -106,8 +106,7 @@ impl KeptSheet {
         requires on { self.old.enabled ≡ true }
         requires within { at + self.old.count ≤ length rules.old.items }
         requires paired { vec_len rules.old ≡ vec_len selectors.old }
-        requires its { AreSame
-            (unplaced (take self.old.count (drop at (rules_with rules.old.items selectors.old.items))))
+        requires its { AreSame (take self.old.count (drop at (rules_with rules.old.items selectors.old.items)))
             (rules_at 0 (kept_seen self.old)) }
         requires room { self.old.count ≤ vec_capacity room.rules }
         requires selectors_room { self.old.count ≤ vec_capacity room.selectors }

@@ -38,7 +38,7 @@ impl RuleCollector {
         }
     }
 
-    /// Adds the rules and layers of a sheet's text, the rules as those of a sheet at position 0.
+    /// Adds the rules and layers of a sheet's text.
     pub fn add_sheet(
         &mut self,
         alloc: Global,
@@ -88,6 +88,7 @@ impl RuleCollector {
         };
         let declarations = parse_block(alloc, style.block.as_slice())?;
         let rule = SheetRule::new(
+            alloc,
             declarations,
             sheet.origin,
             style.context.layer.share()?,

@@ -9,14 +9,14 @@ ghost use Rattle.stylo_base.specs.declared.refusal.EditRefused.TheVariants.{NoMe
 ghost use Rattle.dom_edits.specs.EditView.{refusal_answered, sheet_edit_seen};
 ghost use Rattle.sheet_set.specs.Fits.{AreSameSheets, Fits};
 ghost use Rattle.sheet_set.specs.Planned.{planned};
-ghost use Rattle.sheet_set.specs.Room.{HasRoom};
+ghost use Rattle.sheet_set.specs.Room.{HasPlaces, HasRoom};
 ghost use Rattle.sheet_set.specs.TellsMarks.{TellsMarks};
 ghost use Rattle.sheet_set.specs.View.{listed_seen};
 
 use crate::planning::{layers_after, step_of};
+use crate::positions::put_positions;
 use crate::ranks::put_layers;
 use crate::refused::refused;
-use crate::renumber::renumber;
 use crate::room::make_room;
 use crate::sheet_keys::change_of;
 use crate::sheet_step::SheetStep;
@@ -83,6 +83,7 @@ impl Sheets {
             &mut self.rules,
             &mut self.selectors,
             &mut self.ranks,
+            &mut self.positions,
             &step,
         )?;
         Ok(SheetPlan {
@@ -104,6 +105,7 @@ impl Sheets {
     /// Makes a step of an edit, with the layers of all sheets after it. None: they stay.
     fn make(&mut self, step: SheetStep, layers: Option<Layers>)
         requires room { HasRoom self.old.sheets self.old.rules self.old.selectors self.old.ranks step }
+        requires places { HasPlaces self.old.sheets.items self.old.positions step }
         requires numbered { AreNumbered (planned step (listed_seen self.old)) }
         requires few { length (planned step (listed_seen self.old)).listed ≤ sheet_limit }
         requires given { (planned step (listed_seen self.old)).last ≤ number_limit }
@@ -117,10 +119,11 @@ impl Sheets {
             rules,
             selectors,
             ranks,
+            positions,
             layers: kept,
         } = self;
         make(sheets, last, rules, selectors, ranks, kept, step);
-        renumber(sheets, rules, 0);
+        put_positions(positions, sheets);
         put_layers(kept, ranks, layers, rules);
     }
 

@@ -6,12 +6,12 @@ ghost use Rattle.edit_model.specs.SheetApply.{AreNumbered};
 ghost use Rattle.sheet_model.specs.Sources.{layers_of_sheets, rules_of_sheets};
 ghost use Rattle.sheet_set.specs.Kept.{kept_seen, taking};
 ghost use Rattle.sheet_set.specs.Ranks.{rank_seen};
-ghost use Rattle.sheet_set.specs.Rules.{AreSame, rules_with, unplaced};
+ghost use Rattle.sheet_set.specs.Rules.{AreSame, placed_at, rules_with};
 
 use crate::copied::copied;
 use crate::kept_layers::layers_of;
+use crate::positions::put_positions;
 use crate::ranks::ranks_of;
-use crate::renumber::renumber;
 use crate::taking_in::{taken_again, taken_in};
 use crate::{KeptSheet, SheetInput, SheetRule};
 use css_rules::SheetEdition;
@@ -30,10 +30,12 @@ pub struct Sheets {
     pub(crate) rules: Vec<SheetRule>,
     pub(crate) selectors: Vec<Vec<Selector>>,
     pub(crate) ranks: Vec<u32>,
+    pub(crate) positions: Vec<u32>,
     pub(crate) layers: Layers,
     ghost paired: { vec_len rules ≡ vec_len selectors },
     ghost ranked: { ranks.items ≡ map (rank_seen layers) rules.items },
-    ghost of_texts: { AreSame (rules_with rules.items selectors.items)
+    ghost placed: { vec_len positions ≡ vec_len rules },
+    ghost of_texts: { AreSame (placed_at positions.items (rules_with rules.items selectors.items))
         (rules_of_sheets (map kept_seen sheets.items)) },
     ghost layered: { layers ≡ layers_of_sheets (map kept_seen sheets.items) },
     ghost numbered: { ∥ AreNumbered (record { listed = map kept_seen sheets.items; last = last }) ∥₁ },
@@ -102,23 +104,24 @@ impl Sheets {
         selectors: Vec<Vec<Selector>>,
     ) -> Result<Sheets, NoMemory>
         requires paired { vec_len rules ≡ vec_len selectors }
-        requires texts { AreSame (unplaced (rules_with rules.items selectors.items)) (taking sheets.items) }
+        requires texts { AreSame (rules_with rules.items selectors.items) (taking sheets.items) }
         requires numbered { ∥ AreNumbered (record { listed = map kept_seen sheets.items; last = last }) ∥₁ }
         requires few { length sheets.items ≤ sheet_limit }
         requires given { last ≤ number_limit }
         ensures { IfOk result (λ made. listed_seen made
             ≡ record { listed = map kept_seen sheets.items; last = last }) }
     {
-        let mut rules = rules;
-        renumber(&sheets, &mut rules, 0);
         let layers = layers_of(alloc, &sheets)?;
         let ranks = ranks_of(alloc, &layers, rules.as_slice())?;
+        let mut positions = Vec::with_capacity(alloc, rules.len())?;
+        put_positions(&mut positions, &sheets);
         Ok(Sheets {
             sheets,
             last,
             rules,
             selectors,
             ranks,
+            positions,
             layers,
         })
     }
@@ -151,6 +154,14 @@ impl Sheets {
         ensures paired { length result.now ≡ length self.now.rules.items }
     {
         &self.ranks
+    }
+
+    /// The position of the sheet of each rule among the enabled ones, from 0.
+    pub fn positions(&self) -> &[u32]
+        ensures list { result.now ≡ self.now.positions.items }
+        ensures paired { length result.now ≡ length self.now.rules.items }
+    {
+        &self.positions
     }
 
     /// The cascade layers.

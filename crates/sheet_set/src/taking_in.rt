@@ -2,7 +2,7 @@
 
 ghost use Rattle.std.specs.Prelude.{◌≡◌, ◌++◌, ◌<◌, ◌^◌, IfOk, OnOk, vec_len};
 ghost use Rattle.sheet_set.specs.Kept.{kept_seen};
-ghost use Rattle.sheet_set.specs.Rules.{AreSame, rules_with, sheet_made, taking_part, unplaced};
+ghost use Rattle.sheet_set.specs.Rules.{AreSame, rules_with, sheet_made, taking_part};
 
 use crate::{KeptSheet, SheetInput, SheetRule};
 use css_rules::SheetEdition;
@@ -21,8 +21,8 @@ pub(crate) fn taken_in(
     requires { vec_len rules.old ≡ vec_len selectors.old }
     ensures sheet { IfOk result (λ kept. kept_seen kept
         ≡ sheet_made at.sheet sheet.origin sheet.enabled sheet.text at.edition) }
-    ensures rules { IfOk result (λ kept. AreSame (unplaced (rules_with rules.new.items selectors.new.items))
-        (unplaced (rules_with rules.old.items selectors.old.items) ++ taking_part (kept_seen kept))) }
+    ensures rules { IfOk result (λ kept. AreSame (rules_with rules.new.items selectors.new.items)
+        (rules_with rules.old.items selectors.old.items ++ taking_part (kept_seen kept))) }
     ensures paired { OnOk result (vec_len rules.new ≡ vec_len selectors.new) }
 {
     let is_on = sheet.enabled;
@@ -45,8 +45,8 @@ pub(crate) fn taken_again(
 ) -> Result<KeptSheet, NoMemory>
     requires { vec_len rules.old ≡ vec_len selectors.old }
     ensures sheet { IfOk result (λ kept. kept_seen kept ≡ kept_seen sheet.now) }
-    ensures rules { IfOk result (λ kept. AreSame (unplaced (rules_with rules.new.items selectors.new.items))
-        (unplaced (rules_with rules.old.items selectors.old.items) ++ taking_part (kept_seen kept))) }
+    ensures rules { IfOk result (λ kept. AreSame (rules_with rules.new.items selectors.new.items)
+        (rules_with rules.old.items selectors.old.items ++ taking_part (kept_seen kept))) }
     ensures paired { OnOk result (vec_len rules.new ≡ vec_len selectors.new) }
 {
     let at = SheetEdition {

@@ -1,11 +1,11 @@
 -- Lines that are kept at places among bytes, and lines that are forgotten.
-use Rattle.std.proofs.Common.{◌≡◌, ◌≢◌, ℕ, zero, suc, ◌+◌, ◌-◌, ◌<◌, ◌≤◌, ◌==◌, Bool, true, false, List, [], ◌∷◌, ◌++◌, length, map, take, drop, get_or, set, replicate, Option, Some, None, IfSome, sym, ap, ◌∙◌, subst, refl, arith, ◌||◌, length-drop, if◌then◌else◌, option_and_then, option_map, append-nil, append_assoc}
+use Rattle.std.proofs.Common.{◌≡◌, ◌≢◌, ◌⊎◌, inl, inr, ℕ, zero, suc, ◌+◌, ◌-◌, ◌<◌, ◌≤◌, ◌==◌, Bool, true, false, List, [], ◌∷◌, ◌++◌, length, map, take, drop, get_or, set, replicate, Option, Some, None, IfSome, sym, ap, ◌∙◌, subst, refl, arith, ◌||◌, length-drop, if◌then◌else◌, option_and_then, option_map, append-nil, append_assoc}
 use Rattle.std.proofs.lemmas.Bool.{eqb-true, eqb-false}
 use Rattle.std.proofs.lemmas.List.{drop-append-le, drop-drop, get_or-set_other, get_or-set_same, take-append-le, take_all, take_more}
 use Rattle.std.proofs.Math.Seq.{drop-append_seam, take-add}
 use Rattle.scene_model.specs.Numbers.{is_in}
 use Rattle.style_cli.specs.declared.lines.Place.{Place}
-use Rattle.style_cli.specs.KeptLines.{AreWithin, StandsAt, kept_line, kept_run, line_in}
+use Rattle.style_cli.specs.KeptLines.{AreWithin, StandsAt, kept_line, kept_run, line_in, some_length}
 
 abbrev no_place : Place
 no_place = record { start = 0; len = 0 }
@@ -17,12 +17,17 @@ kept_in bytes (p ∷ places) zero = refl
 kept_in bytes (p ∷ places) (suc x) = kept_in bytes places x
 
 -- places that are made
+pub more_same : {A : Type 0} (e : A) (list : List A) (n x : ℕ) → get_or (list ++ replicate n e) x e ≡ get_or list x e
+more_same e [] zero x = refl
+more_same e [] (suc n) zero = refl
+more_same e [] (suc n) (suc x) = more_same e [] n x
+more_same e (a ∷ list) n zero = refl
+more_same e (a ∷ list) n (suc x) = more_same e list n x
+
 pub more_places : (bytes : List ℕ) (places : List Place) (n x : ℕ) → kept_line (map (line_in bytes) (places ++ replicate n (record { start = 0; len = 0 }))) x ≡ kept_line (map (line_in bytes) places) x
-more_places bytes [] zero x = refl
-more_places bytes [] (suc n) zero = refl
-more_places bytes [] (suc n) (suc x) = more_places bytes [] n x
-more_places bytes (p ∷ places) n zero = refl
-more_places bytes (p ∷ places) n (suc x) = more_places bytes places n x
+more_places bytes places n x =
+    kept_in bytes (places ++ replicate n no_place) x
+    ∙ (ap (line_in bytes) (more_same no_place places n x) ∙ sym (kept_in bytes places x))
 
 -- a line that is put behind the others
 
@@ -66,52 +71,71 @@ put_others bytes line places n place within x other =
     ∙ (line_stays bytes line (get_or places x no_place) (within_at bytes places x within)
     ∙ sym (kept_in bytes places x)))
 
--- a line is forgotten
+-- What stands at a number is forgotten: a value that tells nothing stands there then. Here it is `e`.
 
-pub none_at : (lines : List (Option (List ℕ))) (n : ℕ) → kept_line (set lines n None) n ≡ None
-none_at [] n = refl
-none_at (o ∷ lines) zero = refl
-none_at (o ∷ lines) (suc n) = none_at lines n
+none_at : {A : Type 0} (e : A) (list : List A) (n : ℕ) → get_or (set list n e) n e ≡ e
+none_at e [] n = refl
+none_at e (a ∷ list) zero = refl
+none_at e (a ∷ list) (suc n) = none_at e list n
 
 -- and more
-abbrev pub forgotten : List ℕ → List (Option (List ℕ)) → List (Option (List ℕ))
-forgotten [] lines = lines
-forgotten (n ∷ ns) lines = forgotten ns (set lines n None)
+abbrev pub forgotten : {A : Type 0} → A → List ℕ → List A → List A
+forgotten e [] list = list
+forgotten e (n ∷ ns) list = forgotten e ns (set list n e)
 
-itself : (o : Option (List ℕ)) → IfSome o (λ line. o ≡ Some line)
+-- what stands somewhere stood there before, or it is forgotten
+abbrev Stays : {A : Type 0} → A → A → A → Type 0
+Stays e new old = (new ≡ e) ⊎ (new ≡ old)
+
+stays_on : {A : Type 0} (e a b c : A) → Stays e a b → Stays e b c → Stays e a c
+stays_on e a b c (inl gone) other = inl gone
+stays_on e a b c (inr same) (inl gone) = inl (same ∙ gone)
+stays_on e a b c (inr same) (inr more) = inr (same ∙ more)
+
+set_stays : {A : Type 0} (e : A) (list : List A) (n x : ℕ) → Stays e (get_or (set list n e) x e) (get_or list x e)
+set_stays e list n x = by (x == n) refl
+  where
+    by : (b : Bool) → (x == n) ≡ b → Stays e (get_or (set list n e) x e) (get_or list x e)
+    by true is = inl (ap (λ k. get_or (set list n e) k e) (eqb-true x n is) ∙ none_at e list n)
+    by false is = inr (get_or-set_other list n x e e (eqb-false x n is))
+
+forgotten_stays : {A : Type 0} (e : A) (ns : List ℕ) (list : List A) (x : ℕ) → Stays e (get_or (forgotten e ns list) x e) (get_or list x e)
+forgotten_stays e [] list x = inr refl
+forgotten_stays e (n ∷ ns) list x =
+    stays_on e _ (get_or (set list n e) x e) _ (forgotten_stays e ns (set list n e) x) (set_stays e list n x)
+
+none_stays : {A : Type 0} (e new old : A) → Stays e new old → old ≡ e → new ≡ e
+none_stays e new old (inl gone) none = gone
+none_stays e new old (inr same) none = same ∙ none
+
+pub forgotten_gone : {A : Type 0} (e : A) (ns : List ℕ) (list : List A) (x : ℕ) → is_in x ns ≡ true → get_or (forgotten e ns list) x e ≡ e
+forgotten_gone e [] list x h = cc
+forgotten_gone e (n ∷ ns) list x h = by (n == x) refl h (forgotten_gone e ns (set list n e) x)
+  where
+    by : (b : Bool) → (n == x) ≡ b → (b || is_in x ns) ≡ true → (is_in x ns ≡ true → get_or (forgotten e ns (set list n e)) x e ≡ e) → get_or (forgotten e ns (set list n e)) x e ≡ e
+    by true is g rest =
+        none_stays e (get_or (forgotten e ns (set list n e)) x e) (get_or (set list n e) x e) (forgotten_stays e ns (set list n e) x) (ap (λ k. get_or (set list n e) k e) (sym (eqb-true n x is)) ∙ none_at e list n)
+    by false is g rest = rest g
+
+itself : {B : Type 0} (o : Option B) → IfSome o (λ one. o ≡ Some one)
 itself None = tt
-itself (Some line) = refl
+itself (Some one) = refl
 
-left_weaker : (o a b : Option (List ℕ)) → ((line : List ℕ) → a ≡ Some line → b ≡ Some line) → IfSome o (λ line. a ≡ Some line) → IfSome o (λ line. b ≡ Some line)
-left_weaker None a b f h = tt
-left_weaker (Some line) a b f h = f line h
-
-none_left : (o a : Option (List ℕ)) → IfSome o (λ line. a ≡ Some line) → a ≡ None → o ≡ None
-none_left None a h none = refl
-none_left (Some line) a h none = cc
-
-set_left : (lines : List (Option (List ℕ))) (n x : ℕ) (line : List ℕ) → kept_line (set lines n None) x ≡ Some line → kept_line lines x ≡ Some line
-set_left lines n x line is = by (x == n) refl
+-- what is told of it still was told before
+pub forgotten_left : {A B : Type 0} (told : A → Option B) (e : A) (ns : List ℕ) (list : List A) (x : ℕ) → told e ≡ None → IfSome (told (get_or (forgotten e ns list) x e)) (λ one. told (get_or list x e) ≡ Some one)
+forgotten_left told e ns list x none = by (get_or (forgotten e ns list) x e) (forgotten_stays e ns list x)
   where
-    by : (b : Bool) → (x == n) ≡ b → kept_line lines x ≡ Some line
-    by true e =
-        let none : kept_line (set lines n None) x ≡ None = ap (kept_line (set lines n None)) (eqb-true x n e) ∙ none_at lines n in
-        cc
-    by false e = sym (get_or-set_other lines n x None None (eqb-false x n e)) ∙ is
+    by : (new : _) → Stays e new (get_or list x e) → IfSome (told new) (λ one. told (get_or list x e) ≡ Some one)
+    by new (inl gone) = subst (λ o. IfSome o (λ one. told (get_or list x e) ≡ Some one)) (sym (ap told gone ∙ none)) tt
+    by new (inr same) = subst (λ o. IfSome o (λ one. told (get_or list x e) ≡ Some one)) (sym (ap told same)) (itself (told (get_or list x e)))
 
-pub forgotten_left : (ns : List ℕ) (lines : List (Option (List ℕ))) (x : ℕ) → IfSome (kept_line (forgotten ns lines) x) (λ line. kept_line lines x ≡ Some line)
-forgotten_left [] lines x = itself (kept_line lines x)
-forgotten_left (n ∷ ns) lines x =
-    left_weaker (kept_line (forgotten ns (set lines n None)) x) (kept_line (set lines n None) x) (kept_line lines x) (set_left lines n x) (forgotten_left ns (set lines n None) x)
-
-pub forgotten_gone : (ns : List ℕ) (lines : List (Option (List ℕ))) (x : ℕ) → is_in x ns ≡ true → kept_line (forgotten ns lines) x ≡ None
-forgotten_gone [] lines x h = cc
-forgotten_gone (n ∷ ns) lines x h = by (n == x) refl h (forgotten_gone ns (set lines n None) x)
+-- a length that is kept
+pub some_own : (n : ℕ) → IfSome (some_length n) (λ kept. kept ≡ n)
+some_own n = by (n == 0)
   where
-    by : (b : Bool) → (n == x) ≡ b → (b || is_in x ns) ≡ true → (is_in x ns ≡ true → kept_line (forgotten ns (set lines n None)) x ≡ None) → kept_line (forgotten ns (set lines n None)) x ≡ None
-    by true e g rest =
-        none_left (kept_line (forgotten ns (set lines n None)) x) (kept_line (set lines n None) x) (forgotten_left ns (set lines n None) x) (ap (kept_line (set lines n None)) (sym (eqb-true n x e)) ∙ none_at lines n)
-    by false e g rest = rest g
+    by : (b : Bool) → IfSome (if b then None else Some n) (λ kept. kept ≡ n)
+    by true = tt
+    by false = refl
 
 -- lines that stand one behind the other
 

@@ -1,3 +1,4 @@
+pub mod WordLemmas
 pub mod Told
 pub mod Fronts
 pub mod Written
@@ -6,7 +7,10 @@ pub mod KeptLemmas
 pub mod EditedLemmas
 pub mod SettledLemmas
 pub mod ServeLemmas
+pub mod SumLemmas
+pub mod TallyLemmas
 pub mod BatchText
 pub mod FirstScene
 mod Examples
+mod LineExamples
 mod ExampleCases

@@ -28,7 +28,7 @@ use Rattle.report_text.specs.Lines.{element_line}
 use Rattle.report_text.proofs.AppendLemmas.{alone}
 use Rattle.sheet_model.specs.Sources.{sources_of}
 use Rattle.style_cli.specs.KeptLines.{kept_line, kept_run}
-use Rattle.style_cli.specs.Printing.{IsSettled, Serves, line_bytes, lines_bytes}
+use Rattle.style_cli.specs.Printing.{IsSettled, Serves, ServesAs, line_bytes, lines_bytes}
 use Rattle.style_cli.proofs.SettledLemmas.{kept-settled}
 
 -- what is kept is of elements
@@ -84,51 +84,52 @@ scene_tags old sound (of_sheets edit) w now e = sheet_tags old edit (sheet_refus
 abbrev bytes_with : ℕ → List ℕ → Style → List ℕ
 bytes_with x tag style = encode_utf8_all (element_line x tag style)
 
-abbrev IsBytes : Option (List ℕ) → List ℕ → Type 0
-IsBytes o bytes = IfSome o (λ line. line ≡ bytes)
+-- what is kept is this, if anything is
+abbrev IsOne : {A : Type 0} → Option A → A → Type 0
+IsOne o one = IfSome o (λ kept. kept ≡ one)
 
--- edits leave lines that serve
+-- Edits leave what serves. It is told of lines in some way: the lines themselves, or their lengths.
 
-serves_by : (st : Standing) → IsReached st → (edit : Edit) → IsShapedEdit edit → (lines : List (Option (List ℕ))) → Serves st lines → (o : Outcome Scene) → scene_applied st.scene edit ≡ o → Serves (edited_by st edit o) lines
-serves_by st reached edit w lines serves (refused why) e = serves
-serves_by st reached edit w lines serves (accepted now) e = λ x style is.
+serves_by : {A : Type 0} (told : List ℕ → A) (st : Standing) → IsReached st → (edit : Edit) → IsShapedEdit edit → (kept : ℕ → Option A) → ServesAs told st kept → (o : Outcome Scene) → scene_applied st.scene edit ≡ o → ServesAs told (edited_by st edit o) kept
+serves_by told st reached edit w kept serves (refused why) e = serves
+serves_by told st reached edit w kept serves (accepted now) e = λ x style is.
     let there = listed_there (elements_of now) x style (filter (λ k. is_element (elements_of now) k.0) st.kept) (there_by st edit (accepted now) (all_there st reached)) is in
     let before : kept_at st x ≡ Some style = sym (kept-changed st (change_of st.scene edit now) x there) ∙ is in
     let tags = scene_tags st.scene (sound-reached st reached) edit w now e x (kept_there st reached x style before) there in
-    subst (λ tag. IsBytes (kept_line lines x) (bytes_with x tag style)) tags (serves x style before)
+    subst (λ tag. IsOne (kept x) (told (bytes_with x tag style))) tags (serves x style before)
 
-pub serves-edited : (st : Standing) → IsReached st → (edits : List Edit) → AllByRecursion IsShapedEdit edits → (lines : List (Option (List ℕ))) → Serves st lines → Serves (edited_all st edits) lines
-serves-edited st reached [] w lines serves = serves
-serves-edited st reached (edit ∷ edits) w lines serves =
-    serves-edited (edited st edit) (by_edit st edit w.0 reached) edits w.1 lines (serves_by st reached edit w.0 lines serves (scene_applied st.scene edit) refl)
+pub serves-edited : {A : Type 0} (told : List ℕ → A) (st : Standing) → IsReached st → (edits : List Edit) → AllByRecursion IsShapedEdit edits → (kept : ℕ → Option A) → ServesAs told st kept → ServesAs told (edited_all st edits) kept
+serves-edited told st reached [] w kept serves = serves
+serves-edited told st reached (edit ∷ edits) w kept serves =
+    serves-edited told (edited st edit) (by_edit st edit w.0 reached) edits w.1 kept (serves_by told st reached edit w.0 kept serves (scene_applied st.scene edit) refl)
 
--- and so does a restyle, once the lines of what it cascades are forgotten
+-- and so does a restyle, once what is kept of what it cascades is forgotten
 
-weaker_bytes : (new old : Option (List ℕ)) (bytes : List ℕ) → IfSome new (λ line. old ≡ Some line) → IsBytes old bytes → IsBytes new bytes
-weaker_bytes None old bytes left is = tt
-weaker_bytes (Some line) old bytes left is = subst (λ o. IsBytes o bytes) left is
+weaker_one : {A : Type 0} (new old : Option A) (one : A) → IfSome new (λ a. old ≡ Some a) → IsOne old one → IsOne new one
+weaker_one None old one left is = tt
+weaker_one (Some a) old one left is = subst (λ o. IsOne o one) left is
 
-no_bytes : (o : Option (List ℕ)) (bytes : List ℕ) → o ≡ None → IsBytes o bytes
-no_bytes o bytes none = subst (λ p. IsBytes p bytes) (sym none) tt
+no_one : {A : Type 0} (o : Option A) (one : A) → o ≡ None → IsOne o one
+no_one o one none = subst (λ p. IsOne p one) (sym none) tt
 
-pub serves-restyled : (st : Standing) → IsReached st → (lines left : List (Option (List ℕ))) (listed : List ℕ) → Serves st lines → ((x : ℕ) → IsElement (elements_of st.scene) x → is_in x listed ≡ is_in x (restyled st).recent) → ((x : ℕ) → is_in x listed ≡ true → kept_line left x ≡ None) → ((x : ℕ) → IfSome (kept_line left x) (λ line. kept_line lines x ≡ Some line)) → Serves (restyled st) left
-serves-restyled st reached lines left listed serves recent gone stays = λ x style is.
+pub serves-restyled : {A : Type 0} (told : List ℕ → A) (st : Standing) → IsReached st → (kept left : ℕ → Option A) (listed : List ℕ) → ServesAs told st kept → ((x : ℕ) → IsElement (elements_of st.scene) x → is_in x listed ≡ is_in x (restyled st).recent) → ((x : ℕ) → is_in x listed ≡ true → left x ≡ None) → ((x : ℕ) → IfSome (left x) (λ one. kept x ≡ Some one)) → ServesAs told (restyled st) left
+serves-restyled told st reached kept left listed serves recent gone stays = λ x style is.
     let there = kept_there (restyled st) (by_restyle st reached) x style is in
     by x style is there (is_in x listed) refl
   where
-    by : (x : ℕ) (style : Style) → kept_at (restyled st) x ≡ Some style → IsElement (elements_of st.scene) x → (b : Bool) → is_in x listed ≡ b → IsBytes (kept_line left x) (bytes_with x (tag_of (elements_of st.scene) x) style)
-    by x style is there true e = no_bytes (kept_line left x) (bytes_with x (tag_of (elements_of st.scene) x) style) (gone x e)
+    by : (x : ℕ) (style : Style) → kept_at (restyled st) x ≡ Some style → IsElement (elements_of st.scene) x → (b : Bool) → is_in x listed ≡ b → IsOne (left x) (told (bytes_with x (tag_of (elements_of st.scene) x) style))
+    by x style is there true e = no_one (left x) (told (bytes_with x (tag_of (elements_of st.scene) x) style)) (gone x e)
     by x style is there false e =
         let not_cascaded : is_cascaded st x ≡ false = sym (among-numbers (elements_of st.scene) (is_cascaded st) x there) ∙ (sym (recent x there) ∙ e) in
         let before : kept_at st x ≡ Some style = sym (kept-others st (sound-reached st reached) (keeps-reached st reached) x there not_cascaded) ∙ is in
-        weaker_bytes (kept_line left x) (kept_line lines x) (bytes_with x (tag_of (elements_of st.scene) x) style) (stays x) (serves x style before)
+        weaker_one (left x) (kept x) (told (bytes_with x (tag_of (elements_of st.scene) x) style)) (stays x) (serves x style before)
 
 -- a batch and its restyle
-pub serves-batch : (st now : Standing) → IsReached st → (edits : List Edit) → AllByRecursion IsShapedEdit edits → now ≡ restyled (edited_all st edits) → (lines left : List (Option (List ℕ))) (listed : List ℕ) → Serves st lines → ((x : ℕ) → IsElement (elements_of now.scene) x → is_in x listed ≡ is_in x now.recent) → ((x : ℕ) → is_in x listed ≡ true → kept_line left x ≡ None) → ((x : ℕ) → IfSome (kept_line left x) (λ line. kept_line lines x ≡ Some line)) → Serves now left
-serves-batch st now reached edits w is lines left listed serves recent gone stays =
+pub serves-batch : {A : Type 0} (told : List ℕ → A) (st now : Standing) → IsReached st → (edits : List Edit) → AllByRecursion IsShapedEdit edits → now ≡ restyled (edited_all st edits) → (kept left : ℕ → Option A) (listed : List ℕ) → ServesAs told st kept → ((x : ℕ) → IsElement (elements_of now.scene) x → is_in x listed ≡ is_in x now.recent) → ((x : ℕ) → is_in x listed ≡ true → left x ≡ None) → ((x : ℕ) → IfSome (left x) (λ one. kept x ≡ Some one)) → ServesAs told now left
+serves-batch told st now reached edits w is kept left listed serves recent gone stays =
     let after = edited_all st edits in
-    let told = subst (λ (s : Standing). (x : ℕ) → IsElement (elements_of s.scene) x → is_in x listed ≡ is_in x s.recent) is recent in
-    subst (λ s. Serves s left) (sym is) (serves-restyled after (edited_all-reached st edits reached w) lines left listed (serves-edited st reached edits w lines serves) told gone stays)
+    let same = subst (λ (s : Standing). (x : ℕ) → IsElement (elements_of s.scene) x → is_in x listed ≡ is_in x s.recent) is recent in
+    subst (λ s. ServesAs told s left) (sym is) (serves-restyled told after (edited_all-reached st edits reached w) kept left listed (serves-edited told st reached edits w kept serves) same gone stays)
 
 -- a line is made
 pub made_line : (x : ℕ) (start new told tag : List ℕ) (style own : Style) → start ≡ [] → new ≡ start ++ element_line x told style → told ≡ tag → style ≡ own → new ≡ element_line x tag own
@@ -138,25 +139,25 @@ made_line x start new told tag style own empty is tagged same =
 
 -- and it is kept
 
-pub serves-kept : (st : Standing) (old new : List (Option (List ℕ))) (n : ℕ) (own : Style) (line : List ℕ) → Serves st old → kept_at st n ≡ Some own → line ≡ encode_utf8_all (element_line n (tag_of (elements_of st.scene) n) own) → IfSome (kept_line new n) (λ kept. kept ≡ line) → ((x : ℕ) → (x ≡ n → ⊥) → kept_line new x ≡ kept_line old x) → Serves st new
-serves-kept st old new n own line serves kept made is others = λ x style at. by x style at (x == n) refl
+pub serves-kept : {A : Type 0} (told : List ℕ → A) (st : Standing) (old new : ℕ → Option A) (n : ℕ) (own : Style) (one : A) → ServesAs told st old → kept_at st n ≡ Some own → one ≡ told (encode_utf8_all (element_line n (tag_of (elements_of st.scene) n) own)) → IfSome (new n) (λ kept. kept ≡ one) → ((x : ℕ) → (x ≡ n → ⊥) → new x ≡ old x) → ServesAs told st new
+serves-kept told st old new n own one serves kept made is others = λ x style at. by x style at (x == n) refl
   where
-    own_bytes : (x : ℕ) (style : Style) → x ≡ n → kept_at st x ≡ Some style → line ≡ bytes_with x (tag_of (elements_of st.scene) x) style
-    own_bytes x style same at =
+    own_one : (x : ℕ) (style : Style) → x ≡ n → kept_at st x ≡ Some style → one ≡ told (bytes_with x (tag_of (elements_of st.scene) x) style)
+    own_one x style same at =
         let own_style : own ≡ style = cc (ap (kept_at st) same) in
-        made ∙ (ap (λ s. bytes_with n (tag_of (elements_of st.scene) n) s) own_style ∙ ap (λ y. bytes_with y (tag_of (elements_of st.scene) y) style) (sym same))
+        made ∙ ap told (ap (λ s. bytes_with n (tag_of (elements_of st.scene) n) s) own_style ∙ ap (λ y. bytes_with y (tag_of (elements_of st.scene) y) style) (sym same))
 
-    by : (x : ℕ) (style : Style) → kept_at st x ≡ Some style → (b : Bool) → (x == n) ≡ b → IsBytes (kept_line new x) (bytes_with x (tag_of (elements_of st.scene) x) style)
+    by : (x : ℕ) (style : Style) → kept_at st x ≡ Some style → (b : Bool) → (x == n) ≡ b → IsOne (new x) (told (bytes_with x (tag_of (elements_of st.scene) x) style))
     by x style at true e =
         let same = eqb-true x n e in
-        subst (IsBytes (kept_line new x)) (own_bytes x style same at) (subst (λ y. IsBytes (kept_line new y) line) (sym same) is)
+        subst (IsOne (new x)) (own_one x style same at) (subst (λ y. IsOne (new y) one) (sym same) is)
     by x style at false e =
-        subst (λ o. IsBytes o (bytes_with x (tag_of (elements_of st.scene) x) style)) (sym (others x (eqb-false x n e))) (serves x style at)
+        subst (λ o. IsOne o (told (bytes_with x (tag_of (elements_of st.scene) x) style))) (sym (others x (eqb-false x n e))) (serves x style at)
 
--- a line that is kept is that of the element
-pub kept_bytes : (st : Standing) (lines : List (Option (List ℕ))) (x : ℕ) (style : Style) (line : List ℕ) → Serves st lines → kept_at st x ≡ Some style → kept_line lines x ≡ Some line → line ≡ encode_utf8_all (element_line x (tag_of (elements_of st.scene) x) style)
-kept_bytes st lines x style line serves at is =
-    subst (λ o. IsBytes o (bytes_with x (tag_of (elements_of st.scene) x) style)) is (serves x style at)
+-- what is kept of an element's line is told of it
+pub kept_one : {A : Type 0} (told : List ℕ → A) (st : Standing) (kept : ℕ → Option A) (x : ℕ) (style : Style) (one : A) → ServesAs told st kept → kept_at st x ≡ Some style → kept x ≡ Some one → one ≡ told (encode_utf8_all (element_line x (tag_of (elements_of st.scene) x) style))
+kept_one told st kept x style one serves at is =
+    subst (λ o. IsOne o (told (bytes_with x (tag_of (elements_of st.scene) x) style))) is (serves x style at)
 
 -- and a run of lines is those of its elements
 pub run_bytes : (st : Standing) (lines : List (Option (List ℕ))) (xs run : List ℕ) → IsSettled st → IsSound st.scene.document → Serves st lines → AllByRecursion (IsElement (elements_of st.scene)) xs
@@ -169,6 +170,6 @@ run_bytes st lines (x ∷ xs) run settled sound serves all is =
     by None p e f others = absurd (cc)
     by (Some line) None e f others = absurd (cc)
     by (Some line) (Some rest) e f others =
-        let own = kept_bytes st lines x (style_in st.scene x) line serves (kept-settled st settled sound x all.0) e in
+        let own = kept_one (λ l. l) st (kept_line lines) x (style_in st.scene x) line serves (kept-settled st settled sound x all.0) e in
         let whole : line ++ rest ≡ run = cc in
         sym whole ∙ (ap (λ l. l ++ rest) own ∙ ap (λ l. line_bytes (elements_of st.scene) (sources_of st.scene.sheets) x ++ l) (others rest f))

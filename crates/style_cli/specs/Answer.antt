@@ -1,6 +1,6 @@
 -- What the program answers, and what it writes.
-use Rattle.std.specs.Prelude.{◌≡◌, ℕ, ◌+◌, ◌≤◌, nat_le, ◌⊎◌, List, [], length}
-use Rattle.std.specs.Prelude.{Bool, Option, Some, None, option_map, IfSome, IsSomeAnd, if◌then◌else◌}
+use Rattle.std.specs.Prelude.{◌≡◌, ◌≢◌, ℕ, ◌+◌, ◌≤◌, nat_le, ◌⊎◌, List, [], length}
+use Rattle.std.specs.Prelude.{Bool, true, false, Option, Some, None, option_map, IfSome, IsSomeAnd, if◌then◌else◌}
 use Rattle.std.specs.Io.KnownBytes.{Appends}
 use Rattle.base_model.specs.Limits.{input_limit}
 use Rattle.job_json.specs.declared.Job.{Job}
@@ -11,18 +11,33 @@ use Rattle.style_cli.specs.declared.status.Status.{Status}
 use Rattle.style_cli.specs.declared.status.Status.TheVariants.{Done, ReadFault, Usage, NotJson, NotAJob, Limit}
 use Rattle.style_cli.specs.declared.status.Status.TheVariants.{WriteFault, NoMemory}
 use Rattle.style_cli.specs.declared.words.Line.{Line}
-use Rattle.style_cli.specs.declared.words.Line.TheVariants.{Run}
+use Rattle.style_cli.specs.declared.words.Line.TheVariants.{Run, Gen}
 use Rattle.style_cli.specs.Loops.{GrewByFront, LosesFront}
+use Rattle.style_cli.specs.Sums.{summary_text}
 use Rattle.style_cli.specs.Text.{text_of}
 
 -- the job that an input within the limit spells
 abbrev pub job_of_input : List ℕ → Option Job
 job_of_input bytes = if nat_le (length bytes) input_limit then job_if_good (verdict_of bytes) else None
 
--- The text that is due for a line and an input, if there is one: for a run, that of the input's job.
+-- whether a line has the input read: a run does, and a generated job does not
+abbrev pub reads_input : Option Line → Bool
+reads_input None = false
+reads_input (Some (Run workers share)) = true
+reads_input (Some (Gen seed nodes batches workers)) = false
+
+-- The text that is due for a line and an input, if there is one: for a run that of the input's job, and for a generated
+-- job the line of its sums, whatever the input.
 abbrev pub due_text : Option Line → List ℕ → Option (List ℕ)
 due_text None bytes = None
-due_text (Some Run) bytes = option_map text_of (job_of_input bytes)
+due_text (Some (Run workers share)) bytes = option_map text_of (job_of_input bytes)
+due_text (Some (Gen seed nodes batches workers)) bytes = Some (summary_text seed nodes batches)
+
+-- the input that a line goes by, where it is told: a generated job goes by none
+abbrev pub input_of : Option Line → Option (List ℕ) → Option (List ℕ)
+input_of None left = left
+input_of (Some (Run workers share)) left = left
+input_of (Some (Gen seed nodes batches workers)) left = Some []
 
 abbrev pub due_by : Verdict → Status
 due_by not_json = NotJson
@@ -60,11 +75,12 @@ IsJob left = IfSome left (λ bytes. (job : Job) × (job_of_input bytes ≡ Some 
 
 -- an output grew by the whole text that is due
 abbrev pub IsPrinted : Option Line → Option (List ℕ) → Option (List ℕ) → Option (List ℕ) → Type 0
-IsPrinted line left old new = IfSome left (λ bytes. IsSomeAnd (due_text line bytes) (Appends old new))
+IsPrinted line left old new = IfSome (input_of line left) (λ bytes. IsSomeAnd (due_text line bytes) (Appends old new))
 
 -- it grew by a front of that text
 abbrev pub IsFrontPrinted : Option Line → Option (List ℕ) → Option (List ℕ) → Option (List ℕ) → Type 0
-IsFrontPrinted line left old new = IfSome left (λ bytes. IsSomeAnd (due_text line bytes) (GrewByFront old new))
+IsFrontPrinted line left old new =
+    IfSome (input_of line left) (λ bytes. IsSomeAnd (due_text line bytes) (GrewByFront old new))
 
 -- Besides what an input calls for there are three answers: out of memory, a fault of the source, and one of the sink,
 -- where there is a job.
@@ -83,6 +99,24 @@ IsEarly (Limit kind number) = Unit {0}
 IsEarly Done = ⊥
 IsEarly WriteFault = ⊥
 IsEarly NoMemory = ⊥
+
+-- the statuses that a generated job ends with
+abbrev pub IsLate : Status → Type 0
+IsLate Done = Unit {0}
+IsLate WriteFault = Unit {0}
+IsLate NoMemory = Unit {0}
+IsLate ReadFault = ⊥
+IsLate Usage = ⊥
+IsLate NotJson = ⊥
+IsLate (NotAJob path) = ⊥
+IsLate (Limit kind number) = ⊥
+
+-- The statuses that come of a line: without one Usage, or no memory to read it, and of a generated job none that
+-- tells of an input.
+abbrev pub IsOf : Option Line → Status → Type 0
+IsOf None status = (status ≡ Usage) ⊎ (status ≡ NoMemory)
+IsOf (Some (Run workers share)) status = status ≢ Usage
+IsOf (Some (Gen seed nodes batches workers)) status = IsLate status
 
 -- the statuses with which no job was read
 abbrev pub IsUnread : Status → Type 0

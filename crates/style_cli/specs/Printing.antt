@@ -14,7 +14,7 @@ use Rattle.dom_edits.specs.declared.edits.Edit.{Edit}
 use Rattle.dom_edits.specs.EditView.{edit_seen, refusal_answered}
 use Rattle.report_text.specs.Lines.{batch_line, element_line, refused_line}
 use Rattle.style_cli.specs.Text.{line_at}
-use Rattle.style_cli.specs.KeptLines.{kept_line}
+use Rattle.style_cli.specs.KeptLines.{kept_length, kept_line}
 use Rattle.style_cli.specs.declared.batch.Heading.{Heading}
 use Rattle.style_cli.specs.declared.batch.RefusedEdit.{RefusedEdit}
 
@@ -60,9 +60,15 @@ pub record IsSettled (st : Standing) : Type 0 where
   pub fresh : st.fresh ≡ []
   pub kept : st.kept ≡ styles_of st.scene
 
--- each line that is kept is that of the style that is kept
-abbrev pub Serves : Standing → List (Option (List ℕ)) → Type 0
-Serves st lines =
+-- What is kept of the lines of elements, told of each line in some way, is that of the style that is kept.
+abbrev pub ServesAs : {A : Type 0} → (List ℕ → A) → Standing → (ℕ → Option A) → Type 0
+ServesAs told st kept =
     (x : ℕ) (style : Style) → kept_at st x ≡ Some style
-    → IfSome (kept_line lines x)
-    (λ line. line ≡ encode_utf8_all (element_line x (tag_of (elements_of st.scene) x) style))
+    → IfSome (kept x) (λ one. one ≡ told (encode_utf8_all (element_line x (tag_of (elements_of st.scene) x) style)))
+
+-- lines that are kept, and lengths
+abbrev pub Serves : Standing → List (Option (List ℕ)) → Type 0
+Serves st lines = ServesAs (λ line. line) st (kept_line lines)
+
+abbrev pub ServesLengths : Standing → List ℕ → Type 0
+ServesLengths st lengths = ServesAs length st (kept_length lengths)

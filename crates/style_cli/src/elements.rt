@@ -120,7 +120,7 @@ fn print_element<K: Sink>(
 }
 
 /// The style of an element, where nothing is marked or fresh.
-fn style_of(session: &Session, number: u32) -> &Style
+pub(crate) fn style_of(session: &Session, number: u32) -> &Style
     requires element { IsElement (elements_of session.now.scene) number }
     requires settled { IsSettled session.now }
     ensures { result.now ≡ style_in session.now.scene number }

@@ -1,14 +1,20 @@
 //! `style run`: reads a job in JSON from standard input, and writes the computed style of every
-//! element to standard output.
+//! element to standard output. `style gen` makes a large job from a number, and writes the sums of that text.
 #![tactic(auto)]
 
 mod batch;
+mod beginning;
+mod commands;
 mod elements;
 mod heading;
 mod input;
+mod laws;
+mod lengths;
 mod lines;
 mod printing;
 mod status;
+mod summing;
+mod tally;
 #[cfg(test)]
 mod tests;
 mod top;

@@ -1,50 +1,44 @@
 //! The text of a job, written a line at a time.
 
-ghost use Rattle.std.specs.Prelude.{◌≡◌, ◌≤◌, ◌∷◌, [], IfOk, IsErrOf, OnErr, OnOk, length, map};
+ghost use Rattle.std.specs.Prelude.{◌≡◌, ◌≤◌, ◌∷◌, [], IsErrOf, OnErr, OnOk, length};
 ghost use Rattle.std.specs.Io.KnownBytes.{Appends};
 ghost use Rattle.std.specs.List.{AllByRecursion};
 ghost use Rattle.base_model.specs.Limits.{element_limit, sheet_limit};
 ghost use Rattle.edit_model.specs.Edit.{IsShapedEdit};
 ghost use Rattle.io_edges.specs.Cause.{HasCause};
-ghost use Rattle.layer_order.specs.View.{sheets_of};
-ghost use Rattle.scene_model.specs.Document.{document_of};
 ghost use Rattle.session_model.specs.Batches.{edited_all, report_of, reports_from};
-ghost use Rattle.session_model.specs.Standing.{restyled, started};
+ghost use Rattle.session_model.specs.Standing.{restyled};
 ghost use Rattle.session_model.specs.StandingInvariant.{IsReached};
-ghost use Rattle.sheet_set.specs.View.{listed_seen};
 ghost use Rattle.style_cli.specs.Loops.{GrewByFront};
 ghost use Rattle.style_cli.specs.Printing.{Serves, batches_seen, edits_seen};
-ghost use Rattle.style_cli.specs.Text.{batch_text, scene_from, text_from, text_of};
+ghost use Rattle.style_cli.specs.Text.{batch_text, text_from, text_of};
 
 use crate::batch::{Batch, make_batch};
+use crate::beginning::session_of;
 use crate::elements::print_elements;
 use crate::heading::print_heading;
 use crate::lines::Lines;
 use dom_edits::Edit;
-use dom_tree::{Doc, NodeList};
 use io_edges::{Sink, SinkRefused};
-use job_json::{Job, SheetList};
-use sheet_set::Sheets;
+use job_json::Job;
 use std::alloc::Global;
 use std::thread::Threads;
 use style_session::Session;
-use stylo_base::NoMemory;
 
-/// How many threads a restyle may use, and for how many elements styles are shared.
-const WORKERS: u32 = 4;
-
-const SHARE: u32 = 32;
-
-/// Writes the text of a job, each line as soon as it is made. The document takes the nodes over, what
-/// is kept of the sheets takes them over, and a session takes both over: no text is copied.
+/// Writes the text of a job, each line as soon as it is made. A restyle may use so many workers, and shares
+/// the styles of so many elements.
 pub(crate) fn print_job<R: Threads + Sync, K: Sink>(
     rt: &R,
     alloc: Global,
     job: Job,
+    workers: u32,
+    share: u32,
     sink: &mut K,
 ) -> Result<(), SinkRefused>
     requires nodes { length job.nodes ≤ element_limit }
     requires sheets { length job.sheets ≤ sheet_limit }
+    requires workers { (1 ≤ workers) × (workers ≤ 64) }
+    requires share { share ≤ 64 }
     ensures ok { OnOk result (Appends (K.held sink.old) (K.held sink.new) (text_of job)) }
     ensures err { OnErr result (GrewByFront (K.held sink.old) (K.held sink.new) (text_of job)) }
     ensures cause { HasCause (K.faults sink.old) (K.faults sink.new) (IsErrOf result SinkRefused.Failed) }
@@ -54,42 +48,8 @@ pub(crate) fn print_job<R: Threads + Sync, K: Sink>(
         sheets,
         batches,
     } = job;
-    let mut session = session_of(alloc, nodes, sheets)?;
+    let mut session = session_of(alloc, nodes, sheets, workers, share)?;
     print_batches(rt, alloc, &mut session, batches.as_slice(), sink)
-}
-
-/// A session over the document of these nodes and over these sheets.
-fn session_of(alloc: Global, nodes: NodeList, sheets: SheetList) -> Result<Session, NoMemory>
-    requires nodes { length nodes ≤ element_limit }
-    requires sheets { length sheets ≤ sheet_limit }
-    ensures session { IfOk result (λ session. session ≡ started (scene_from nodes sheets)) }
-    ensures reached { IfOk result IsReached }
-{
-    let rules = rules_of(alloc, sheets)?;
-    let doc = grown(alloc, nodes)?;
-    // The order is not asked: the call tells that the document is sound.
-    let _order = doc.in_tree_order();
-    Session::of_parts(alloc, doc, rules, WORKERS, SHARE)
-}
-
-// The parts of a run are not inlined, so that bench/profile can tell what each costs.
-
-/// The document made of these nodes. Their list is moved into it, not copied.
-#[inline(never)]
-fn grown(alloc: Global, nodes: NodeList) -> Result<Doc, NoMemory>
-    requires { length nodes ≤ element_limit }
-    ensures { IfOk result (λ doc. doc ≡ document_of nodes) }
-{
-    Doc::of_list(alloc, nodes)
-}
-
-/// The rules that the sheets hold. The list of the sheets is moved into them, not copied.
-#[inline(never)]
-fn rules_of(alloc: Global, sheets: SheetList) -> Result<Sheets, NoMemory>
-    requires { length sheets ≤ sheet_limit }
-    ensures { IfOk result (λ rules. listed_seen rules ≡ record { listed = sheets_of sheets; last = length sheets }) }
-{
-    Sheets::of_list(alloc, sheets.into_vec())
 }
 
 /// Writes what comes of batches: first that of the job before any edit.

@@ -55,12 +55,16 @@ impl Status {
         }
     }
 
-    /// Says on standard error what went wrong, in one line. Nothing at `Done`.
+    /// Says on standard error what went wrong, in one line, or in two how the program is used. Nothing
+    /// at `Done`.
     pub(crate) fn report(&self, rt: &impl Eprint) -> io::Result<()> {
         match self {
             Status::Done => Ok(()),
             Status::ReadFault => eprintln!(rt; "style: cannot read the input"),
-            Status::Usage => eprintln!(rt; "usage: style run"),
+            Status::Usage => {
+                eprintln!(rt; "usage: style run [--workers N] [--share N]")?;
+                eprintln!(rt; "       style gen --seed N --nodes N --batches N [--workers N]")
+            }
             Status::NotJson => eprintln!(rt; "style: the input is not JSON"),
             Status::NotAJob(path) => {
                 let at = path.as_str();

@@ -31,12 +31,9 @@ const LINE: [&str; 2] = ["style", "run"];
 const JOB: &[u8] = b"{\"version\":1,\"nodes\":[{\"tag\":\"html\"},{\"tag\":\"p\",\"parent\":0}],\
     \"sheets\":[{\"origin\":\"author\",\"text\":\"p{clear:left}\"}]}";
 
-/// The text of that job, and what the sink holds where its third write fails.
+/// The text of that job.
 const TEXT: &str = "batch 0: 0 accepted, 0 refused, 2 matched, 2 cascaded\n\
     1 html{display: block}\n2 p{clear: left}\n";
-
-const TWO_LINES: &str =
-    "batch 0: 0 accepted, 0 refused, 2 matched, 2 cascaded\n1 html{display: block}\n";
 
 #[test]
 fn a_job(rt: HostRuntime) -> Result<(), Fail> {
@@ -46,22 +43,37 @@ fn a_job(rt: HostRuntime) -> Result<(), Fail> {
 }
 
 #[test]
-fn the_last_write_fails(rt: HostRuntime) -> Result<(), Fail> {
-    let failed = gives(&rt, &LINE, JOB, (&[], &[3]), (6, TWO_LINES))?;
-    assert!(rt; failed);
-    Ok(())
-}
-
-#[test]
-fn the_first_read_fails(rt: HostRuntime) -> Result<(), Fail> {
-    let failed = gives(&rt, &LINE, JOB, (&[1], &[]), (1, ""))?;
-    assert!(rt; failed);
-    Ok(())
-}
-
-#[test]
 fn the_read_at_the_end_fails(rt: HostRuntime) -> Result<(), Fail> {
     let failed = gives(&rt, &LINE, JOB, (&[2], &[]), (1, ""))?;
+    assert!(rt; failed);
+    Ok(())
+}
+
+const GEN_LINE: [&str; 8] = [
+    "style",
+    "gen",
+    "--seed",
+    "1",
+    "--nodes",
+    "5",
+    "--batches",
+    "2",
+];
+
+const SUMS: &str =
+    "nodes 5, batches 2, accepted 7, refused 1, matched 10, cascaded 10, lines 20, bytes 1120\n";
+
+/// A generated job does not read the source, which would fail.
+#[test]
+fn a_generated_job(rt: HostRuntime) -> Result<(), Fail> {
+    let done = gives(&rt, &GEN_LINE, b"", (&[1], &[]), (0, SUMS))?;
+    assert!(rt; done);
+    Ok(())
+}
+
+#[test]
+fn its_only_write_fails(rt: HostRuntime) -> Result<(), Fail> {
+    let failed = gives(&rt, &GEN_LINE, b"", (&[1], &[1]), (6, ""))?;
     assert!(rt; failed);
     Ok(())
 }

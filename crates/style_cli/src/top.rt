@@ -1,18 +1,21 @@
 //! All that the program does, over any ends.
 
-ghost use Rattle.std.specs.Prelude.{◌≡◌, ◌≢◌, ◌+◌, ◌≤◌, ◌⊎◌, ◌↔◌, ℕ, List, None, Some, Err, IfErr, IfOk, IfSome, OnOk, length, map, string_bytes};
+ghost use Rattle.std.specs.Prelude.{◌≡◌, ◌≢◌, ◌+◌, ◌≤◌, ◌⊎◌, ℕ, List, None, Some, Err, IfErr, IfOk, IfSome, OnOk, false, length, map, string_bytes, true};
 ghost use Rattle.io_edges.specs.Cause.{HasCause, Rose};
 ghost use Rattle.stylo_base.specs.declared.refusal.Kind.{Kind};
 ghost use Rattle.job_json.specs.JobOf.{not_json, bad_shape};
 ghost use Rattle.style_cli.specs.Words.{line_of};
-ghost use Rattle.style_cli.specs.Answer.{IsReadAs, IsPast, IsJob, IsPrinted, IsFrontPrinted, IsReadToEnd, IsAnswerTo, IsEarly, IsUnread, IsRefused, IsTold, job_of_input};
-ghost use Rattle.base_model.specs.Limits.{element_limit, input_limit, sheet_limit};
-ghost use Rattle.style_cli.specs.Loops.{LosesAtMost};
+ghost use Rattle.style_cli.specs.Answer.{IsReadAs, IsPast, IsJob, IsLate, IsOf, IsPrinted, IsFrontPrinted, IsReadToEnd, IsAnswerTo, IsEarly, IsUnread, IsRefused, IsTold, due_text, input_of, job_of_input, reads_input};
+ghost use Rattle.std.specs.Io.KnownBytes.{Appends};
+ghost use Rattle.base_model.specs.Limits.{batch_limit, element_limit, input_limit, sheet_limit};
+ghost use Rattle.style_cli.specs.Loops.{GrewByFront, LosesAtMost};
+ghost use Rattle.style_cli.specs.Sums.{summary_text};
 
 use crate::input::{InputError, read_all};
 use crate::printing::print_job;
 use crate::status::Status;
-use crate::words::read_line;
+use crate::summing::{Wanted, print_summary};
+use crate::words::{Line, WordsError, read_line};
 use io_edges::{Sink, SinkRefused, Source};
 use job_json::{Job, JobFault};
 use std::alloc::Global;
@@ -20,12 +23,12 @@ use std::thread::Threads;
 use stylo_base::Kind;
 use stylo_base::limits::INPUT_LIMIT;
 
-/// Reads the job that `source` has left, and writes each element's style to `sink`, before any edit and
-/// after each batch of edits.
+/// Does what the words ask for, of which the first is the program's name. They are tested first.
 ///
-/// The words are tested first, of which the first is the program's name. Then the source is read to
-/// its end, or to one byte past 67,108,864, and then each line is written as soon as it is made, in
-/// one write where the sink takes whole pieces. It never waits.
+/// `run` reads the job that `source` has left, to its end or to one byte past 67,108,864, and writes each
+/// element's style to `sink`, before any edit and after each batch of edits: each line as soon as it is made,
+/// in one write where the sink takes whole pieces. `gen` makes a large job from a number, and writes the sums
+/// of the text that `run` would write of it; the source is not read. Neither ever waits.
 pub fn run<R: Threads + Sync, S: Source, K: Sink>(
     rt: &R,
     alloc: Global,
@@ -33,9 +36,12 @@ pub fn run<R: Threads + Sync, S: Source, K: Sink>(
     source: &mut S,
     sink: &mut K,
 ) -> Status
-    // The words are the only cause of Usage, which reads nothing.
-    ensures usage { (result ≡ Status.Usage) ↔ (line_of (map string_bytes words.items) ≡ None) }
-    ensures unread { result ≡ Status.Usage → S.left source.new ≡ S.left source.old }
+    // The words are the only cause of Usage: words that are no command line give it, or there is no memory to
+    // read them. Then, and with a generated job, which ends with no status of an input, nothing is read.
+    ensures usage { IsOf (line_of (map string_bytes words.items)) result }
+    ensures unread { reads_input (line_of (map string_bytes words.items)) ≡ false
+        → S.left source.new ≡ S.left source.old }
+    ensures unwritten { line_of (map string_bytes words.items) ≡ None → K.held sink.new ≡ K.held sink.old }
 
     // A fault of reading or writing is answered only where the counts of faults rose in this call.
     ensures read_fault { result ≡ Status.ReadFault → Rose (S.faults source.old) (S.faults source.new)
@@ -49,21 +55,22 @@ pub fn run<R: Threads + Sync, S: Source, K: Sink>(
         → IsReadAs (S.left source.old) (bad_shape path) × IsReadToEnd (S.left source.old) (S.left source.new) }
     ensures limit { (kind : Kind) (number : ℕ) → result ≡ Status.Limit kind number
         → IsPast kind number (S.left source.old) (S.left source.new) }
-    ensures job { result ≡ Status.WriteFault → IsJob (S.left source.old)
-        × IsReadToEnd (S.left source.old) (S.left source.new) }
+    ensures job { reads_input (line_of (map string_bytes words.items)) ≡ true → result ≡ Status.WriteFault
+        → IsJob (S.left source.old) × IsReadToEnd (S.left source.old) (S.left source.new) }
 
     // The source is never read further than one byte past the limit.
     ensures most { LosesAtMost (input_limit + 1) (S.left source.old) (S.left source.new) }
 
-    // And an input gets the status that it calls for, whatever the sink does.
+    // And where it is read, an input gets the status that it calls for, whatever the sink does.
     ensures due { (bytes : List ℕ) → S.left source.old ≡ Some bytes
-        → line_of (map string_bytes words.items) ≢ None → IsAnswerTo bytes result }
+        → reads_input (line_of (map string_bytes words.items)) ≡ true → IsAnswerTo bytes result }
 
-    // With Done the sink holds what it held before and then exactly the job's text, and the input
-    // was read to its end.
+    // With Done the sink holds what it held before and then exactly the text that is due, the job's or the line
+    // of sums, and an input that is read was read to its end.
     ensures done { result ≡ Status.Done → IsPrinted (line_of (map string_bytes words.items))
-        (S.left source.old) (K.held sink.old) (K.held sink.new)
-        × IsReadToEnd (S.left source.old) (S.left source.new) }
+        (S.left source.old) (K.held sink.old) (K.held sink.new) }
+    ensures end { reads_input (line_of (map string_bytes words.items)) ≡ true → result ≡ Status.Done
+        → IsReadToEnd (S.left source.old) (S.left source.new) }
 
     // After a failed write it holds a front of that text, and where it is out of memory such a front
     // or what it held before.
@@ -74,20 +81,108 @@ pub fn run<R: Threads + Sync, S: Source, K: Sink>(
         ⊎ (K.held sink.new ≡ K.held sink.old) }
     ensures kept { IsEarly result → K.held sink.new ≡ K.held sink.old }
 
-    // A command line and a job, with no fault of either end, are answered by Done, if there is memory.
+    // A command line for which a text is due, with no fault of either end, is answered by Done, if there is
+    // memory. With a generated job the source has no part in it.
+    ensures complete { (bytes text : List ℕ)
+        → input_of (line_of (map string_bytes words.items)) (S.left source.old) ≡ Some bytes
+        → due_text (line_of (map string_bytes words.items)) bytes ≡ Some text
+        → (reads_input (line_of (map string_bytes words.items)) ≡ true
+        → ¬ Rose (S.faults source.old) (S.faults source.new))
+        → ¬ Rose (K.faults sink.old) (K.faults sink.new)
+        → (result ≡ Status.Done) ⊎ (result ≡ Status.NoMemory) }
+{
+    match read_line(alloc, &words) {
+        Ok(Line::Run { workers, share }) => run_job(rt, alloc, workers, share, source, sink),
+        Ok(
+            Line::Gen {
+                seed,
+                nodes,
+                batches,
+                workers,
+            },
+        ) => {
+            let wanted = Wanted {
+                seed,
+                nodes,
+                batches,
+            };
+            run_generated(rt, alloc, wanted, workers, sink)
+        }
+        Err(WordsError::NoLine) => Status::Usage,
+        Err(WordsError::NoMemory) => Status::NoMemory,
+    }
+}
+
+/// Reads the job that the source has left, and writes its text.
+fn run_job<R: Threads + Sync, S: Source, K: Sink>(
+    rt: &R,
+    alloc: Global,
+    workers: u32,
+    share: u32,
+    source: &mut S,
+    sink: &mut K,
+) -> Status
+    requires workers { (1 ≤ workers) × (workers ≤ 64) }
+    requires share { share ≤ 64 }
+    ensures usage { result ≢ Status.Usage }
+    ensures read_fault { result ≡ Status.ReadFault → Rose (S.faults source.old) (S.faults source.new)
+        × LosesAtMost input_limit (S.left source.old) (S.left source.new) }
+    ensures write_fault { result ≡ Status.WriteFault → Rose (K.faults sink.old) (K.faults sink.new) }
+    ensures not_json { result ≡ Status.NotJson → IsReadAs (S.left source.old) not_json
+        × IsReadToEnd (S.left source.old) (S.left source.new) }
+    ensures not_a_job { (path : List ℕ) → result ≡ Status.NotAJob path
+        → IsReadAs (S.left source.old) (bad_shape path) × IsReadToEnd (S.left source.old) (S.left source.new) }
+    ensures limit { (kind : Kind) (number : ℕ) → result ≡ Status.Limit kind number
+        → IsPast kind number (S.left source.old) (S.left source.new) }
+    ensures job { result ≡ Status.WriteFault → IsJob (S.left source.old)
+        × IsReadToEnd (S.left source.old) (S.left source.new) }
+    ensures most { LosesAtMost (input_limit + 1) (S.left source.old) (S.left source.new) }
+    ensures due { (bytes : List ℕ) → S.left source.old ≡ Some bytes → IsAnswerTo bytes result }
+    ensures done { result ≡ Status.Done → IsPrinted (Some (Line.Run workers share))
+        (S.left source.old) (K.held sink.old) (K.held sink.new) }
+    ensures end { result ≡ Status.Done → IsReadToEnd (S.left source.old) (S.left source.new) }
+    ensures front { result ≡ Status.WriteFault → IsFrontPrinted (Some (Line.Run workers share))
+        (S.left source.old) (K.held sink.old) (K.held sink.new) }
+    ensures no_memory { result ≡ Status.NoMemory → IsFrontPrinted (Some (Line.Run workers share))
+        (S.left source.old) (K.held sink.old) (K.held sink.new)
+        ⊎ (K.held sink.new ≡ K.held sink.old) }
+    ensures kept { IsEarly result → K.held sink.new ≡ K.held sink.old }
     ensures complete { (bytes : List ℕ) → S.left source.old ≡ Some bytes → IsJob (S.left source.old)
-        → line_of (map string_bytes words.items) ≢ None
         → ¬ Rose (S.faults source.old) (S.faults source.new) → ¬ Rose (K.faults sink.old) (K.faults sink.new)
         → (result ≡ Status.Done) ⊎ (result ≡ Status.NoMemory) }
 {
-    if read_line(&words).is_none() {
-        return Status::Usage;
-    }
     let job = match read_job(alloc, source) {
         Ok(job) => job,
         Err(status) => return status,
     };
-    match print_job(rt, alloc, job, sink) {
+    match print_job(rt, alloc, job, workers, share, sink) {
+        Ok(()) => Status::Done,
+        Err(SinkRefused::Failed) => Status::WriteFault,
+        Err(SinkRefused::NoMemory) => Status::NoMemory,
+    }
+}
+
+/// Makes the job of a number, and writes the line of sums over its batches.
+fn run_generated<R: Threads + Sync, K: Sink>(
+    rt: &R,
+    alloc: Global,
+    wanted: Wanted,
+    workers: u32,
+    sink: &mut K,
+) -> Status
+    requires nodes { (1 ≤ wanted.nodes) × (wanted.nodes ≤ element_limit) }
+    requires batches { wanted.batches ≤ batch_limit }
+    requires workers { (1 ≤ workers) × (workers ≤ 64) }
+    ensures late { IsLate result }
+    ensures write_fault { result ≡ Status.WriteFault → Rose (K.faults sink.old) (K.faults sink.new) }
+    ensures done { result ≡ Status.Done
+        → Appends (K.held sink.old) (K.held sink.new) (summary_text wanted.seed wanted.nodes wanted.batches) }
+    ensures front { result ≢ Status.Done
+        → GrewByFront (K.held sink.old) (K.held sink.new) (summary_text wanted.seed wanted.nodes wanted.batches) }
+    ensures complete { ¬ Rose (K.faults sink.old) (K.faults sink.new)
+        → (result ≡ Status.Done) ⊎ (result ≡ Status.NoMemory) }
+{
+    match print_summary(rt, alloc, wanted, workers, sink) {
         Ok(()) => Status::Done,
         Err(SinkRefused::Failed) => Status::WriteFault,
         Err(SinkRefused::NoMemory) => Status::NoMemory,

@@ -59,10 +59,10 @@ same-listed old new same = lists same.sheets same.last
     lists items last = cc
 
 pub same-sources : (old new : Sheets) → AreSameSheets old new → sources_seen new ≡ sources_seen old
-same-sources old new same = sources same.rules same.selectors same.layers
+same-sources old new same = sources same.positions same.rules same.selectors same.layers
   where
-    sources : new.rules.items ≡ old.rules.items → new.selectors.items ≡ old.selectors.items → new.layers ≡ old.layers → sources_seen new ≡ sources_seen old
-    sources rules selectors layers = cc
+    sources : new.positions.items ≡ old.positions.items → new.rules.items ≡ old.rules.items → new.selectors.items ≡ old.selectors.items → new.layers ≡ old.layers → sources_seen new ≡ sources_seen old
+    sources positions rules selectors layers = cc
 
 -- what marks elements still does, where there is more room
 pub can-mark-still : (document : Document) (before after : Sources) (marks now : Members) (marking : Option Marking) → after ≡ before → marks.room ≤ now.room → IfSome marking (CanMark document before marks) → IfSome marking (CanMark document after now)

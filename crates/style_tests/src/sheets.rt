@@ -43,8 +43,8 @@ fn shorthands(rt: HostRuntime) -> Result<(), Fail> {
 
 /// Where the last rule of two stands: its sheet's position, and how many declarations come before it.
 fn last_place(sheets: &Sheets) -> (u32, u32, u64) {
-    match sheets.rules() {
-        [_, rule] => (rule.sheet(), rule.position(), rule.first_index()),
+    match (sheets.rules(), sheets.positions()) {
+        ([_, rule], [_, position]) => (rule.sheet(), *position, rule.first_index()),
         _ => (0, 0, 0),
     }
 }

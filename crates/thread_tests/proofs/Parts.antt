@@ -12,6 +12,7 @@ use Rattle.selector_types.specs.contracts.selector.Selector as Selector
 use Rattle.selector_types.proofs.complex.Test.TheLaws.TheKnot as complex
 use Rattle.shorthands.proofs.declared.Declared.TheSendSync as declared
 use Rattle.sheet_set.specs.contracts.kept_sheet.KeptSheet as KeptSheet
+use Rattle.sheet_set.specs.contracts.sheet_rule.RuleBody as RuleBody
 use Rattle.sheet_set.specs.contracts.sheet_rule.SheetRule as SheetRule
 use Rattle.sheet_set.specs.contracts.sheets.Sheets as Sheets
 use Rattle.dom_tree.specs.contracts.doc.Doc as Doc
@@ -59,11 +60,17 @@ layers_send = search (name_send, sendable, crosses) depth 60 fits 20000
 pub layers_sync : IsSync Layers.the_row
 layers_sync = search (name_sync, sendable, crosses) depth 60 fits 20000
 
+pub body_send : IsSend RuleBody.the_row
+body_send = search (name_send, declared.the_field_send, sendable, crosses) depth 40 fits 20000
+
+pub body_sync : IsSync RuleBody.the_row
+body_sync = search (name_sync, declared.the_field_sync, sendable, crosses) depth 40 fits 20000
+
 pub rule_send : IsSend SheetRule.the_row
-rule_send = search (name_send, declared.the_field_send, sendable, crosses) depth 40 fits 20000
+rule_send = search (body_send, sendable, crosses) depth 40 fits 20000
 
 pub rule_sync : IsSync SheetRule.the_row
-rule_sync = search (name_sync, declared.the_field_sync, sendable, crosses) depth 40 fits 20000
+rule_sync = search (body_sync, sendable, crosses) depth 40 fits 20000
 
 pub kept_send : IsSend KeptSheet.the_row
 kept_send = search (rule_send, name_send, selector_send, origin.the_field_send, sendable, crosses) depth 40 fits 20000

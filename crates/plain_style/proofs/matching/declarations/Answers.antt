@@ -1,11 +1,11 @@
 use Rattle.std.proofs.Common.{◌≡◌, ◌<◌, ◌≤◌, ◌∷◌, ◌+◌, ◌++◌, [], None, Some, map, slice_get, drop, get_or, length, ap, sym, ◌∙◌, append-nil, flat_map, arith, rules as the_rules}
 use Rattle.std.proofs.lemmas.List.{drop_all, get_or-map}
-use Rattle.std.proofs.lemmas.Option.{slice_get-get_or, slice_get_past}
+use Rattle.std.proofs.lemmas.Option.{slice_get-get_or}
 use Rattle.base_model.proofs.Lists.{slice_get_some}
 use Rattle.cascade_core.specs.View.{matched_of}
 use Rattle.cascade_model.specs.Matching.{all_matched}
 use Rattle.sheet_set.specs.Ranks.{rank_seen}
-use Rattle.sheet_set.specs.View.{placed_rule_of, rules_of, sources_seen}
+use Rattle.sheet_set.specs.View.{placed_rule_of, put_at, rules_of, sources_seen}
 use Rattle.sheet_set.proofs.Collected.{none_left, one_more}
 use Rattle.sheet_set.proofs.Left.{item_at}
 use Rattle.plain_style.specs.MatchedRules.{declarations_of, rule_declares}
@@ -33,14 +33,19 @@ loop-one-preserved c =
           let below : one.rule < length rs = search the_rules in
           let is : rule ≡ get_or rs one.rule rule = search the_rules in
           let at : slice_get sheets.rules.items one.rule ≡ Some rule = ap (λ l. slice_get l one.rule) (sym c.rules-rules.ensures) ∙ (slice_get-get_or rs one.rule rule below ∙ ap Some (sym is)) in
-          let (list, beside) = slice_get_some ls one.rule (omega (arith, below, ap length c.rules-rules.ensures, sheets.paired)) in
-          let own = placed_rule_of rule list.items in
-          let placed : slice_get (rules_of sheets) one.rule ≡ Some own = rule_at sheets.rules.items ls one.rule rule list at beside in
+          let (list, beside) = slice_get_some ls one.rule (omega (arith, below, ap length c.rules-rules.ensures, sheets.paired, sheets.rules.ok, sheets.selectors.ok)) in
+          let ps = c.positions-positions.result.now in
+          let position = get_or ps one.rule 0 in
+          let stands : slice_get sheets.positions.items one.rule ≡ Some position =
+          ap (λ l. slice_get l one.rule) (sym c.positions-positions.ensures.list)
+          ∙ slice_get-get_or ps one.rule 0 (omega (arith, below, ap length c.rules-rules.ensures, c.positions-positions.ensures.paired)) in
+          let own = put_at position (placed_rule_of rule list.items) in
+          let placed : slice_get (rules_of sheets) one.rule ≡ Some own = rule_at sheets one.rule position rule list stands at beside in
           let ranked : get_or c.ranks-ranks.result.now one.rule 0 ≡ rank_seen sheets.layers rule = ap (λ l. get_or l one.rule 0) (c.ranks-ranks.ensures.list ∙ ap (map (rank_seen sheets.layers)) (sym c.rules-rules.ensures)) ∙ (get_or-map (rank_seen sheets.layers) rs one.rule rule 0 below ∙ ap (rank_seen sheets.layers) (sym is)) in
           one_more (rule_declares sources) old _ _ _ _ one (all_matched sheets.layers own one.specificity own.first_index own.declarations) here (declares_at sources own one placed) (ap (λ v. flat_map matched_of v.items) w.list-is ∙ w.in_ok-add_declarations.ensures sheets.layers list.items ranked) c.loop-one.invariant)
       | in_default w ↦ (let past : length rs ≤ one.rule = search the_rules in
-          let at : slice_get sheets.rules.items one.rule ≡ None = ap (λ l. slice_get l one.rule) (sym c.rules-rules.ensures) ∙ slice_get_past rs one.rule past in
-          one_more (rule_declares sources) old _ _ _ _ one [] here (declares_none sources one (no_rule_at sheets.rules.items ls one.rule at)) (ap (λ v. flat_map matched_of v.items) w.list-is ∙ sym (append-nil old)) c.loop-one.invariant)
+          let none : slice_get (rules_of sheets) one.rule ≡ None = no_rule_at sheets one.rule (omega (arith, past, ap length c.rules-rules.ensures)) in
+          one_more (rule_declares sources) old _ _ _ _ one [] here (declares_none sources one none) (ap (λ v. flat_map matched_of v.items) w.list-is ∙ sym (append-nil old)) c.loop-one.invariant)
     ]
 
 pub returns : goal.returns

@@ -5,7 +5,7 @@ use Rattle.std.proofs.lemmas.List.{length-map, map-append, take-map, drop-map}
 use Rattle.edit_model.specs.SheetApply.{with_enabled}
 use Rattle.sheet_set.specs.Kept.{kept_seen, own_kept, taking}
 use Rattle.sheet_set.specs.Ranks.{rank_seen}
-use Rattle.sheet_set.specs.Rules.{AreSame, rules_at, rules_with, unplaced}
+use Rattle.sheet_set.specs.Rules.{AreSame, rules_at, rules_with}
 use Rattle.sheet_set.specs.Standing.{rank_placed}
 use Rattle.sheet_set.proofs.MovedRules.{front-within, total-within}
 use Rattle.sheet_set.proofs.Standings.{come-off, come-on}
@@ -83,7 +83,7 @@ returns-clause-kept c =
           let ranked = ap (λ v. v.items) w.ranks-is ∙ (w.put_ranks.ensures ∙ ap (λ l. take at ranks.items ++ (map (rank_seen layers) l ++ drop at ranks.items)) w.own_rules.ensures) in
           let paired : length all.rules.items ≡ length all.selectors.items =
           omega (arith, ap (λ v. vec_len v) w.rules-is, ap (λ v. vec_len v) w.selectors-is, w.bring_in.ensures.paired, all.rules.ok, all.selectors.ok) in
-          let own : AreSame (unplaced (own_kept sheet)) (rules_at 0 (kept_seen sheet)) = ∥∥₁_map sheet.own (λ o. o ∙ cond-false sheet.enabled [] (rules_at 0 (kept_seen sheet)) c.requires.off) in
+          let own : AreSame (own_kept sheet) (rules_at 0 (kept_seen sheet)) = ∥∥₁_map sheet.own (λ o. o ∙ cond-false sheet.enabled [] (rules_at 0 (kept_seen sheet)) c.requires.off) in
           let same : length sheet.rules.items ≡ length sheet.selectors.items = omega (arith, sheet.paired, sheet.rules.ok, sheet.selectors.ok) in
           come-on sheets rules.items lists.items layers ranks.items c.requires.kept new.items all.rules.items all.selectors.items all.ranks.items paired
           place all.sheet come sheet sheet.rules.items sheet.selectors.items at is_at (ap kept_seen w.sheet-is ∙ w.bring_in.ensures.sheet) own same are ranked

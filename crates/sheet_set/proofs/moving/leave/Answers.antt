@@ -3,7 +3,7 @@ use Rattle.std.proofs.Math.Logic.{∥∥₁_map}
 use Rattle.std.proofs.lemmas.List.{length-map}
 use Rattle.edit_model.specs.SheetApply.{with_enabled}
 use Rattle.sheet_set.specs.Kept.{kept_seen, taking}
-use Rattle.sheet_set.specs.Rules.{put_at, rules_at, rules_with}
+use Rattle.sheet_set.specs.Rules.{rules_at, rules_with}
 use Rattle.sheet_set.specs.Standing.{rank_placed}
 use Rattle.sheet_set.proofs.Going.{no_longer}
 use Rattle.sheet_set.proofs.SheetAt.{count-of, one-at}
@@ -43,7 +43,7 @@ take_out-requires-clause-its c =
     let on : it.enabled ≡ true = sym c.is_enabled.ensures ∙ c.if-is_enabled.true in
     let parts = taking-on sheets place it c.requires.within c.remove-sheet.ensures.value on in
     ∥∥₁_map c.requires.kept.texts (λ texts.
-    part_is (put_at 0) (rules_with c.args.rules.now.items c.args.selectors.now.items) before (rules_at 0 (kept_seen it)) after c.taking_count-at.result it.count (texts ∙ parts) at (rules_count it))
+    part_is (rules_with c.args.rules.now.items c.args.selectors.now.items) before (rules_at 0 (kept_seen it)) after c.taking_count-at.result it.count (texts ∙ parts) at (rules_count it))
 
 pub drop_part-requires : goal.drop_part-requires
 drop_part-requires c =

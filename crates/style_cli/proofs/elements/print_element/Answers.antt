@@ -5,6 +5,7 @@ use Rattle.dom_tree.proofs.ColumnLemmas.{on_ok}
 use Rattle.scene_model.specs.Document.{Document}
 use Rattle.scene_model.specs.Lookups.{tag_of}
 use Rattle.session_model.specs.Standing.{elements_of, style_in}
+use Rattle.style_cli.specs.KeptLines.{kept_line}
 use Rattle.style_cli.specs.Printing.{Serves}
 use Rattle.style_cli.proofs.ServeLemmas.{made_line, serves-kept}
 use Rattle.style_cli.proofs.SettledLemmas.{kept-settled}
@@ -21,6 +22,6 @@ returns-clause-serves g c =
     let text = c.as_str.ensures.bytes ∙ ap encode_utf8_all made in
     let bytes = c.as_bytes-bytes.ensures.value ∙ text in
     on_ok c.write_all.result (Serves st c.if-keeps.lines) (elim c.if-keeps.branch [
-      | then-keeps+in_ok-keep w ↦ subst (Serves st) (sym w.lines-is) (serves-kept st c.args.lines.now w.keep.new.self n (style_in st.scene n) c.as_bytes-bytes.result.now c.requires.serves at bytes w.keep.ensures.own w.keep.ensures.others)
+      | then-keeps+in_ok-keep w ↦ subst (Serves st) (sym w.lines-is) (serves-kept (λ l. l) st (kept_line c.args.lines.now) (kept_line w.keep.new.self) n (style_in st.scene n) c.as_bytes-bytes.result.now c.requires.serves at bytes w.keep.ensures.own w.keep.ensures.others)
       | else-keeps w ↦ subst (Serves st) (sym w.lines-is) c.requires.serves
     ])

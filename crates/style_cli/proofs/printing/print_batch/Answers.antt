@@ -1,5 +1,6 @@
 use Rattle.base_model.proofs.Results.{on_err}
 use Rattle.session_model.specs.Batches.{report_of}
+use Rattle.style_cli.specs.KeptLines.{kept_line}
 use Rattle.style_cli.specs.Printing.{edits_seen, elements_bytes, heading_bytes}
 use Rattle.style_cli.specs.Text.{batch_text}
 use Rattle.style_cli.proofs.EditedLemmas.{are_refused}
@@ -14,7 +15,7 @@ print_heading-requires g c =
 pub print_elements-requires-clause-serves : goal.print_elements-requires-clause-serves
 print_elements-requires-clause-serves g c =
     let edits = c.args.batch.edits.now in
-    serves-batch c.args.session.now c.make_batch.new.session c.requires.reached (edits_seen edits) c.in_ok-heading.ensures.shaped c.in_ok-heading.ensures.session c.args.lines.now c.forget.new.self c.cascaded.result.now c.requires.serves c.cascaded.ensures.elements c.forget.ensures.gone c.forget.ensures.left
+    serves-batch (λ l. l) c.args.session.now c.make_batch.new.session c.requires.reached (edits_seen edits) c.in_ok-heading.ensures.shaped c.in_ok-heading.ensures.session (kept_line c.args.lines.now) (kept_line c.forget.new.self) c.cascaded.result.now c.requires.serves c.cascaded.ensures.elements c.forget.ensures.gone c.forget.ensures.left
 
 pub returns-in_err-print_heading-clause-err : goal.returns-in_err-print_heading-clause-err
 returns-in_err-print_heading-clause-err g c =

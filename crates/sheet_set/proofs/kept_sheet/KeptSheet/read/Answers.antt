@@ -2,9 +2,9 @@ use Rattle.std.proofs.Common.{◌≡◌, ◌++◌, length, ap, sym, ◌∙◌, a
 use Rattle.layer_order.specs.View.{declarations}
 use Rattle.sheet_model.specs.Sources.{edition_of, sheet_layers}
 use Rattle.sheet_model.specs.StyleRules.{style_rules_in}
-use Rattle.sheet_set.specs.Rules.{rules_at, rules_with, sheet_read, unplaced}
+use Rattle.sheet_set.specs.Rules.{rules_at, rules_with, sheet_read}
 use Rattle.sheet_set.proofs.Placing.{length-placed}
-use Rattle.sheet_set.proofs.Taking.{length-with, unplaced-at}
+use Rattle.sheet_set.proofs.Taking.{length-with}
 use Rattle.sheet_set.proofs.kept_sheet.KeptSheet.read.Goals as goal
 
 pub invariant_of-result : goal.invariant_of-result
@@ -19,7 +19,7 @@ invariant_of-result c =
     record {
       paired = omega (arith, kept.paired, read.rules.ok, read.selectors.ok);
       held = sym c.len.ensures;
-      own = ∣ ap unplaced are ∙ unplaced-at 0 sheet ∣₁;
+      own = ∣ are ∣₁;
       declared = kept.layers ∙ ap (λ l. declarations l ++ sheet_layers sheet) c.new-read.ensures.layers;
       counted = omega (arith, c.len.ensures, long, lengths, counted, read.rules.ok);
     }

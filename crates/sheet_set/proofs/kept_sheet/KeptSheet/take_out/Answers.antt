@@ -2,7 +2,7 @@ use Rattle.std.proofs.Common.{◌≡◌, ◌++◌, [], false, length, take, drop
 use Rattle.std.proofs.lemmas.List.{nil_from_length}
 use Rattle.edit_model.specs.SheetApply.{with_enabled}
 use Rattle.sheet_set.specs.Kept.{kept_seen}
-use Rattle.sheet_set.specs.Rules.{AreSame, rules_at, rules_with, unplaced}
+use Rattle.sheet_set.specs.Rules.{AreSame, rules_at, rules_with}
 use Rattle.sheet_set.proofs.Taking.{at-enabled, length-part, part_of, taken_out}
 use Rattle.sheet_set.proofs.kept_sheet.KeptSheet.take_out.Goals as goal
 
@@ -27,7 +27,7 @@ invariant_of-self c =
     record {
       paired = omega (arith, long, there, its.ok, their.ok);
       held = omega (arith, long, its.ok);
-      own = subst (λ l. AreSame (unplaced l) (rules_at 0 (with_enabled false sheet))) (sym are) (subst (AreSame (unplaced (take count (drop at (rules_with rules.items lists.items))))) (sym (at-enabled sheet false 0)) c.requires.its);
+      own = subst (λ l. AreSame l (rules_at 0 (with_enabled false sheet))) (sym are) (subst (AreSame (take count (drop at (rules_with rules.items lists.items)))) (sym (at-enabled sheet false 0)) c.requires.its);
       declared = c.args.self.now.declared;
       counted = c.args.self.now.counted;
     }

@@ -23,12 +23,12 @@ returns-clause-adds c =
     let rule = c.in_ok-rule.rule in
     let made = c.in_ok-rule.ensures in
     let some : selectors_in style.prelude ≡ Some (map selector_of list.items) = ap selectors_in (sym c.as_slice.ensures) ∙ (sym c.in_ok-selectors.ensures ∙ ap (option_map (λ l. map selector_of l.items)) c.in-Some.is) in
-    let kept : flat_map declared_of rule.declarations.items ≡ block_declared style.block = ap (λ v. flat_map declared_of v.items) made.0 ∙ (c.in_ok-declarations.ensures ∙ ap block_declared c.as_slice-2.ensures) in
+    let kept : flat_map declared_of rule.body.value.declarations.items ≡ block_declared style.block = ap (λ v. flat_map declared_of v.items) made.0 ∙ (c.in_ok-declarations.ensures ∙ ap block_declared c.as_slice-2.ensures) in
     let read = style_is style (map selector_of list.items) some in
     ap (λ l. rules_with l c.push-2.new.self.items) c.in_ok-push.ensures.items
     ∙ (ap (rules_with (before ++ rule ∷ [])) c.in_ok-push-2.ensures.items
     ∙ (rules_with-last before lists rule list c.requires
-    ∙ ap (λ l. rules_with before lists ++ l) (ap (λ r. r ∷ []) (rule_is rule list.items _ style.context sheet 0 c.args.index kept (ap origin_of made.1.0) (made.1.1.0 ∙ c.in_ok-share.ensures) made.1.1.1.0 made.1.1.1.1.0 made.1.1.1.1.1)
+    ∙ ap (λ l. rules_with before lists ++ l) (ap (λ r. r ∷ []) (rule_is rule list.items _ style.context sheet c.args.index kept (ap origin_of made.1.0) (made.1.1.0 ∙ c.in_ok-share.ensures) made.1.1.1.0 made.1.1.1.1)
     ∙ sym (ap (λ (o : Option StyleRule). all_placed sheet 0 c.args.index (option_to_list o)) read))))
 
 pub returns-clause-next : goal.returns-clause-next
@@ -38,8 +38,8 @@ returns-clause-next c =
     let rule = c.in_ok-rule.rule in
     let made = c.in_ok-rule.ensures in
     let some : selectors_in style.prelude ≡ Some (map selector_of list.items) = ap selectors_in (sym c.as_slice.ensures) ∙ (sym c.in_ok-selectors.ensures ∙ ap (option_map (λ l. map selector_of l.items)) c.in-Some.is) in
-    let kept : flat_map declared_of rule.declarations.items ≡ block_declared style.block = ap (λ v. flat_map declared_of v.items) made.0 ∙ (c.in_ok-declarations.ensures ∙ ap block_declared c.as_slice-2.ensures) in
+    let kept : flat_map declared_of rule.body.value.declarations.items ≡ block_declared style.block = ap (λ v. flat_map declared_of v.items) made.0 ∙ (c.in_ok-declarations.ensures ∙ ap block_declared c.as_slice-2.ensures) in
     let read = style_is style (map selector_of list.items) some in
-    let counted : rule_count (style_rule_of style) ≡ sum_by declared_count rule.declarations.items = ap rule_count read ∙ (ap length (sym kept) ∙ length-flat_map declared_of rule.declarations.items) in
+    let counted : rule_count (style_rule_of style) ≡ sum_by declared_count rule.body.value.declarations.items = ap rule_count read ∙ (ap length (sym kept) ∙ length-flat_map declared_of rule.body.value.declarations.items) in
     c.end-next.ensures
-    ∙ (ap (λ n. n + sum_by declared_count rule.declarations.items) made.1.1.1.1.1 ∙ ap (λ n. c.args.index + n) (sym counted))
+    ∙ (ap (λ n. n + sum_by declared_count rule.body.value.declarations.items) made.1.1.1.1 ∙ ap (λ n. c.args.index + n) (sym counted))

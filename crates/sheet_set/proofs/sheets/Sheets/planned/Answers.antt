@@ -15,6 +15,8 @@ use Rattle.sheet_set.specs.StepOf.{AreSelectorsOf, IsStepTo, step_keys}
 use Rattle.sheet_set.specs.View.{listed_seen}
 use Rattle.sheet_set.proofs.Bounds.{numbered-prop}
 use Rattle.sheet_set.proofs.PlanLemmas.{after_edit, change-told, few-then, given-then, numbered-then}
+use Rattle.sheet_set.proofs.MovedRules.{total-within}
+use Rattle.sheet_set.proofs.Ranked.{taken_of}
 use Rattle.sheet_set.proofs.StepKeys.{selectors-all}
 use Rattle.sheet_set.proofs.sheets.Sheets.planned.Goals as goal
 
@@ -28,8 +30,16 @@ pub change_of-requires-clause-selectors : goal.change_of-requires-clause-selecto
 change_of-requires-clause-selectors c =
     let old = c.args.self.now in
     let same : length old.rules.items ≡ length old.selectors.items = omega (arith, old.paired, old.rules.ok, old.selectors.ok) in
-    let all : AreSelectorsOf old.sheets.items old.selectors.items = selectors-all old.sheets.items old.rules.items old.selectors.items same old.of_texts in
+    let texts = taken_of old.sheets.items old.rules.items old.selectors.items old.positions.items same (omega (arith, old.placed, old.rules.ok, old.positions.ok)) old.of_texts in
+    let all : AreSelectorsOf old.sheets.items old.selectors.items = selectors-all old.sheets.items old.rules.items old.selectors.items same texts in
     subst (λ lists. AreSelectorsOf c.deref-3.result.now lists) (sym c.deref-4.ensures.value) (subst (λ sheets. AreSelectorsOf sheets old.selectors.items) (sym c.deref-3.ensures.value) all)
+
+pub make_room-requires-clause-taking : goal.make_room-requires-clause-taking
+make_room-requires-clause-taking c =
+    let old = c.args.self.now in
+    let same : length old.rules.items ≡ length old.selectors.items = omega (arith, old.paired, old.rules.ok, old.selectors.ok) in
+    let texts = taken_of old.sheets.items old.rules.items old.selectors.items old.positions.items same (omega (arith, old.placed, old.rules.ok, old.positions.ok)) old.of_texts in
+    omega (arith, total-within old.rules.items old.selectors.items old.sheets.items same texts, old.rules.ok)
 
 pub returns-clause-fits : goal.returns-clause-fits
 returns-clause-fits c =
@@ -52,6 +62,7 @@ returns-clause-fits c =
     let layers : unwrap_or c.in_ok-layers.layers old.layers ≡ layers_of_sheets (then old.sheets.items).listed = ap (unwrap_or c.in_ok-layers.layers) old.layered ∙ later in
     record {
       room = c.in_ok-make_room.ensures.room;
+      places = c.in_ok-make_room.ensures.places;
       numbered = subst (λ sheets. AreNumbered (then sheets)) (sym same) numbered;
       few = subst (λ sheets. length (then sheets).listed ≤ sheet_limit) (sym same) few;
       given = subst (λ sheets. (then sheets).last ≤ number_limit) (sym same) given;

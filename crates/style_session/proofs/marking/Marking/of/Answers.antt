@@ -17,5 +17,5 @@ returns-clause-rows c =
     let sheets = c.args.sheets.now in
     let lists = c.selectors.ensures.list in
     let all : flat_map (λ (list : Vec Selector Global). types.selectors_of list.items) c.selectors.result.now ≡ selectors_of (sources_seen sheets) =
-    ap (flat_map (λ (list : Vec Selector Global). types.selectors_of list.items)) lists ∙ sym (selectors-with sheets.rules.items sheets.selectors.items (cc)) in
+    ap (flat_map (λ (list : Vec Selector Global). types.selectors_of list.items)) lists ∙ sym (selectors-with sheets) in
     subst (λ (found : List model.Selector). IsPermutation (rows_of found) (rows_in c.in_ok-dependencies.dependencies)) all c.in_ok-dependencies.ensures

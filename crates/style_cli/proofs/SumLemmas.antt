@@ -1,0 +1,102 @@
+-- Sums over batches, a batch at a time.
+use Rattle.std.proofs.Common.{◌≡◌, ℕ, Vec, ◌+◌, List, [], ◌∷◌, ◌++◌, length, map, refl, sym, ap, ap₂, ◌∙◌, arith, length-append}
+use Rattle.std.specs.Prelude.{encode_utf8_all}
+use Rattle.std.specs.declared.alloc.Global.{Global}
+use Rattle.std.proofs.lemmas.List.{length-map}
+use Rattle.scene_model.specs.Element.{Element}
+use Rattle.scene_model.specs.Lookups.{numbers}
+use Rattle.sheet_model.specs.Sources.{sources_of}
+use Rattle.edit_model.specs.Edit.{Edit}
+use Rattle.session_model.specs.Standing.{Scene, Standing, cascaded_count, elements_of, matched_count, restyled, started}
+use Rattle.session_model.specs.Batches as model
+use Rattle.session_model.specs.Batches.{Report, accepted_among, edited_all, refused_from, report_of, reports, reports_from}
+use Rattle.style_session.specs.Answers.{counts_of}
+use Rattle.style_session.specs.declared.counts.Counts.{Counts}
+use Rattle.dom_edits.specs.declared.edits.Edit.{Edit as CodeEdit}
+use Rattle.dom_edits.specs.EditView.{refusal_answered}
+use Rattle.report_text.specs.Lines.{refused_line}
+use Rattle.report_text.specs.declared.lines.Sums.{Sums}
+use Rattle.style_cli.specs.Printing.{answered, batches_seen, edits_seen, elements_bytes, heading_bytes}
+use Rattle.job_json.specs.declared.Job.{Job}
+use Rattle.style_cli.specs.Sums.{batch_sums, both_sums, no_sums, sums_from, sums_of}
+use Rattle.style_cli.specs.Text.{batch_text, batches_of, element_lines, first_scene, line_at, refused_lines, report_lines, text_from}
+use Rattle.style_cli.specs.declared.batch.Heading.{Heading}
+use Rattle.style_cli.specs.declared.batch.RefusedEdit.{RefusedEdit}
+use Rattle.style_cli.proofs.Printed.{batch_parts}
+
+abbrev sums_with : ℕ → ℕ → ℕ → ℕ → ℕ → ℕ → Sums
+sums_with a r m c l b = record { accepted = a; refused = r; matched = m; cascaded = c; lines = l; bytes = b }
+
+-- equal parts make equal sums
+pub same_sums : (one other : Sums) → one.accepted ≡ other.accepted → one.refused ≡ other.refused → one.matched ≡ other.matched → one.cascaded ≡ other.cascaded → one.lines ≡ other.lines → one.bytes ≡ other.bytes → one ≡ other
+same_sums one other a r m c l b =
+    ap (λ x. sums_with x one.refused one.matched one.cascaded one.lines one.bytes) a
+    ∙ (ap (λ x. sums_with other.accepted x one.matched one.cascaded one.lines one.bytes) r
+    ∙ (ap (λ x. sums_with other.accepted other.refused x one.cascaded one.lines one.bytes) m
+    ∙ (ap (λ x. sums_with other.accepted other.refused other.matched x one.lines one.bytes) c
+    ∙ (ap (λ x. sums_with other.accepted other.refused other.matched other.cascaded x one.bytes) l
+    ∙ ap (λ x. sums_with other.accepted other.refused other.matched other.cascaded other.lines x) b))))
+
+pub both-none : (sums : Sums) → both_sums no_sums sums ≡ sums
+both-none sums =
+    same_sums (both_sums no_sums sums) sums (omega arith) (omega arith) (omega arith) (omega arith) (omega arith) (omega arith)
+
+pub none-both : (sums : Sums) → both_sums sums no_sums ≡ sums
+none-both sums =
+    same_sums (both_sums sums no_sums) sums (omega arith) (omega arith) (omega arith) (omega arith) (omega arith) (omega arith)
+
+pub both-assoc : (a b c : Sums) → both_sums (both_sums a b) c ≡ both_sums a (both_sums b c)
+both-assoc a b c =
+    same_sums (both_sums (both_sums a b) c) (both_sums a (both_sums b c)) (omega arith) (omega arith) (omega arith) (omega arith) (omega arith) (omega arith)
+
+-- the bytes that are summed up are those of the text
+pub bytes-text : (n : ℕ) (reports : List Report) → (sums_from n reports).bytes ≡ length (text_from n reports)
+bytes-text n [] = refl
+bytes-text n (report ∷ rest) =
+    ap (λ k. length (batch_text n report) + k) (bytes-text (n + 1) rest)
+    ∙ sym (length-append (batch_text n report) (text_from (n + 1) rest))
+
+-- the sums of a job, by those of the batches that were taken through its session
+pub summed_job : (st : Standing) (seen : List (List Edit)) (job made : Job) → st ≡ started (first_scene job) → seen ≡ batches_of job → job ≡ made → sums_from 0 (reports_from st ([] ∷ seen)) ≡ sums_of made
+unfolding reports
+summed_job st seen job made begun are is =
+    ap₂ (λ s bs. sums_from 0 (reports_from s ([] ∷ bs))) begun are ∙ ap sums_of is
+
+-- what is made of a batch is what it is counted as
+module _ (n : ℕ) (st now : Standing) (edits : List Edit) (heading : Heading) (accepted : heading.accepted ≡ accepted_among st edits) (refused : heading.refused.items ≡ map answered (refused_from 1 st edits)) (counts : heading.counts ≡ counts_of (edited_all st edits)) (is : now ≡ restyled (edited_all st edits)) where
+  refused_count : length heading.refused.items ≡ length (refused_from 1 st edits)
+  refused_count = ap length refused ∙ length-map (refused_from 1 st edits) answered
+
+  element_count : length (element_lines (edited_all st edits).scene) ≡ length (elements_of now.scene)
+  element_count =
+      let scene = (edited_all st edits).scene in
+      length-map (numbers (elements_of scene)) (line_at (elements_of scene) (sources_of scene.sheets))
+      ∙ (length-map (elements_of scene) (λ (e : Element). e.number) ∙ ap (λ (s : Standing). length (elements_of s.scene)) (sym is))
+
+  line_count : length (report_lines n (report_of st edits)) ≡ 1 + length heading.refused.items + length (elements_of now.scene)
+  line_count =
+      let list = refused_from 1 st edits in
+      let lines = element_lines (edited_all st edits).scene in
+      let both = length-append (refused_lines list) lines in
+      let refusals = length-map list (λ (one : model.RefusedEdit). refused_line one.place (refusal_answered one.why)) in
+      omega (arith, both, refusals, refused_count, element_count)
+
+  pub batch_summed : (one : Sums) → one.accepted ≡ heading.accepted → one.refused ≡ length heading.refused.items → one.matched ≡ heading.counts.matched → one.cascaded ≡ heading.counts.cascaded → one.lines ≡ 1 + length heading.refused.items + length (elements_of now.scene) → one.bytes ≡ length (heading_bytes n heading) + length (elements_bytes now.scene) → one ≡ batch_sums n (report_of st edits)
+  batch_summed one a r m c l b =
+      let bytes = ap {B = ℕ} length (batch_parts n st now edits heading accepted refused counts is) ∙ length-append (heading_bytes n heading) (elements_bytes now.scene) in
+      same_sums one (batch_sums n (report_of st edits)) (a ∙ accepted) (r ∙ refused_count) (m ∙ ap (λ (k : Counts). k.matched) counts) (c ∙ ap (λ (k : Counts). k.cascaded) counts) (l ∙ sym line_count) (b ∙ sym bytes)
+
+-- one batch more is added, and the others are to be added still
+pub batches_on : (sums new one : Sums) (n : ℕ) (done now : Standing) (edits : List CodeEdit) (next : Vec CodeEdit Global) (others rest : List (Vec CodeEdit Global)) (whole : Sums) → new ≡ both_sums sums one → now ≡ done → rest ≡ next ∷ others → edits ≡ next.items → both_sums sums (both_sums one (sums_from n (reports_from done (batches_seen rest)))) ≡ whole → both_sums new (sums_from n (reports_from now (edits_seen edits ∷ batches_seen others))) ≡ whole
+batches_on sums new one n done now edits next others rest whole added same split items is =
+    ap (λ s. both_sums s (sums_from n (reports_from now (edits_seen edits ∷ batches_seen others)))) added
+    ∙ (ap (λ (s : Standing). both_sums (both_sums sums one) (sums_from n (reports_from s (edits_seen edits ∷ batches_seen others)))) same
+    ∙ (ap (λ es. both_sums (both_sums sums one) (sums_from n (reports_from done (edits_seen es ∷ batches_seen others)))) items
+    ∙ (ap (λ bs. both_sums (both_sums sums one) (sums_from n (reports_from done (batches_seen bs)))) (sym split)
+    ∙ (both-assoc sums one (sums_from n (reports_from done (batches_seen rest))) ∙ is))))
+
+-- and where none is left, that is all
+pub batches_end : (sums new one : Sums) (n : ℕ) (done : Standing) (rest : List (Vec CodeEdit Global)) (whole : Sums) → new ≡ both_sums sums one → rest ≡ [] → both_sums sums (both_sums one (sums_from n (reports_from done (batches_seen rest)))) ≡ whole → new ≡ whole
+batches_end sums new one n done rest whole added none is =
+    added
+    ∙ (ap (both_sums sums) (sym (none-both one) ∙ ap (λ bs. both_sums one (sums_from n (reports_from done (batches_seen bs)))) (sym none)) ∙ is)

@@ -1,0 +1,188 @@
+//! The sums over what `style run` would write of the job that a number makes.
+
+ghost use Rattle.std.specs.Prelude.{◌≡◌, ◌≤◌, ◌∷◌, [], IfOk, IsErrOf, OnErr, OnOk, length};
+ghost use Rattle.std.specs.Io.KnownBytes.{Appends};
+ghost use Rattle.std.specs.List.{AllByRecursion};
+ghost use Rattle.base_model.specs.Limits.{batch_limit, element_limit, sheet_limit};
+ghost use Rattle.edit_model.specs.Edit.{IsShapedEdit};
+ghost use Rattle.io_edges.specs.Cause.{HasCause};
+ghost use Rattle.job_json.specs.Gen.{generated};
+ghost use Rattle.session_model.specs.Batches.{edited_all, report_of, reports_from};
+ghost use Rattle.session_model.specs.Standing.{restyled};
+ghost use Rattle.session_model.specs.StandingInvariant.{IsReached};
+ghost use Rattle.style_cli.specs.Loops.{GrewByFront};
+ghost use Rattle.style_cli.specs.Printing.{ServesLengths, batches_seen, edits_seen};
+ghost use Rattle.style_cli.specs.Sums.{batch_sums, both_sums, no_sums, sums_from, sums_of, summary_text};
+
+use crate::batch::make_batch;
+use crate::beginning::session_of;
+use crate::lengths::Lengths;
+use crate::tally::{Tally, count_elements, count_heading};
+use crate::writing::write_line;
+use dom_edits::Edit;
+use io_edges::{Sink, SinkRefused};
+use job_json::{Job, generate};
+use report_text::{Sums, summary_line};
+use std::alloc::Global;
+use std::thread::Threads;
+use style_session::{Counts, Session};
+use stylo_base::NoMemory;
+
+/// For how many elements styles are shared.
+const SHARE: u32 = 32;
+
+/// The job that a number makes: how many elements it begins with, and how many batches of edits it has.
+#[derive(Clone, Copy)]
+pub(crate) struct Wanted {
+    pub seed: u64,
+    pub nodes: u32,
+    pub batches: u32,
+}
+
+/// Writes the line of sums of a generated job. A restyle may use so many workers.
+pub(crate) fn print_summary<R: Threads + Sync, K: Sink>(
+    rt: &R,
+    alloc: Global,
+    wanted: Wanted,
+    workers: u32,
+    sink: &mut K,
+) -> Result<(), SinkRefused>
+    requires nodes { (1 ≤ wanted.nodes) × (wanted.nodes ≤ element_limit) }
+    requires batches { wanted.batches ≤ batch_limit }
+    requires workers { (1 ≤ workers) × (workers ≤ 64) }
+    ensures ok { OnOk result (Appends (K.held sink.old) (K.held sink.new)
+        (summary_text wanted.seed wanted.nodes wanted.batches)) }
+    ensures err { OnErr result (GrewByFront (K.held sink.old) (K.held sink.new)
+        (summary_text wanted.seed wanted.nodes wanted.batches)) }
+    ensures cause { HasCause (K.faults sink.old) (K.faults sink.new) (IsErrOf result SinkRefused.Failed) }
+{
+    let sums = summed(rt, alloc, wanted, workers)?;
+    let Wanted { nodes, batches, .. } = wanted;
+    let line = summary_line(alloc, u64::from(nodes), u64::from(batches), &sums)?;
+    write_line(sink, &line)
+}
+
+/// The sums of a generated job.
+fn summed<R: Threads + Sync>(
+    rt: &R,
+    alloc: Global,
+    wanted: Wanted,
+    workers: u32,
+) -> Result<Sums, NoMemory>
+    requires nodes { (1 ≤ wanted.nodes) × (wanted.nodes ≤ element_limit) }
+    requires batches { wanted.batches ≤ batch_limit }
+    requires workers { (1 ≤ workers) × (workers ≤ 64) }
+    ensures { IfOk result (λ sums. sums ≡ sums_of (generated wanted.seed wanted.nodes wanted.batches)) }
+{
+    let Job {
+        nodes,
+        sheets,
+        batches,
+    } = made_job(alloc, wanted)?;
+    let mut session = session_of(alloc, nodes, sheets, workers, SHARE)?;
+    sum_batches(rt, alloc, &mut session, batches.as_slice())
+}
+
+/// The generated job. It is not inlined, so that bench/profile can tell what it costs.
+#[inline(never)]
+fn made_job(alloc: Global, wanted: Wanted) -> Result<Job, NoMemory>
+    requires nodes { (1 ≤ wanted.nodes) × (wanted.nodes ≤ element_limit) }
+    requires batches { wanted.batches ≤ batch_limit }
+    ensures job { IfOk result (λ job. job ≡ generated wanted.seed wanted.nodes wanted.batches) }
+    ensures fits { IfOk result (λ job. length job.nodes ≤ element_limit) }
+    ensures few { IfOk result (λ job. length job.sheets ≤ sheet_limit) }
+{
+    generate(alloc, wanted.seed, wanted.nodes, wanted.batches)
+}
+
+/// Takes batches through a session, and sums up what comes of them: first that of the job before any edit.
+fn sum_batches<R: Threads + Sync>(
+    rt: &R,
+    alloc: Global,
+    session: &mut Session,
+    batches: &[Vec<Edit>],
+) -> Result<Sums, NoMemory>
+    requires { IsReached session.old }
+    ensures { IfOk result (λ sums. sums
+        ≡ sums_from 0 (reports_from session.old ([] ∷ batches_seen batches.now))) }
+{
+    let mut lengths = Lengths::new(alloc);
+    let mut sums = no_sums();
+    let mut number = 0;
+    let mut edits: &[Edit] = &[];
+    let mut rest = batches;
+    // The proof calls the loop by this label.
+    'summing: loop {
+        sum_batch(rt, alloc, session, &mut lengths, number, edits, &mut sums)?;
+        let Some((next, others)) = rest.split_first() else {
+            return Ok(sums);
+        };
+        number += 1;
+        edits = next.as_slice();
+        rest = others;
+    }
+}
+
+/// Makes the edits of a batch, restyles the session, and adds what came of it to the sums.
+fn sum_batch<R: Threads + Sync>(
+    rt: &R,
+    alloc: Global,
+    session: &mut Session,
+    lengths: &mut Lengths,
+    number: u64,
+    edits: &[Edit],
+    sums: &mut Sums,
+) -> Result<(), NoMemory>
+    requires reached { IsReached session.old }
+    requires serves { ServesLengths session.old lengths.old.kept.items }
+    ensures sums { OnOk result
+        (sums.new ≡ both_sums sums.old (batch_sums number (report_of session.old (edits_seen edits.now)))) }
+    ensures session { OnOk result (session.new ≡ restyled (edited_all session.old (edits_seen edits.now))) }
+    ensures serves { OnOk result (ServesLengths session.new lengths.new.kept.items) }
+    ensures shaped { OnOk result (AllByRecursion IsShapedEdit (edits_seen edits.now)) }
+{
+    let heading = make_batch(rt, alloc, session, edits)?;
+    lengths.forget(session.cascaded());
+    let mut tally = count_heading(alloc, number, &heading)?;
+    count_elements(session, lengths, &mut tally)?;
+    let Tally { lines, bytes } = tally;
+    let Counts { matched, cascaded } = heading.counts;
+    let one = Sums {
+        accepted: heading.accepted,
+        refused: heading.refused.len() as u64,
+        matched,
+        cascaded,
+        lines,
+        bytes,
+    };
+    *sums = both(*sums, one)?;
+    Ok(())
+}
+
+/// Nothing summed up yet.
+fn no_sums() -> Sums
+    ensures { result ≡ no_sums }
+{
+    Sums {
+        accepted: 0,
+        refused: 0,
+        matched: 0,
+        cascaded: 0,
+        lines: 0,
+        bytes: 0,
+    }
+}
+
+/// Two sums in one. Past 2^64 - 1 it is as if memory ran out.
+fn both(one: Sums, other: Sums) -> Result<Sums, NoMemory>
+    ensures { IfOk result (λ sums. sums ≡ both_sums one other) }
+{
+    Ok(Sums {
+        accepted: one.accepted.checked_add(other.accepted).ok_or(NoMemory)?,
+        refused: one.refused.checked_add(other.refused).ok_or(NoMemory)?,
+        matched: one.matched.checked_add(other.matched).ok_or(NoMemory)?,
+        cascaded: one.cascaded.checked_add(other.cascaded).ok_or(NoMemory)?,
+        lines: one.lines.checked_add(other.lines).ok_or(NoMemory)?,
+        bytes: one.bytes.checked_add(other.bytes).ok_or(NoMemory)?,
+    })
+}
