@@ -33,7 +33,11 @@ pub(crate) fn draw_batches(
 }
 
 /// Draws a batch.
-fn draw_batch(alloc: Global, rng: &mut SplitMix64, nodes: u32) -> Result<Vec<Edit>, NoMemory>
+pub(crate) fn draw_batch(
+    alloc: Global,
+    rng: &mut SplitMix64,
+    nodes: u32,
+) -> Result<Vec<Edit>, NoMemory>
     requires { 1 ≤ nodes }
     ensures batch { IfOk result (λ batch. batch.items ≡ (drawn_batch nodes rng.old).0) }
     ensures state { OnOk result (rng.new ≡ (drawn_batch nodes rng.old).1) }

@@ -36,7 +36,7 @@ ghost use Rattle.job_json.specs.JobOf.{verdict_of, verdict_on, not_json, bad_sha
 use crate::document::take_job;
 pub use batch_list::BatchList;
 use dom_tree::NodeList;
-pub use generating::generate;
+pub use generating::{BatchDraws, BegunJob, begin_generated, generate};
 use json::{Reader, Scratch};
 use json_reader::Stop;
 pub use sheet_list::SheetList;

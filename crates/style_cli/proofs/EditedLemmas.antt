@@ -1,6 +1,5 @@
 -- The edits of a batch, one after another.
 use Rattle.std.proofs.Common.{◌≡◌, ◌≢◌, ℕ, ◌+◌, List, [], ◌∷◌, length, map, sym, ap, arith, subst}
-use Rattle.std.specs.List.{AllByRecursion}
 use Rattle.std.proofs.lemmas.List.{length-map}
 use Rattle.stylo_base.specs.declared.refusal.EditRefused.TheVariants.{NoMemory}
 use Rattle.edit_model.specs.Refusal.{Refusal, unknown_node, unknown_sheet, bad_place, limit}

@@ -8,7 +8,7 @@ pub mod EditedLemmas
 pub mod SettledLemmas
 pub mod ServeLemmas
 pub mod SumLemmas
-pub mod TallyLemmas
+pub mod CountLemmas
 pub mod BatchText
 pub mod FirstScene
 mod Examples

@@ -1,5 +1,5 @@
 -- A standing in which nothing is marked or fresh.
-use Rattle.std.proofs.Common.{◌≡◌, ℕ, List, [], ◌∷◌, ◌||◌, ◌⊎◌, inl, inr, Bool, true, false, Some, refl, sym, ap, ◌∙◌, subst}
+use Rattle.std.proofs.Common.{◌≡◌, ℕ, [], ◌||◌, ◌⊎◌, inl, inr, true, false, Some, sym, ap, ◌∙◌, subst}
 use Rattle.std.specs.List.{list_any}
 use Rattle.scene_model.specs.Ancestors.{ancestors}
 use Rattle.scene_model.specs.Lookups.{IsElement, is_element}

@@ -1,13 +1,12 @@
 -- Sums over batches, a batch at a time.
-use Rattle.std.proofs.Common.{◌≡◌, ℕ, Vec, ◌+◌, List, [], ◌∷◌, ◌++◌, length, map, refl, sym, ap, ap₂, ◌∙◌, arith, length-append}
-use Rattle.std.specs.Prelude.{encode_utf8_all}
-use Rattle.std.specs.declared.alloc.Global.{Global}
+use Rattle.std.proofs.Common.{◌≡◌, ℕ, suc, ◌+◌, List, [], ◌∷◌, length, map, refl, sym, ap, ap₂, ◌∙◌, arith, length-append}
 use Rattle.std.proofs.lemmas.List.{length-map}
 use Rattle.scene_model.specs.Element.{Element}
 use Rattle.scene_model.specs.Lookups.{numbers}
+use Rattle.scene_model.specs.Nodes.{Node}
 use Rattle.sheet_model.specs.Sources.{sources_of}
 use Rattle.edit_model.specs.Edit.{Edit}
-use Rattle.session_model.specs.Standing.{Scene, Standing, cascaded_count, elements_of, matched_count, restyled, started}
+use Rattle.session_model.specs.Standing.{Standing, elements_of, restyled, started}
 use Rattle.session_model.specs.Batches as model
 use Rattle.session_model.specs.Batches.{Report, accepted_among, edited_all, refused_from, report_of, reports, reports_from}
 use Rattle.style_session.specs.Answers.{counts_of}
@@ -16,12 +15,13 @@ use Rattle.dom_edits.specs.declared.edits.Edit.{Edit as CodeEdit}
 use Rattle.dom_edits.specs.EditView.{refusal_answered}
 use Rattle.report_text.specs.Lines.{refused_line}
 use Rattle.report_text.specs.declared.lines.Sums.{Sums}
-use Rattle.style_cli.specs.Printing.{answered, batches_seen, edits_seen, elements_bytes, heading_bytes}
-use Rattle.job_json.specs.declared.Job.{Job}
+use Rattle.style_cli.specs.Printing.{answered, edits_seen, elements_bytes, heading_bytes}
+use Rattle.layer_order.specs.declared.sheet_input.SheetInput.{SheetInput}
+use Rattle.job_json.specs.Draws.{drawn_list}
+use Rattle.job_json.specs.Gen.{drawn_batch, drawn_batches, drawn_nodes, generated, the_sheet}
 use Rattle.style_cli.specs.Sums.{batch_sums, both_sums, no_sums, sums_from, sums_of}
-use Rattle.style_cli.specs.Text.{batch_text, batches_of, element_lines, first_scene, line_at, refused_lines, report_lines, text_from}
+use Rattle.style_cli.specs.Text.{batch_text, element_lines, line_at, refused_lines, report_lines, scene_from, text_from}
 use Rattle.style_cli.specs.declared.batch.Heading.{Heading}
-use Rattle.style_cli.specs.declared.batch.RefusedEdit.{RefusedEdit}
 use Rattle.style_cli.proofs.Printed.{batch_parts}
 
 abbrev sums_with : ℕ → ℕ → ℕ → ℕ → ℕ → ℕ → Sums
@@ -56,11 +56,14 @@ bytes-text n (report ∷ rest) =
     ap (λ k. length (batch_text n report) + k) (bytes-text (n + 1) rest)
     ∙ sym (length-append (batch_text n report) (text_from (n + 1) rest))
 
--- the sums of a job, by those of the batches that were taken through its session
-pub summed_job : (st : Standing) (seen : List (List Edit)) (job made : Job) → st ≡ started (first_scene job) → seen ≡ batches_of job → job ≡ made → sums_from 0 (reports_from st ([] ∷ seen)) ≡ sums_of made
-unfolding reports
-summed_job st seen job made begun are is =
-    ap₂ (λ s bs. sums_from 0 (reports_from s ([] ∷ bs))) begun are ∙ ap sums_of is
+-- the sums of a generated job, by those of the batches that were taken through its session
+pub summed_job : (st : Standing) (list : List Node) (sheets : List SheetInput) (draws : ℕ × ℕ) (seed nodes batches : ℕ) → st ≡ started (scene_from list sheets) → list ≡ (drawn_nodes nodes seed).0 → sheets ≡ the_sheet ∷ [] → draws ≡ (nodes, (drawn_nodes nodes seed).1) → sums_from 0 (reports_from st ([] ∷ map edits_seen (drawn_batches draws.0 batches draws.1).0)) ≡ sums_of (generated seed nodes batches)
+unfolding reports generated
+summed_job st list sheets draws seed nodes batches begun nodes_are sheets_are draws_are =
+    let seen : ℕ × ℕ → List (List Edit) = λ d. [] ∷ map edits_seen (drawn_batches d.0 batches d.1).0 in
+    ap (λ s. sums_from 0 (reports_from s (seen draws))) begun
+    ∙ (ap₂ (λ ns ss. sums_from 0 (reports_from (started (scene_from ns ss)) (seen draws))) nodes_are sheets_are
+    ∙ ap (λ d. sums_from 0 (reports_from (started (scene_from (drawn_nodes nodes seed).0 (the_sheet ∷ []))) (seen d))) draws_are)
 
 -- what is made of a batch is what it is counted as
 module _ (n : ℕ) (st now : Standing) (edits : List Edit) (heading : Heading) (accepted : heading.accepted ≡ accepted_among st edits) (refused : heading.refused.items ≡ map answered (refused_from 1 st edits)) (counts : heading.counts ≡ counts_of (edited_all st edits)) (is : now ≡ restyled (edited_all st edits)) where
@@ -86,17 +89,22 @@ module _ (n : ℕ) (st now : Standing) (edits : List Edit) (heading : Heading) (
       let bytes = ap {B = ℕ} length (batch_parts n st now edits heading accepted refused counts is) ∙ length-append (heading_bytes n heading) (elements_bytes now.scene) in
       same_sums one (batch_sums n (report_of st edits)) (a ∙ accepted) (r ∙ refused_count) (m ∙ ap (λ (k : Counts). k.matched) counts) (c ∙ ap (λ (k : Counts). k.cascaded) counts) (l ∙ sym line_count) (b ∙ sym bytes)
 
+-- the next batch is the first of those that are to be drawn still
+pub drawn_on : (nodes left more k state next : ℕ) (batch : List CodeEdit) → left ≡ suc more → batch ≡ (drawn_batch nodes state).0 → next ≡ (drawn_batch nodes state).1 → map edits_seen (drawn_list (λ _. drawn_batch nodes) left k state).0 ≡ edits_seen batch ∷ map edits_seen (drawn_list (λ _. drawn_batch nodes) more (k + 1) next).0
+drawn_on nodes left more k state next batch e is after =
+    ap (λ m. map edits_seen (drawn_list (λ _. drawn_batch nodes) m k state).0) e
+    ∙ ap₂ (λ b s. edits_seen b ∷ map edits_seen (drawn_list (λ _. drawn_batch nodes) more (k + 1) s).0) (sym is) (sym after)
+
 -- one batch more is added, and the others are to be added still
-pub batches_on : (sums new one : Sums) (n : ℕ) (done now : Standing) (edits : List CodeEdit) (next : Vec CodeEdit Global) (others rest : List (Vec CodeEdit Global)) (whole : Sums) → new ≡ both_sums sums one → now ≡ done → rest ≡ next ∷ others → edits ≡ next.items → both_sums sums (both_sums one (sums_from n (reports_from done (batches_seen rest)))) ≡ whole → both_sums new (sums_from n (reports_from now (edits_seen edits ∷ batches_seen others))) ≡ whole
-batches_on sums new one n done now edits next others rest whole added same split items is =
-    ap (λ s. both_sums s (sums_from n (reports_from now (edits_seen edits ∷ batches_seen others)))) added
-    ∙ (ap (λ (s : Standing). both_sums (both_sums sums one) (sums_from n (reports_from s (edits_seen edits ∷ batches_seen others)))) same
-    ∙ (ap (λ es. both_sums (both_sums sums one) (sums_from n (reports_from done (edits_seen es ∷ batches_seen others)))) items
-    ∙ (ap (λ bs. both_sums (both_sums sums one) (sums_from n (reports_from done (batches_seen bs)))) (sym split)
-    ∙ (both-assoc sums one (sums_from n (reports_from done (batches_seen rest))) ∙ is))))
+pub batches_on : (sums new one : Sums) (n : ℕ) (done now : Standing) (next : List Edit) (rest others : List (List Edit)) (whole : Sums) → new ≡ both_sums sums one → now ≡ done → rest ≡ next ∷ others → both_sums sums (both_sums one (sums_from n (reports_from done rest))) ≡ whole → both_sums new (sums_from n (reports_from now (next ∷ others))) ≡ whole
+batches_on sums new one n done now next rest others whole added same split is =
+    ap (λ s. both_sums s (sums_from n (reports_from now (next ∷ others)))) added
+    ∙ (ap (λ (s : Standing). both_sums (both_sums sums one) (sums_from n (reports_from s (next ∷ others)))) same
+    ∙ (ap (λ bs. both_sums (both_sums sums one) (sums_from n (reports_from done bs))) (sym split)
+    ∙ (both-assoc sums one (sums_from n (reports_from done rest)) ∙ is)))
 
 -- and where none is left, that is all
-pub batches_end : (sums new one : Sums) (n : ℕ) (done : Standing) (rest : List (Vec CodeEdit Global)) (whole : Sums) → new ≡ both_sums sums one → rest ≡ [] → both_sums sums (both_sums one (sums_from n (reports_from done (batches_seen rest)))) ≡ whole → new ≡ whole
+pub batches_end : (sums new one : Sums) (n : ℕ) (done : Standing) (rest : List (List Edit)) (whole : Sums) → new ≡ both_sums sums one → rest ≡ [] → both_sums sums (both_sums one (sums_from n (reports_from done rest))) ≡ whole → new ≡ whole
 batches_end sums new one n done rest whole added none is =
     added
-    ∙ (ap (both_sums sums) (sym (none-both one) ∙ ap (λ bs. both_sums one (sums_from n (reports_from done (batches_seen bs)))) (sym none)) ∙ is)
+    ∙ (ap (both_sums sums) (sym (none-both one) ∙ ap (λ bs. both_sums one (sums_from n (reports_from done bs))) (sym none)) ∙ is)

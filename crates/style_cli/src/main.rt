@@ -5,6 +5,7 @@
 mod batch;
 mod beginning;
 mod commands;
+mod counting;
 mod elements;
 mod heading;
 mod input;
@@ -14,7 +15,6 @@ mod lines;
 mod printing;
 mod status;
 mod summing;
-mod tally;
 #[cfg(test)]
 mod tests;
 mod top;

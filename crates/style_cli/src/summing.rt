@@ -1,27 +1,27 @@
 //! The sums over what `style run` would write of the job that a number makes.
 
-ghost use Rattle.std.specs.Prelude.{◌≡◌, ◌≤◌, ◌∷◌, [], IfOk, IsErrOf, OnErr, OnOk, length};
+ghost use Rattle.std.specs.Prelude.{◌≡◌, ◌≤◌, ◌∷◌, [], IfOk, IsErrOf, OnErr, OnOk, length, map};
 ghost use Rattle.std.specs.Io.KnownBytes.{Appends};
 ghost use Rattle.std.specs.List.{AllByRecursion};
 ghost use Rattle.base_model.specs.Limits.{batch_limit, element_limit, sheet_limit};
 ghost use Rattle.edit_model.specs.Edit.{IsShapedEdit};
 ghost use Rattle.io_edges.specs.Cause.{HasCause};
-ghost use Rattle.job_json.specs.Gen.{generated};
+ghost use Rattle.job_json.specs.Gen.{drawn_batches, drawn_nodes, generated, the_sheet};
 ghost use Rattle.session_model.specs.Batches.{edited_all, report_of, reports_from};
 ghost use Rattle.session_model.specs.Standing.{restyled};
 ghost use Rattle.session_model.specs.StandingInvariant.{IsReached};
 ghost use Rattle.style_cli.specs.Loops.{GrewByFront};
-ghost use Rattle.style_cli.specs.Printing.{ServesLengths, batches_seen, edits_seen};
+ghost use Rattle.style_cli.specs.Printing.{ServesLengths, edits_seen};
 ghost use Rattle.style_cli.specs.Sums.{batch_sums, both_sums, no_sums, sums_from, sums_of, summary_text};
 
 use crate::batch::make_batch;
 use crate::beginning::session_of;
+use crate::counting::{elements_len, heading_len, sum};
 use crate::lengths::Lengths;
-use crate::tally::{Tally, count_elements, count_heading};
 use crate::writing::write_line;
 use dom_edits::Edit;
 use io_edges::{Sink, SinkRefused};
-use job_json::{Job, generate};
+use job_json::{BatchDraws, BegunJob, begin_generated};
 use report_text::{Sums, summary_line};
 use std::alloc::Global;
 use std::thread::Threads;
@@ -74,52 +74,55 @@ fn summed<R: Threads + Sync>(
     requires workers { (1 ≤ workers) × (workers ≤ 64) }
     ensures { IfOk result (λ sums. sums ≡ sums_of (generated wanted.seed wanted.nodes wanted.batches)) }
 {
-    let Job {
+    let BegunJob {
         nodes,
         sheets,
-        batches,
-    } = made_job(alloc, wanted)?;
+        mut batches,
+    } = begun_job(alloc, wanted)?;
     let mut session = session_of(alloc, nodes, sheets, workers, SHARE)?;
-    sum_batches(rt, alloc, &mut session, batches.as_slice())
+    sum_batches(rt, alloc, &mut session, &mut batches, wanted.batches)
 }
 
-/// The generated job. It is not inlined, so that bench/profile can tell what it costs.
+/// What the generated job begins with. It is not inlined, so that bench/gen can tell what it costs.
 #[inline(never)]
-fn made_job(alloc: Global, wanted: Wanted) -> Result<Job, NoMemory>
-    requires nodes { (1 ≤ wanted.nodes) × (wanted.nodes ≤ element_limit) }
-    requires batches { wanted.batches ≤ batch_limit }
-    ensures job { IfOk result (λ job. job ≡ generated wanted.seed wanted.nodes wanted.batches) }
-    ensures fits { IfOk result (λ job. length job.nodes ≤ element_limit) }
-    ensures few { IfOk result (λ job. length job.sheets ≤ sheet_limit) }
+fn begun_job(alloc: Global, wanted: Wanted) -> Result<BegunJob, NoMemory>
+    requires { (1 ≤ wanted.nodes) × (wanted.nodes ≤ element_limit) }
+    ensures nodes { IfOk result (λ begun. begun.nodes ≡ (drawn_nodes wanted.nodes wanted.seed).0) }
+    ensures sheets { IfOk result (λ begun. begun.sheets ≡ the_sheet ∷ []) }
+    ensures batches { IfOk result (λ begun. begun.batches ≡ (wanted.nodes, (drawn_nodes wanted.nodes wanted.seed).1)) }
+    ensures fits { IfOk result (λ begun. length begun.nodes ≤ element_limit) }
+    ensures few { IfOk result (λ begun. length begun.sheets ≤ sheet_limit) }
 {
-    generate(alloc, wanted.seed, wanted.nodes, wanted.batches)
+    begin_generated(alloc, wanted.seed, wanted.nodes)
 }
 
-/// Takes batches through a session, and sums up what comes of them: first that of the job before any edit.
+/// Takes so many batches through a session, each of them drawn, and sums up what comes of them: first that of the job
+/// before any edit.
 fn sum_batches<R: Threads + Sync>(
     rt: &R,
     alloc: Global,
     session: &mut Session,
-    batches: &[Vec<Edit>],
+    draws: &mut BatchDraws,
+    batches: u32,
 ) -> Result<Sums, NoMemory>
     requires { IsReached session.old }
-    ensures { IfOk result (λ sums. sums
-        ≡ sums_from 0 (reports_from session.old ([] ∷ batches_seen batches.now))) }
+    ensures { IfOk result (λ sums. sums ≡ sums_from 0 (reports_from session.old
+        ([] ∷ map edits_seen (drawn_batches draws.old.0 batches draws.old.1).0))) }
 {
     let mut lengths = Lengths::new(alloc);
     let mut sums = no_sums();
     let mut number = 0;
-    let mut edits: &[Edit] = &[];
-    let mut rest = batches;
+    let mut edits = Vec::new(alloc);
+    let mut left = batches;
     // The proof calls the loop by this label.
     'summing: loop {
-        sum_batch(rt, alloc, session, &mut lengths, number, edits, &mut sums)?;
-        let Some((next, others)) = rest.split_first() else {
+        sum_batch(rt, alloc, session, &mut lengths, number, &edits, &mut sums)?;
+        if left == 0 {
             return Ok(sums);
-        };
+        }
+        left -= 1;
         number += 1;
-        edits = next.as_slice();
-        rest = others;
+        edits = draws.next(alloc)?;
     }
 }
 
@@ -143,16 +146,17 @@ fn sum_batch<R: Threads + Sync>(
 {
     let heading = make_batch(rt, alloc, session, edits)?;
     lengths.forget(session.cascaded());
-    let mut tally = count_heading(alloc, number, &heading)?;
-    count_elements(session, lengths, &mut tally)?;
-    let Tally { lines, bytes } = tally;
+    let elements = session.doc().in_tree_order().len() as u64;
+    let refused = heading.refused.len() as u64;
+    let told = heading_len(number, &heading)?;
+    let bytes = sum(told, elements_len(session, lengths)?)?;
     let Counts { matched, cascaded } = heading.counts;
     let one = Sums {
         accepted: heading.accepted,
-        refused: heading.refused.len() as u64,
+        refused,
         matched,
         cascaded,
-        lines,
+        lines: 1 + refused + elements,
         bytes,
     };
     *sums = both(*sums, one)?;
@@ -178,11 +182,11 @@ fn both(one: Sums, other: Sums) -> Result<Sums, NoMemory>
     ensures { IfOk result (λ sums. sums ≡ both_sums one other) }
 {
     Ok(Sums {
-        accepted: one.accepted.checked_add(other.accepted).ok_or(NoMemory)?,
-        refused: one.refused.checked_add(other.refused).ok_or(NoMemory)?,
-        matched: one.matched.checked_add(other.matched).ok_or(NoMemory)?,
-        cascaded: one.cascaded.checked_add(other.cascaded).ok_or(NoMemory)?,
-        lines: one.lines.checked_add(other.lines).ok_or(NoMemory)?,
-        bytes: one.bytes.checked_add(other.bytes).ok_or(NoMemory)?,
+        accepted: sum(one.accepted, other.accepted)?,
+        refused: sum(one.refused, other.refused)?,
+        matched: sum(one.matched, other.matched)?,
+        cascaded: sum(one.cascaded, other.cascaded)?,
+        lines: sum(one.lines, other.lines)?,
+        bytes: sum(one.bytes, other.bytes)?,
     })
 }

@@ -1,4 +1,4 @@
-use Rattle.std.proofs.Common.{◌≡◌, ◌+◌, ◌-◌, ℕ, length, map, take, drop, Some, refl, sym, subst, arith}
+use Rattle.std.proofs.Common.{◌≡◌, ◌+◌, ◌-◌, ℕ, map, take, drop, Some, refl, sym, subst, arith}
 use Rattle.style_cli.specs.KeptLines.{kept_run, line_in}
 use Rattle.style_cli.proofs.KeptLemmas.{fits, run_begun, run_on}
 use Rattle.style_cli.proofs.lines.run_among.Goals as goal

@@ -4,8 +4,8 @@ use Rattle.scene_model.specs.Document.{Document}
 use Rattle.scene_model.specs.Lookups.{IsElement, numbers}
 use Rattle.session_model.specs.Standing.{elements_of}
 use Rattle.session_model.proofs.FlagLemmas.{each_number}
-use Rattle.style_cli.proofs.TallyLemmas.{each-at}
-use Rattle.style_cli.proofs.tally.count_elements.Goals as goal
+use Rattle.style_cli.proofs.CountLemmas.{each-at}
+use Rattle.style_cli.proofs.counting.elements_len.Goals as goal
 
 pub line_len-requires-clause-element : goal.line_len-requires-clause-element
 line_len-requires-clause-element c =

@@ -1,19 +1,12 @@
-use Rattle.std.proofs.Common.{◌≡◌, length, sym, ap, ◌∙◌, rules}
+use Rattle.std.proofs.Common.{◌≡◌, length, rules}
 use Rattle.std.specs.Prelude.{encode_utf8_all}
 use Rattle.scene_model.specs.Lookups.{tag_of}
 use Rattle.session_model.specs.Standing.{elements_of, style_in}
 use Rattle.report_text.specs.Lines.{element_line}
 use Rattle.style_cli.specs.KeptLines.{kept_length}
-use Rattle.style_cli.proofs.ServeLemmas.{kept_one, serves-kept}
+use Rattle.style_cli.proofs.ServeLemmas.{serves-kept}
 use Rattle.style_cli.proofs.SettledLemmas.{kept-settled}
-use Rattle.style_cli.proofs.tally.line_len.Goals as goal
-
-pub returns-in-Some-clause-len : goal.returns-in-Some-clause-len
-returns-in-Some-clause-len c =
-    let st = c.args.session.now in
-    let n = c.args.number in
-    let at = kept-settled st c.requires.settled c.requires.sound n c.requires.element in
-    c.from.ensures ∙ kept_one length st (kept_length c.args.lengths.now.kept.items) n (style_in st.scene n) c.in-Some.len c.requires.serves at (sym c.of.ensures ∙ c.in-Some.is)
+use Rattle.style_cli.proofs.counting.count_line.Goals as goal
 
 pub returns-clause-serves : goal.returns-clause-serves
 returns-clause-serves c =
