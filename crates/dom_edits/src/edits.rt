@@ -10,6 +10,7 @@ use dom_tree::NodeList;
 use layer_order::Origin;
 use std::alloc::Global;
 use std::marker::Model;
+use std::sync::Arc;
 use stylo_base::{NoMemory, State, Text};
 
 /// An edit of a document. It names elements by number. An index is that among the children, from 0.
@@ -68,38 +69,50 @@ impl DocEdit {
 #[derive(Drop)]
 pub enum NewNodes {
     /// These.
-    Kept(BoxedNodes),
+    Kept(SharedNodes),
     /// Nodes that are not kept, since they will be refused: this limit is the first that one of them passes by
     /// itself, and an earlier one passes none.
     Past(NodeLimit),
 }
 
-/// A list of nodes in a place of its own, so that an edit stays short. Contracts see the list.
+/// A list of nodes in a place of its own, so that an edit stays short. Edits may share it. Contracts see the list.
 #[derive(Drop)]
-pub struct BoxedNodes {
-    list: Box<NodeList>,
+pub struct SharedNodes {
+    list: Arc<NodeList>,
 }
 
-impl Model for BoxedNodes {
+impl Model for SharedNodes {
     ghost use Rattle.std.specs.Prelude.{List};
+    ghost use Rattle.std.specs.Arc.{arc_value};
     ghost use Rattle.scene_model.specs.Nodes.{Node, nodes_code, IsNodeList};
 
     ghost Value = { List Node };
 
     ghost coded = { nodes_code };
 
-    ghost view = { λ b. b.list.value };
+    ghost view = { λ n. arc_value n.list };
 
-    ghost invariant = { λ b. IsNodeList b.list.value };
+    ghost invariant = { λ n. IsNodeList (arc_value n.list) };
 }
 
-impl BoxedNodes {
+impl SharedNodes {
     /// This list.
-    fn of(alloc: Global, list: NodeList) -> Result<BoxedNodes, NoMemory>
+    pub fn of(alloc: Global, list: NodeList) -> Result<SharedNodes, NoMemory>
         ensures { IfOk result (λ nodes. nodes ≡ list) }
     {
-        Ok(BoxedNodes {
-            list: Box::new(alloc, list)?,
+        // The count is not asked: the call tells that they are a list.
+        let _count = list.len();
+        Ok(SharedNodes {
+            list: Arc::new(alloc, list)?,
+        })
+    }
+
+    /// The same list, which is shared.
+    pub fn share(&self) -> Result<SharedNodes, NoMemory>
+        ensures { IfOk result (λ nodes. nodes ≡ self.now) }
+    {
+        Ok(SharedNodes {
+            list: Arc::try_clone(&self.list)?,
         })
     }
 
@@ -116,7 +129,7 @@ impl NewNodes {
     pub fn of(alloc: Global, list: NodeList) -> Result<NewNodes, NoMemory>
         ensures { IfOk result (λ nodes. nodes ≡ Kept list) }
     {
-        Ok(NewNodes::Kept(BoxedNodes::of(alloc, list)?))
+        Ok(NewNodes::Kept(SharedNodes::of(alloc, list)?))
     }
 
     /// How many there are. Those that are not kept don't count.

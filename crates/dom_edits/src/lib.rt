@@ -14,7 +14,7 @@ mod word;
 mod word_set;
 
 pub use applying::apply;
-pub use edits::{BoxedNodes, DocEdit, Edit, NewNodes, NodeLimit, SheetEdit};
+pub use edits::{DocEdit, Edit, NewNodes, NodeLimit, SharedNodes, SheetEdit};
 pub use refusals::refusal;
 pub use touch::Touch;
 pub use touch_name::TouchName;

@@ -82,11 +82,15 @@ drawn_state n = do
   on ← draw 2
   given (doc.State n Hover (on == 1))
 
+-- the node that an insertion puts in, by what was drawn for its tag and its class
+abbrev pub inserted_node : ℕ → ℕ → Node
+inserted_node tag class = plain_node None (tag_text tag) (class_attr class ∷ [])
+
 abbrev pub drawn_insert : ℕ → Drawing DocEdit
 drawn_insert n = do
   tag ← draw 4
   class ← draw 16
-  given (doc.Insert n 0 (Kept (plain_node None (tag_text tag) (class_attr class ∷ []) ∷ [])))
+  given (doc.Insert n 0 (Kept (inserted_node tag class ∷ [])))
 
 -- the one that a draw below 4 chooses
 abbrev pub drawn_by : ℕ → ℕ → Drawing DocEdit

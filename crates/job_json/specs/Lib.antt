@@ -12,3 +12,4 @@ pub mod Kept
 pub mod KeptEdits
 pub mod Draws
 pub mod Gen
+pub mod Insertions

@@ -2,12 +2,12 @@
 
 ghost use Rattle.std.specs.Prelude.{◌≡◌, ◌<◌, ◌≤◌, ◌∷◌, [], None, map, IfOk, OnOk};
 ghost use Rattle.dom_edits.specs.declared.edits.NewNodes.TheVariants.{Kept};
-ghost use Rattle.job_json.specs.Gen.{drawn_insert, drawn_by, drawn_edit, drawn_batch, drawn_batches, class_text};
+ghost use Rattle.job_json.specs.Gen.{drawn_insert, drawn_by, drawn_edit, drawn_batch, drawn_batches};
 
 use crate::batch_list::BatchList;
-use crate::draws::{draw, tag_text, write_class};
+use crate::drawn_insertions::{Insertions, class_text};
+use crate::draws::draw;
 use dom_edits::{DocEdit, Edit, NewNodes};
-use dom_tree::{Attr, NodeInput, NodeList, States};
 use rand_xoshiro::SplitMix64;
 use std::alloc::Global;
 use stylo_base::{NoMemory, State, Text};
@@ -25,9 +25,10 @@ pub(crate) fn draw_batches(
     requires { 1 ≤ nodes }
     ensures { IfOk result (λ list. list ≡ (drawn_batches nodes batches rng.old).0) }
 {
+    let mut insertions = Insertions::new(alloc)?;
     let mut list = Vec::with_capacity(alloc, batches as usize)?;
     for _place in 0..batches {
-        list.push(draw_batch(alloc, rng, nodes)?)?;
+        list.push(draw_batch(alloc, rng, &mut insertions, nodes)?)?;
     }
     Ok(BatchList::of_vec(list))
 }
@@ -36,6 +37,7 @@ pub(crate) fn draw_batches(
 pub(crate) fn draw_batch(
     alloc: Global,
     rng: &mut SplitMix64,
+    insertions: &mut Insertions,
     nodes: u32,
 ) -> Result<Vec<Edit>, NoMemory>
     requires { 1 ≤ nodes }
@@ -44,24 +46,36 @@ pub(crate) fn draw_batch(
 {
     let mut batch = Vec::with_capacity(alloc, EDITS as usize)?;
     for _place in 0..EDITS {
-        batch.push(draw_edit(alloc, rng, nodes)?)?;
+        batch.push(draw_edit(alloc, rng, insertions, nodes)?)?;
     }
     Ok(batch)
 }
 
 /// Draws an edit.
-fn draw_edit(alloc: Global, rng: &mut SplitMix64, nodes: u32) -> Result<Edit, NoMemory>
+fn draw_edit(
+    alloc: Global,
+    rng: &mut SplitMix64,
+    insertions: &mut Insertions,
+    nodes: u32,
+) -> Result<Edit, NoMemory>
     requires { 1 ≤ nodes }
     ensures edit { IfOk result (λ edit. edit ≡ (drawn_edit nodes rng.old).0) }
     ensures state { OnOk result (rng.new ≡ (drawn_edit nodes rng.old).1) }
 {
     let which = draw(rng, 4);
     let node = 1 + draw(rng, u64::from(nodes));
-    Ok(Edit::Document(draw_by(alloc, rng, which, node)?))
+    let edit = draw_by(alloc, rng, insertions, which, node)?;
+    Ok(Edit::Document(edit))
 }
 
 /// Draws what the edit of an element needs that a number below 4 chooses.
-fn draw_by(alloc: Global, rng: &mut SplitMix64, which: u64, node: u64) -> Result<DocEdit, NoMemory>
+fn draw_by(
+    alloc: Global,
+    rng: &mut SplitMix64,
+    insertions: &mut Insertions,
+    which: u64,
+    node: u64,
+) -> Result<DocEdit, NoMemory>
     ensures edit { IfOk result (λ edit. edit ≡ (drawn_by which node rng.old).0) }
     ensures state { OnOk result (rng.new ≡ (drawn_by which node rng.old).1) }
 {
@@ -76,40 +90,26 @@ fn draw_by(alloc: Global, rng: &mut SplitMix64, which: u64, node: u64) -> Result
             state: State::Hover,
             on: draw(rng, 2) == 1,
         }),
-        2 => draw_insert(alloc, rng, node),
+        2 => draw_insert(alloc, rng, insertions, node),
         _ => Ok(DocEdit::Remove { node }),
     }
 }
 
 /// Draws the insertion of one node in an element.
-fn draw_insert(alloc: Global, rng: &mut SplitMix64, parent: u64) -> Result<DocEdit, NoMemory>
+fn draw_insert(
+    alloc: Global,
+    rng: &mut SplitMix64,
+    insertions: &mut Insertions,
+    parent: u64,
+) -> Result<DocEdit, NoMemory>
     ensures edit { IfOk result (λ edit. edit ≡ (drawn_insert parent rng.old).0) }
     ensures state { OnOk result (rng.new ≡ (drawn_insert parent rng.old).1) }
 {
     let tag = draw(rng, 4);
-    let class = class_text(alloc, draw(rng, 16))?;
-    let attrs = [Attr {
-        name: "class",
-        value: class.as_str(),
-    }];
-    let node = NodeInput {
-        tag: tag_text(tag),
-        attrs: &attrs,
-        states: States::default(),
-    };
-    let list = NodeList::of_root(alloc, node)?;
+    let class = draw(rng, 16);
     Ok(DocEdit::Insert {
         parent,
         index: 0,
-        nodes: NewNodes::of(alloc, list)?,
+        nodes: NewNodes::Kept(insertions.of(alloc, tag, class)?),
     })
-}
-
-/// The class that a number below 16 chooses.
-fn class_text(alloc: Global, k: u64) -> Result<Text, NoMemory>
-    ensures { IfOk result (λ text. text ≡ class_text k) }
-{
-    let mut text = Text::new(alloc);
-    write_class(&mut text, k)?;
-    Ok(text)
 }

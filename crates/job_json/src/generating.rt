@@ -6,6 +6,7 @@ ghost use Rattle.job_json.specs.Gen.{drawn_batch, drawn_nodes, generated, the_sh
 
 use crate::Job;
 use crate::drawn_edits::{draw_batch, draw_batches};
+use crate::drawn_insertions::Insertions;
 use crate::drawn_nodes::draw_nodes;
 use crate::sheet_list::SheetList;
 use dom_edits::Edit;
@@ -60,6 +61,7 @@ pub struct BegunJob {
 pub struct BatchDraws {
     nodes: u32,
     rng: SplitMix64,
+    insertions: Insertions,
 }
 
 impl Model for BatchDraws {
@@ -78,7 +80,7 @@ impl BatchDraws {
         ensures batch { IfOk result (λ batch. batch.items ≡ (drawn_batch self.old.0 self.old.1).0) }
         ensures state { OnOk result (self.new ≡ (self.old.0, (drawn_batch self.old.0 self.old.1).1)) }
     {
-        draw_batch(alloc, &mut self.rng, self.nodes)
+        draw_batch(alloc, &mut self.rng, &mut self.insertions, self.nodes)
     }
 }
 
@@ -97,7 +99,11 @@ pub fn begin_generated(alloc: Global, seed: u64, nodes: u32) -> Result<BegunJob,
     Ok(BegunJob {
         nodes: list,
         sheets: one_sheet(alloc)?,
-        batches: BatchDraws { nodes, rng },
+        batches: BatchDraws {
+            nodes,
+            rng,
+            insertions: Insertions::new(alloc)?,
+        },
     })
 }
 

@@ -7,6 +7,7 @@ mod batch_list;
 mod checked;
 mod document;
 mod drawn_edits;
+mod drawn_insertions;
 mod drawn_nodes;
 mod draws;
 mod edit;

@@ -3,7 +3,7 @@ use Rattle.std.proofs.Common.{◌≡◌, ℕ, ℤ, zero, suc, ◌+◌, ◌<◌, 
 use Rattle.std.specs.Prelude.{IsSome}
 use Rattle.std.specs.List.{IsDistinct}
 use Rattle.std.specs.Option.{option_map_or}
-use Rattle.std.proofs.lemmas.Bool.{or_parts, or_left, or_right, eqb-true, eqb-false, false≢true}
+use Rattle.std.proofs.lemmas.Bool.{cond-false, or_parts, or_left, or_right, eqb-true, eqb-false, false≢true}
 use Rattle.std.proofs.lemmas.Bool.Decides.{same_from_decides}
 use Rattle.std.proofs.lemmas.List.{append-nil, drop_more, get_or-set_other, get_or-set_same, map-append, nil_from_length, take-append-drop, take_all, take_more}
 use Rattle.std.proofs.lemmas.List.Elements.{filter-append}
@@ -16,7 +16,7 @@ use Rattle.scene_model.specs.Numbers.{is_in}
 use Rattle.scene_model.specs.Valid.{IsValid}
 use Rattle.scene_model.proofs.Any.{in_middle}
 use Rattle.scene_model.proofs.Found.{copies-children, each_child-parent, is_element-numbers, parent_of-element, position_of-numbers}
-use Rattle.scene_model.proofs.Numbers.{each_is_in, in_copied, index_in, same_number}
+use Rattle.scene_model.proofs.Numbers.{differs, each_is_in, in_copied, index_in, same_number}
 use Rattle.scene_model.proofs.ParentBefore.{parent_before}
 use Rattle.value_model.specs.Style.{Style}
 use Rattle.cascade_model.specs.StyleOf.{root_of}
@@ -32,7 +32,8 @@ use Rattle.session_model.proofs.WalkLemmas.{results-now}
 use Rattle.plain_style.proofs.CacheLemmas.{kept_at as kept_in}
 use Rattle.style_session.specs.Answers.{styled_seen}
 use Rattle.style_session.specs.Laws.{styled_now}
-use Rattle.style_session.specs.Walking.{known_at, HandsOn, HasMet, IsBare, IsMet, IsParentMet, IsWalk, Learns, Meets, Widens}
+use Rattle.style_session.specs.FirstWalking.{unknown}
+use Rattle.style_session.specs.Walking.{known_at, some_style, HandsOn, HasMet, IsBare, IsMet, IsParentMet, IsWalk, Learns, Meets, Widens}
 use Rattle.style_session.specs.declared.style_cache.StyleCache.{StyleCache}
 use Rattle.style_session.specs.declared.walk.Walk.{Walk}
 
@@ -359,19 +360,17 @@ met-all st walk v all has = has.styled ∙ sym (results-now st v all)
 
 -- what is known where one more is set, and where nothing is
 
-known_in : (known : List (Option ℕ)) (y : ℕ) → known_at known y ≡ get_or known y None
-known_in [] y = refl
-known_in (o ∷ known) zero = refl
-known_in (o ∷ known) (suc y) = known_in known y
+a_style : (n : ℕ) → n < unknown → some_style n ≡ Some n
+a_style n below = cond-false (n == unknown) None (Some n) (differs n unknown (λ same. omega (arith, below, same)))
 
-pub known-set : (known : List (Option ℕ)) (x new : ℕ) → x < length known → (y : ℕ) → known_at (set known x (Some new)) y ≡ cond (x == y) (Some new) (known_at known y)
-known-set known x new within y = known_in (set known x (Some new)) y ∙ (by (x == y) refl ∙ ap (cond (x == y) (Some new)) (sym (known_in known y)))
+pub known-set : (known : List ℕ) (x new : ℕ) → x < length known → new < unknown → (y : ℕ) → known_at (set known x new) y ≡ cond (x == y) (Some new) (known_at known y)
+known-set known x new within below y = by (x == y) refl
   where
-    by : (b : Bool) → (x == y) ≡ b → get_or (set known x (Some new)) y None ≡ cond b (Some new) (get_or known y None)
-    by true e = ap (λ z. get_or (set known x (Some new)) z None) (sym (eqb-true x y e)) ∙ get_or-set_same known x (Some new) None within
-    by false e = get_or-set_other known x y (Some new) None (λ same. eqb-false x y e (sym same))
+    by : (b : Bool) → (x == y) ≡ b → known_at (set known x new) y ≡ cond b (Some new) (known_at known y)
+    by true e = ap (known_at (set known x new)) (sym (eqb-true x y e)) ∙ (ap some_style (get_or-set_same known x new unknown within) ∙ a_style new below)
+    by false e = ap some_style (get_or-set_other known x y new unknown (λ same. eqb-false x y e (sym same)))
 
-pub known-replicate : (n y : ℕ) → known_at (replicate n None) y ≡ None
+pub known-replicate : (n y : ℕ) → known_at (replicate n unknown) y ≡ None
 known-replicate zero y = refl
 known-replicate (suc n) zero = refl
 known-replicate (suc n) (suc y) = known-replicate n y

@@ -1,6 +1,5 @@
 -- What a walk in tree order has found out.
-use Rattle.std.specs.Prelude.{◌≡◌, ℕ, ◌==◌, List, [], ◌∷◌, ◌++◌, filter, length, map, Bool, true, ◌&&◌, ◌||◌, not, if◌then◌else◌, Option, Some, None, slice_get}
-use Rattle.std.specs.Option.{option_flatten}
+use Rattle.std.specs.Prelude.{◌≡◌, ℕ, ◌==◌, List, [], ◌∷◌, ◌++◌, filter, length, map, Bool, true, ◌&&◌, ◌||◌, not, if◌then◌else◌, Option, Some, None, slice_get, slice_index_or}
 use Rattle.scene_model.specs.Element.{Element}
 use Rattle.scene_model.specs.Lookups.{IsElement, children, parent_of}
 use Rattle.scene_model.specs.Numbers.{is_in}
@@ -8,13 +7,18 @@ use Rattle.invalidation_map.specs.Steps.{HasRoom}
 use Rattle.session_model.specs.Standing.{Standing, elements_of, is_cascaded, is_matched, is_style, kept_at, root_size_differs, root_size_in, style_in}
 use Rattle.session_model.specs.Walk as model
 use Rattle.style_session.specs.Answers.{styled_seen}
+use Rattle.style_session.specs.FirstWalking.{unknown}
 use Rattle.style_session.specs.Laws.{styled_now}
 use Rattle.style_session.specs.declared.style_cache.StyleCache.{StyleCache}
 use Rattle.style_session.specs.declared.walk.Walk.{Walk}
 
+-- a number that is kept of a style, if it is one
+abbrev pub some_style : ℕ → Option ℕ
+some_style n = if n == unknown then None else Some n
+
 -- the number of the new style of an element, if it is known
-abbrev pub known_at : List (Option ℕ) → ℕ → Option ℕ
-known_at known x = option_flatten (slice_get known x)
+abbrev pub known_at : List ℕ → ℕ → Option ℕ
+known_at known x = some_style (slice_index_or known x unknown)
 
 -- An element that was met: where nothing is known of it, its kept style is the one that it has, and where that is
 -- another than the kept one, its children are known to be cascaded.

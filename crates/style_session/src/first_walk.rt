@@ -25,7 +25,7 @@ use style_value::Style;
 use stylo_base::NoMemory;
 
 /// In place of the number of a style that is not known.
-const UNKNOWN: u32 = u32::MAX;
+pub(crate) const UNKNOWN: u32 = u32::MAX;
 
 /// What the first restyle makes.
 #[derive(Drop)]

@@ -18,6 +18,7 @@ ghost use Rattle.style_session.specs.Lent.{lent};
 ghost use Rattle.style_session.specs.SessionView.{slot_at};
 ghost use Rattle.style_session.specs.Walking.{HandsOn, HasMet, IsBare, IsMet, IsParentMet, IsWalk, Learns, Meets, Widens, known_at};
 
+use crate::first_walk::UNKNOWN;
 use crate::lists::Lists;
 use crate::style_cache::StyleCache;
 use crate::styled::Styled;
@@ -31,9 +32,9 @@ use stylo_base::NoMemory;
 /// What a walk in tree order has found out.
 #[derive(Drop)]
 struct Walk {
-    /// By number: the number of the element's new style in the table. None: the element was not met, or it
-    /// keeps its style, which was not asked for.
-    known: Vec<Option<u32>>,
+    /// By number: the number of the element's new style in the table. `UNKNOWN`: the element was not met, or
+    /// it keeps its style, which was not asked for.
+    known: Vec<u32>,
     /// The elements that are cascaded, as far as it is known: those that are matched, the children of those
     /// whose style has come out as another than the kept one, and all once the root's font size has.
     due: ElementSet,
@@ -84,7 +85,7 @@ impl Walk {
         let mut due = ElementSet::new(inputs.alloc, last as u32)?;
         add_matched(inputs.doc, lists, &mut due);
         Ok(Walk {
-            known: vec![in inputs.alloc; None; last + 1]?,
+            known: vec![in inputs.alloc; UNKNOWN; last + 1]?,
             due,
             styled: Vec::new(inputs.alloc),
         })
@@ -124,7 +125,10 @@ impl Walk {
     fn known_of(&self, number: u32) -> Option<u32>
         ensures { result ≡ known_at self.now.known.items number }
     {
-        self.known.get(number as usize).copied().flatten()
+        match self.known.get(number as usize) {
+            Some(style) if *style < UNKNOWN => Some(*style),
+            _ => None,
+        }
     }
 
     /// Styles an element over the new style of its parent, which was met, and hands it on.
@@ -226,10 +230,10 @@ impl Walk {
         requires { number < length self.old.known.items }
         ensures { OnOk result (Learns number style self.old self.new) }
     {
-        let Ok(style) = u32::try_from(style) else {
+        if style >= UNKNOWN as usize {
             return Err(NoMemory);
-        };
-        self.known[number as usize] = Some(style);
+        }
+        self.known[number as usize] = style as u32;
         Ok(())
     }
 

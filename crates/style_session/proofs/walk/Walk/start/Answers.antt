@@ -1,16 +1,12 @@
-use Rattle.std.proofs.Common.{◌≡◌, ◌+◌, ℕ, Option, Some, None, length, replicate, refl, ap, ◌∙◌, arith}
+use Rattle.std.proofs.Common.{◌≡◌, ◌+◌, ℕ, length, replicate, refl, ap, ◌∙◌, arith}
 use Rattle.std.proofs.lemmas.List.{length-replicate}
 use Rattle.scene_model.specs.Numbers.{is_in}
 use Rattle.invalidation_map.specs.Members.{Members}
+use Rattle.style_session.specs.FirstWalking.{unknown}
 use Rattle.style_session.specs.Walking.{known_at}
 use Rattle.style_session.proofs.WalkLemmas.{known-replicate}
 use Rattle.style_session.proofs.WalkLentLemmas.{matched-seen}
 use Rattle.style_session.proofs.walk.Walk.start.Goals as goal
-
--- a clone of None is None
-none_clone : (C : Option ℕ → Type 0) → ((v : ℕ) → C (Some v) → ⊥) → (y : Option ℕ) → C y → y ≡ None
-none_clone C never None h = refl
-none_clone C never (Some v) h = absurd (never v h)
 
 pub add_matched-requires-clause-room : goal.add_matched-requires-clause-room
 add_matched-requires-clause-room c = λ x there.
@@ -27,11 +23,11 @@ returns c =
     let lists = c.args.lists.now in
     let due = c.add_matched.new.due in
     let places = c.last-last.result + 1 in
-    let none : c.in_ok-vec.field-0.items ≡ replicate places None = c.in_ok-vec.ensures.items_if_clones_equal (none_clone _ (λ v g. g)) in
+    let none : c.in_ok-vec.field-0.items ≡ replicate places unknown = c.in_ok-vec.ensures.items_if_clones_equal (λ y h. h) in
     record {
       room = λ x there.
           let near = c.last-last.ensures.numbered x there in
-          omega (arith, ap length none, length-replicate {A = Option ℕ} places None);
+          omega (arith, ap length none, length-replicate {A = ℕ} places unknown);
       due_room = λ x there.
           let near = c.last-last.ensures.numbered x there in
           let long : c.in_ok-due.due.room ≡ c.last-last.result + 1 = ap (λ (m : Members). m.room) c.in_ok-due.ensures in
