@@ -2,6 +2,7 @@
 use Rattle.std.specs.Prelude.{◌≡◌, ℕ, List, [], ◌∷◌, ◌++◌, ℤ, pos, neg_ℤ, ◌*ℤ◌, ◌+ℤ◌, map, true, false, codes, decimal}
 use Rattle.std.proofs.Common.{refl, arith}
 use Rattle.std.proofs.lemmas.Fmt.{decimal-digits_of}
+use Rattle.base_model.specs.LineFeeds.{is_within_line, line_feeds}
 use Rattle.base_model.specs.Text.{ascii_lower, same_text, is_word}
 use Rattle.base_model.specs.Thousandths.{clamped, rounded, printed_number}
 use Rattle.base_model.specs.Specificity.{Specificity, greater, is_less}
@@ -43,6 +44,15 @@ words_in_any_case = refl
 
 no_other_case : same_text (ascii_lower (201 ∷ [])) (ascii_lower (233 ∷ [])) ≡ false
 no_other_case = refl
+
+-- line feeds
+
+feeds_counted : line_feeds (codes "a\nb\n") ≡ 2
+unfolding line_feeds
+feeds_counted = refl
+
+no_feed_within : map is_within_line (codes "a b" ∷ codes "a\nb" ∷ []) ≡ true ∷ false ∷ []
+no_feed_within = refl
 
 -- specificity
 

@@ -6,4 +6,5 @@ pub mod Results
 pub mod Digits
 pub mod Specificities
 pub mod Texts
+pub mod LineFeedLemmas
 mod Examples

@@ -1,6 +1,8 @@
 -- Items of a list by their index, and what holds of each.
-use Rattle.std.proofs.Common.{◌≡◌, ℕ, zero, suc, ◌<◌, Bool, true, false, cond, List, [], ◌∷◌, ◌++◌, map, find, length, take, drop, Option, Some, slice_get, refl, arith}
+use Rattle.std.proofs.Common.{◌≡◌, ℕ, zero, suc, ◌<◌, Bool, true, false, cond, List, [], ◌∷◌, ◌++◌, map, find, length, take, drop, Option, Some, slice_get, refl, subst, arith}
 use Rattle.std.specs.List.{AllByRecursion}
+use Rattle.std.proofs.lemmas.Bool.{cond_both}
+use Rattle.std.proofs.lemmas.Option.{same_Some}
 
 -- what holds of each item
 
@@ -40,6 +42,12 @@ found_one p false y x o e h r = r h
 pub find_passes : {X : Type 0} (p : X → Bool) (xs : List X) (x : X) → find p xs ≡ Some x → p x ≡ true
 find_passes p [] x h = cc
 find_passes p (y ∷ ys) x h = found_one p (p y) y x (find p ys) refl h (find_passes p ys x)
+
+-- what holds of each holds of what is found
+pub found_holds : {X : Type 0} (P : X → Type 0) (t : X → Bool) (xs : List X) (x : X) → AllByRecursion P xs → find t xs ≡ Some x → P x
+found_holds P t [] x h found = cc
+found_holds P t (y ∷ ys) x h found =
+    cond_both (t y) _ _ (λ o. o ≡ Some x → P x) (λ _ e. subst P (same_Some y x e) h.0) (λ _ e. found_holds P t ys x h.1 e) found
 
 pub slice_get_some : {X : Type 0} (xs : List X) (i : ℕ) → i < length xs → (x : X) × (slice_get xs i ≡ Some x)
 slice_get_some [] i h = absurd (omega arith)

@@ -2,6 +2,7 @@ pub mod Options
 pub mod Lists
 pub mod Ascii
 pub mod Text
+pub mod LineFeeds
 pub mod Limits
 pub mod Thousandths
 pub mod Specificity

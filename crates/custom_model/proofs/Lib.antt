@@ -7,6 +7,7 @@ mod Examples
 pub mod ExpandLemmas
 pub mod ExpandWritable
 pub mod KeptLemmas
+pub mod LineLemmas
 pub mod Maps
 pub mod Normal
 pub mod PartsLemmas

@@ -3,6 +3,7 @@ pub mod Lists
 pub mod Core
 pub mod Cover
 pub mod Standing
+pub mod TagLemmas
 pub mod AfterLemmas
 pub mod Forward
 pub mod ExampleCases

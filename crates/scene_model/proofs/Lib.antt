@@ -2,6 +2,7 @@ mod Examples
 pub mod Lists
 pub mod Numbers
 pub mod Found
+pub mod TagLemmas
 pub mod Climbing
 pub mod Listed
 pub mod Subtrees

@@ -22,6 +22,7 @@ pub mod SlotLemmas
 pub mod FlagLemmas
 pub mod RestyleLemmas
 pub mod BatchLemmas
+pub mod TagLemmas
 mod BatchCases
 mod BatchExamples
 mod SheetBatchExamples

@@ -1,5 +1,7 @@
 pub mod RuleCuts
+pub mod DeclaredGiven
 pub mod DeclaredWritable
+pub mod LineLemmas
 pub mod ExampleCases
 mod Examples
 mod ValueExamples

@@ -22,6 +22,8 @@ pub mod WrittenLemmas
 pub mod SpellingLemmas
 pub mod NameFacts
 pub mod SoundLemmas
+pub mod NumberCharacters
+pub mod LineLemmas
 pub mod CleanTokens
 pub mod CleanLemmas
 pub mod PreprocessLemmas
