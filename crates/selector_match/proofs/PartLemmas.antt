@@ -48,7 +48,7 @@ ends_with-Decides text part = (
   λ (front, e). ap (λ t. ends_with t part) e ∙ ends_with-append front part,
 )
 
-pub has_part-begins : (text part : List ℕ) → begins_with text part ≡ true → has_part text part ≡ true
+has_part-begins : (text part : List ℕ) → begins_with text part ≡ true → has_part text part ≡ true
 has_part-begins [] [] e = refl
 has_part-begins [] (p ∷ part) e = cc
 has_part-begins (c ∷ text) part e = ap (λ b. b || has_part text part) e

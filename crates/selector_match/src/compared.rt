@@ -11,6 +11,8 @@ ghost use Rattle.selector_model.specs.Comparisons as model;
 ghost use Rattle.selector_model.specs.Comparisons.{folded};
 ghost use Rattle.selector_types.specs.SimpleView.{operator_of};
 
+use crate::two_way::find_ignoring_case;
+use memchr::memmem;
 use selector_types::AttributeOperator;
 use stylo_base::eq_ascii_case;
 
@@ -61,15 +63,10 @@ fn ends_with(text: &[u8], part: &[u8], case_counts: bool) -> bool
 fn has_part(text: &[u8], part: &[u8], case_counts: bool) -> bool
     ensures { result ≡ model.has_part (folded case_counts text.now) (folded case_counts part.now) }
 {
-    let mut rest = text;
-    loop {
-        if begins_with(rest, part, case_counts) {
-            return true;
-        }
-        match rest.split_first() {
-            Some((_, after)) => rest = after,
-            None => return false,
-        }
+    if case_counts {
+        memmem::find(text, part).is_some()
+    } else {
+        find_ignoring_case(text, part).is_some()
     }
 }
 

@@ -8,6 +8,7 @@ mod key;
 mod match_result;
 mod matching;
 mod simple;
+mod two_way;
 
 pub use filter::{filter_of, may_hold};
 pub use matching::matches;

@@ -1,9 +1,12 @@
-use Rattle.std.proofs.Common.{sym, ◌∙◌}
-use Rattle.selector_model.specs.Comparisons.{folded}
-use Rattle.selector_match.proofs.PartLemmas.{has_part-begins}
+use Rattle.std.proofs.Common.{◌∙◌}
+use Rattle.base_model.specs.Text.{ascii_lower}
+use Rattle.selector_match.proofs.FoundLemmas.{has_part-found}
 use Rattle.selector_match.proofs.compared.has_part.Goals as goal
 
-pub returns-then-begins_with : goal.returns-then-begins_with
-returns-then-begins_with c =
-    sym (has_part-begins (folded c.args.case_counts c.loop-rest.rest.now) (folded c.args.case_counts c.args.part.now) (sym c.begins_with.ensures ∙ c.if-begins_with.true))
-    ∙ c.loop-rest.invariant
+pub returns-then-case_counts : goal.returns-then-case_counts
+returns-then-case_counts c =
+    rw c.if-case_counts.true (c.is_some.ensures ∙ has_part-found c.args.text.now c.args.part.now c.find.result c.find.ensures)
+
+pub returns-else-case_counts : goal.returns-else-case_counts
+returns-else-case_counts c =
+    rw c.if-case_counts.false (c.is_some-else-case_counts.ensures ∙ has_part-found (ascii_lower c.args.text.now) (ascii_lower c.args.part.now) c.find_ignoring_case.result c.find_ignoring_case.ensures)
