@@ -16,16 +16,16 @@ insertions-set made tag class nodes below within is are = record {
   room = length-set made (tag * 16 + class) (Some nodes) ∙ are.room;
   right = λ t k other small at. one t k other small at (tag * 16 + class == t * 16 + k) refl;
 } where
-    one : (t k : ℕ) (other : List Node) → k < 16 → slice_get (slice_set made (tag * 16 + class) (Some nodes)) (t * 16 + k) ≡ Some (Some other) → (b : Bool) → (tag * 16 + class == t * 16 + k) ≡ b → other ≡ inserted_node t k ∷ []
-    one t k other small at true e =
-        let place : tag * 16 + class ≡ t * 16 + k = eqb-true (tag * 16 + class) (t * 16 + k) e in
-        let tags : tag ≡ t = omega (arith, place, below, small) in
-        let classes : class ≡ k = omega (arith, place, tags) in
-        let here : slice_get (slice_set made (tag * 16 + class) (Some nodes)) (tag * 16 + class) ≡ Some (Some other) = ap (slice_get (slice_set made (tag * 16 + class) (Some nodes))) place ∙ at in
-        let same : Some nodes ≡ Some other = same_Some (Some nodes) (Some other) (sym (get_set_same made (tag * 16 + class) (Some nodes) within) ∙ here) in
-        sym (same_Some nodes other same) ∙ (is ∙ (ap (λ x. inserted_node x class ∷ []) tags ∙ ap (λ x. inserted_node t x ∷ []) classes))
-    one t k other small at false e =
-        are.right t k other small (sym (get_set_other made (tag * 16 + class) (t * 16 + k) (Some nodes) (eqb-false (tag * 16 + class) (t * 16 + k) e)) ∙ at)
+  one : (t k : ℕ) (other : List Node) → k < 16 → slice_get (slice_set made (tag * 16 + class) (Some nodes)) (t * 16 + k) ≡ Some (Some other) → (b : Bool) → (tag * 16 + class == t * 16 + k) ≡ b → other ≡ inserted_node t k ∷ []
+  one t k other small at true e =
+      let place : tag * 16 + class ≡ t * 16 + k = eqb-true (tag * 16 + class) (t * 16 + k) e in
+      let tags : tag ≡ t = omega (arith, place, below, small) in
+      let classes : class ≡ k = omega (arith, place, tags) in
+      let here : slice_get (slice_set made (tag * 16 + class) (Some nodes)) (tag * 16 + class) ≡ Some (Some other) = ap (slice_get (slice_set made (tag * 16 + class) (Some nodes))) place ∙ at in
+      let same : Some nodes ≡ Some other = same_Some (Some nodes) (Some other) (sym (get_set_same made (tag * 16 + class) (Some nodes) within) ∙ here) in
+      sym (same_Some nodes other same) ∙ (is ∙ (ap (λ x. inserted_node x class ∷ []) tags ∙ ap (λ x. inserted_node t x ∷ []) classes))
+  one t k other small at false e =
+      are.right t k other small (sym (get_set_other made (tag * 16 + class) (t * 16 + k) (Some nodes) (eqb-false (tag * 16 + class) (t * 16 + k) e)) ∙ at)
 
 -- no list is made yet, in so many places
 pub record AreUnmade (places : ℕ) (made : List (Option (List Node))) : Type 0 where
@@ -40,11 +40,12 @@ unmade-push places made more is are = subst (AreUnmade (places + 1)) (sym is) (r
   room = length_push made None ∙ ap (λ n. n + 1) are.room;
   none = λ i nodes at. by i nodes at (below_or_last i (slice_get_within (made ++ None ∷ []) i (Some nodes) at));
 }) where
-    below_or_last : (i : ℕ) → i < length (made ++ None ∷ []) → (i < length made) ⊎ (i ≡ length made)
-    below_or_last i within = grind (arith, length_push made None)
-    by : (i : ℕ) (nodes : List Node) → slice_get (made ++ None ∷ []) i ≡ Some (Some nodes) → (i < length made) ⊎ (i ≡ length made) → ⊥
-    by i nodes at (inl below) = are.none i nodes (sym (get_push_below made i None below) ∙ at)
-    by i nodes at (inr last) = none-some nodes (same_Some None (Some nodes) (sym (get_push_last made i None last) ∙ at))
+  below_or_last : (i : ℕ) → i < length (made ++ None ∷ []) → (i < length made) ⊎ (i ≡ length made)
+  below_or_last i within = grind (arith, length_push made None)
+
+  by : (i : ℕ) (nodes : List Node) → slice_get (made ++ None ∷ []) i ≡ Some (Some nodes) → (i < length made) ⊎ (i ≡ length made) → ⊥
+  by i nodes at (inl below) = are.none i nodes (sym (get_push_below made i None below) ∙ at)
+  by i nodes at (inr last) = none-some nodes (same_Some None (Some nodes) (sym (get_push_last made i None last) ∙ at))
 
 pub insertions-none : (made : List (Option (List Node))) → AreUnmade 64 made → AreInsertions made
 insertions-none made are = record {

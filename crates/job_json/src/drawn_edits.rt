@@ -1,7 +1,6 @@
 //! The batches of a generated job.
 
-ghost use Rattle.std.specs.Prelude.{◌≡◌, ◌<◌, ◌≤◌, ◌∷◌, [], None, map, IfOk, OnOk};
-ghost use Rattle.dom_edits.specs.declared.edits.NewNodes.TheVariants.{Kept};
+ghost use Rattle.std.specs.Prelude.{◌≡◌, ◌<◌, ◌≤◌, IfOk, OnOk};
 ghost use Rattle.job_json.specs.Gen.{drawn_insert, drawn_by, drawn_edit, drawn_batch, drawn_batches};
 
 use crate::batch_list::BatchList;

@@ -1,4 +1,5 @@
--- What the search of a part reads, and where it cuts the part. What a critical place and a period are, and what it is to stand somewhere, say the definitions of the kit's `memchr`.
+-- What the search of a part reads, and where it cuts the part. What a critical place and a period are, and what it is
+-- to stand somewhere, say the definitions of the kit's `memchr`.
 use Rattle.std.specs.Prelude.{◌≡◌, ℕ, ◌+◌, ◌<◌, ◌≤◌, Bool, true, false, length, slice_index}
 use Rattle.base_model.specs.Text.{Characters, ascii_lower}
 use Rattle.memchr.specs.Critical.{IsCritical, NoPeriodBelow}
@@ -18,7 +19,8 @@ abbrev pub Precedes : Bool → ℕ → ℕ → Type 0
 Precedes false a b = a < b
 Precedes true a b = b < a
 
--- A part is cut at a critical place, and a search moves on by no more than its least period. So many of its first bytes are known to stand then.
+-- A part is cut at a critical place, and a search moves on by no more than its least period. So many of its first
+-- bytes are known to stand then.
 pub record IsCut (part : Characters) (cut : Cut) : Type 0 where
   pub below : cut.place < length part
   pub critical : IsCritical (lower_at part) (length part) cut.place

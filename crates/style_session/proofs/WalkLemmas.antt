@@ -21,7 +21,7 @@ use Rattle.scene_model.proofs.ParentBefore.{parent_before}
 use Rattle.value_model.specs.Style.{Style}
 use Rattle.cascade_model.specs.StyleOf.{root_of}
 use Rattle.invalidation_map.proofs.SetLemmas.{one_added}
-use Rattle.invalidation_map.specs.Members.{AreAdded, AreBelow, Members, added}
+use Rattle.invalidation_map.specs.Members.{AreBelow, Members, added}
 use Rattle.invalidation_map.specs.Steps.{HasRoom}
 use Rattle.session_model.specs.Standing.{Standing, elements_of, has_size, is_cascaded, is_matched, is_style, kept_at, parent_differs, root_size_differs, root_size_in, style_in}
 use Rattle.session_model.specs.StandingInvariant.{AllKeep}

@@ -9,7 +9,6 @@ ghost use Rattle.cascade_model.specs.StyleOf.{root_of};
 ghost use Rattle.sheet_set.specs.View.{sources_seen};
 ghost use Rattle.plain_style.specs.Fits.{Fits};
 ghost use Rattle.plain_style.specs.declared.prepared.Prepared.{Prepared};
-ghost use Rattle.invalidation_map.specs.Steps.{HasRoom};
 ghost use Rattle.session_model.specs.Standing.{style_in};
 ghost use Rattle.style_session.specs.FirstWalking.{AreAll, AreKept, IsBareFirst, IsFirstWalk, IsRight, Keeps, place_of as model_place_of};
 ghost use Rattle.style_session.specs.Lent.{scene_lent};

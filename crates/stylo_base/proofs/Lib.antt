@@ -1,4 +1,5 @@
 pub mod CaseLemmas
+pub mod KindLines
 pub mod NameLemmas
 pub mod NumberLemmas
 pub mod RoundingLemmas
