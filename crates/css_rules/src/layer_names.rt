@@ -1,6 +1,6 @@
 //! The names of cascade layers, as `@layer` has them (css-cascade-5, section 6.4).
 
-ghost use Rattle.std.specs.Prelude.{◌≡◌, ◌≤◌, ◌∷◌, [], IfOk, length};
+ghost use Rattle.std.specs.Prelude.{◌≡◌, ◌∷◌, [], IfOk};
 ghost use Rattle.std.specs.Option.{option_map};
 ghost use Rattle.syntax_model.specs.LayersIn as model;
 ghost use Rattle.layer_order.specs.Chain.{part_of};
@@ -8,7 +8,7 @@ ghost use Rattle.css_rules.specs.Layers as layers;
 ghost use Rattle.css_rules.specs.View.{context_of, contexts_of, edition_of};
 
 use crate::{Context, SheetEdition};
-use css_tokens::{Cursor, Token, Wide, trimmed, without_white};
+use css_tokens::{CommaSeparated, Cursor, Token, Wide, trimmed, without_white};
 use layer_order::Part;
 use std::alloc::Global;
 use stylo_base::{Atom, NoMemory};
@@ -55,28 +55,16 @@ pub(crate) fn layers_declared(
     ensures { IfOk result (λ found. option_map (λ layers. contexts_of layers.items) found
         ≡ model.layers_declared (context_of context.now) prelude.now) }
 {
+    let mut names = CommaSeparated::new(prelude);
     let mut list = Vec::new(alloc);
-    let mut left = prelude;
     // The proof calls the loop by this label.
-    'names: loop {
-        let (name, rest) = left.split_at(before_comma(left));
+    'names: while let Some(name) = names.next(alloc)? {
         let Some(layer) = layer_named(alloc, context, trimmed(name))? else {
             return Ok(None);
         };
         list.push(layer)?;
-        let Some((_comma, after)) = rest.split_first() else {
-            return Ok(Some(list));
-        };
-        left = after;
     }
-}
-
-/// How many tokens come before the first comma: all, if there is none.
-fn before_comma(tokens: &[Token]) -> usize
-    ensures value { result ≡ layers.before_comma tokens.now }
-    ensures inside { result ≤ length tokens.now }
-{
-    tokens.iter().take_while(|token| !token.is_comma()).count()
+    Ok(Some(list))
 }
 
 /// The layer of the name that the tokens are, in a context.

@@ -16,3 +16,5 @@ pub mod NormalLemmas
 pub mod ValidityLemmas
 pub mod NameLemmas
 pub mod ListLemmas
+pub mod InsideLemmas
+pub mod SeparatedLemmas

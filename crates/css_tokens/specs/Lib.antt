@@ -11,3 +11,4 @@ pub mod Steps
 pub mod Opened
 pub mod OpenView
 pub mod Place
+pub mod Separated

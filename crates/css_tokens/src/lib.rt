@@ -4,6 +4,7 @@
 
 mod bracket;
 pub mod characters;
+mod comma_separated;
 mod cursor;
 mod custom;
 mod escape;
@@ -29,6 +30,7 @@ mod url;
 mod wide;
 
 pub use bracket::Bracket;
+pub use comma_separated::CommaSeparated;
 pub use cursor::{Cursor, Part};
 pub use custom::{
     CustomEntry, CustomMap, CustomName, CustomValue, NamedEntry, PartReader, PartStep, TOKEN_LIMIT,

@@ -1,11 +1,12 @@
 //! The brackets that are open.
 
-ghost use Rattle.std.specs.Prelude.{◌≡◌, ◌++◌, [], OnOk, length};
+ghost use Rattle.std.specs.Prelude.{◌≡◌, ◌∷◌, ◌++◌, [], IfOk, OnOk, length};
 ghost use Rattle.base_model.specs.Lists.{is_nil};
+ghost use Rattle.css_tokens.specs.View.{bracket_of};
 ghost use Rattle.syntax_model.specs.Brackets.{closers, open_past};
 
-use crate::Token;
 use crate::open_stack::OpenStack;
+use crate::{Bracket, Token};
 use std::alloc::Global;
 use std::marker::Model;
 use stylo_base::NoMemory;
@@ -36,6 +37,15 @@ impl OpenBrackets {
         OpenBrackets {
             stack: OpenStack::new(alloc),
         }
+    }
+
+    /// One bracket is open.
+    pub fn one(alloc: Global, bracket: Bracket) -> Result<OpenBrackets, NoMemory>
+        ensures { IfOk result (λ brackets. brackets ≡ bracket_of bracket ∷ []) }
+    {
+        let mut stack = OpenStack::new(alloc);
+        stack.begin_bracket(bracket)?;
+        Ok(OpenBrackets { stack })
     }
 
     /// Whether no bracket is open.

@@ -88,6 +88,14 @@ impl OpenStack {
         }
     }
 
+    /// A bracket begins.
+    pub(crate) fn begin_bracket(&mut self, bracket: Bracket) -> Result<(), NoMemory>
+        ensures { OnOk result (self.new ≡ Some (bracket_of bracket) ∷ self.old) }
+    {
+        self.parts.push_front(OpenPart::Bracket(bracket))?;
+        Ok(())
+    }
+
     /// Goes on after a token of this kind that stands for itself.
     pub(crate) fn pass(&mut self, kind: TokenKind) -> Result<(), NoMemory>
         ensures passed { OnOk result (self.new ≡ opened.beyond self.old (kind_of kind)) }

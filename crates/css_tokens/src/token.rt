@@ -117,6 +117,16 @@ impl Token {
         matches!(self.kind(), TokenKind::Hash { .. })
     }
 
+    /// Whether it is a hash that is an identifier.
+    pub fn is_id_hash(&self) -> bool
+        ensures { result ≡ kinds.is_id_hash self.now.kind }
+    {
+        match self.kind() {
+            TokenKind::Hash { is_id } => is_id,
+            _ => false,
+        }
+    }
+
     /// Whether it is a comma.
     pub fn is_comma(&self) -> bool
         ensures { result ≡ kinds.is_comma self.now.kind }
@@ -136,6 +146,13 @@ impl Token {
         ensures { result ≡ kinds.is_semicolon self.now.kind }
     {
         matches!(self.kind(), TokenKind::Semicolon)
+    }
+
+    /// Whether it is `[`.
+    pub fn is_open_square(&self) -> bool
+        ensures { result ≡ kinds.is_open_square self.now.kind }
+    {
+        matches!(self.kind(), TokenKind::OpenSquare)
     }
 
     /// Whether it is `{`.

@@ -1,6 +1,7 @@
 -- The compounds of a selector, as they are read: those so far, before what is left.
-use Rattle.std.proofs.Common.{◌≡◌, ℕ, zero, suc, ◌+◌, ◌-◌, ◌<◌, ◌≤◌, ◌==◌, length, false, nat_le, if◌then◌else◌, List, [], ◌∷◌, Option, Some, None, option_and_then, refl, sym, ap, ◌∙◌, arith}
+use Rattle.std.proofs.Common.{◌≡◌, ℕ, zero, suc, ◌+◌, ◌-◌, ◌<◌, ◌≤◌, false, nat_le, if◌then◌else◌, List, [], ◌∷◌, Option, Some, None, option_and_then, refl, sym, ap, ◌∙◌, arith}
 use Rattle.std.proofs.lemmas.Bool.Decides.{nat_tests}
+use Rattle.base_model.specs.Lists.{is_nil}
 use Rattle.syntax_model.specs.Token.{Token}
 use Rattle.selector_model.specs.Compounds.{compound_limit, compounds_in, compounds_within}
 use Rattle.selector_model.specs.Selector.{Selector, subject, Combinator, Compound}
@@ -43,10 +44,10 @@ read_first reader tokens compound rest count left e n is =
       same = rw (← e) (ap (option_and_then (λ selector. more_after reader compound_limit selector rest)) (limit_holds (subject compound) (omega (arith, so_many, c.small))) ∙ ap (λ s. more_after reader compound_limit s rest) (sym is));
     }
 
-pub read_no_compound : (reader : Reader) (whole : Option Selector) (left : Selector) (count : ℕ) (rest : List Token) (combinator : Combinator) (after : List Token) → IsReadSoFar reader whole left count rest → (length rest == 0) ≡ false → Some (combinator, after) ≡ combinator_at rest → None ≡ compound_at reader after → None ≡ whole
+pub read_no_compound : (reader : Reader) (whole : Option Selector) (left : Selector) (count : ℕ) (rest : List Token) (combinator : Combinator) (after : List Token) → IsReadSoFar reader whole left count rest → is_nil rest ≡ false → Some (combinator, after) ≡ combinator_at rest → None ≡ compound_at reader after → None ≡ whole
 read_no_compound reader whole left count rest combinator after h more e n = from h.most rest h.room h.same more e
   where
-    from : (most : ℕ) (rest : List Token) → compound_limit < most + count → whole ≡ more_after reader most left rest → (length rest == 0) ≡ false → Some (combinator, after) ≡ combinator_at rest → None ≡ whole
+    from : (most : ℕ) (rest : List Token) → compound_limit < most + count → whole ≡ more_after reader most left rest → is_nil rest ≡ false → Some (combinator, after) ≡ combinator_at rest → None ≡ whole
     from zero rest room same more e = absurd (omega (arith, room, h.small))
     from (suc most) [] room same more e = absurd (cc)
     from (suc most) (token ∷ tokens) room same more e = sym (same ∙ rw (← e, ← n) refl)

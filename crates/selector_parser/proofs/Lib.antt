@@ -1,4 +1,3 @@
-pub mod InsideLemmas
 pub mod NameLemmas
 pub mod IntegerLemmas
 pub mod ListLemmas

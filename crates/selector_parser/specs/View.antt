@@ -1,8 +1,10 @@
--- Functional pseudo-classes and what An+B begins with, as those of the definitions.
-use Rattle.sheet_model.specs.AnPlusB.{Head}
+-- Functional pseudo-classes as those of the definitions, and An+B by what it begins with.
+use Rattle.std.specs.Prelude.{Option, Some}
+use Rattle.base_model.specs.Options.{◌>>=◌}
+use Rattle.selector_model.specs.Selector.{AnB}
+use Rattle.sheet_model.specs.AnPlusB.{Head, b_in, formula}
 use Rattle.sheet_model.specs.SelectorsIn as model
 use Rattle.selector_parser.specs.declared.function.Function.{Function}
-use Rattle.selector_parser.specs.declared.start.Start.{Start}
 use Rattle.selector_parser.specs.declared.function.Function.TheVariants.{Index, Is, Where, Not}
 
 abbrev pub function_of : Function → model.Function
@@ -11,6 +13,8 @@ function_of Is = model.is_list
 function_of Where = model.where_list
 function_of Not = model.not_list
 
--- what An+B begins with
-abbrev pub head_seen : Start → Head
-head_seen start = record { a = start.a; word = start.word.items; rest = start.rest.now }
+-- A and B, by what An+B begins with
+abbrev pub formula_from : Head → Option AnB
+formula_from head = do
+  b ← b_in head.word head.rest
+  Some (formula head.a b)

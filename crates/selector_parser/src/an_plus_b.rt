@@ -2,15 +2,14 @@
 
 ghost use Rattle.std.specs.Prelude.{◌≡◌, IfOk, option_map};
 ghost use Rattle.selector_types.specs.SimpleView.{formula_of};
-ghost use Rattle.sheet_model.specs.AnPlusB.{an_plus_b_in, formula_words, integer_in, linear_in, word_in};
+ghost use Rattle.sheet_model.specs.AnPlusB.{an_plus_b_in, formula_words, integer_in, word_in};
 ghost use Rattle.sheet_model.specs.SelectorTokens.{named};
 
 use crate::integer::integer;
 use crate::kinds::is_integer_number;
+use crate::linear::linear;
 use crate::names::is;
-use crate::offset::offset;
-use crate::start::first_of;
-use css_tokens::{Token, name_of, spelling_of, trimmed};
+use css_tokens::{Cursor, Token, name_of, spelling_of, trimmed};
 use selector_types::AnB;
 use std::alloc::Global;
 use stylo_base::{NoMemory, Text};
@@ -34,8 +33,9 @@ pub(crate) fn an_plus_b(alloc: Global, tokens: &[Token]) -> Result<Option<AnB>, 
 fn word(tokens: &[Token]) -> Option<AnB>
     ensures { option_map formula_of result ≡ word_in tokens.now }
 {
-    let (first, rest) = tokens.split_first()?;
-    if !rest.is_empty() || !first.is_ident() {
+    let mut left = Cursor::new(tokens);
+    let first = left.next()?;
+    if !left.is_at_end() || !first.is_ident() {
         return None;
     }
     formula_word(name_of(first))
@@ -58,25 +58,13 @@ fn formula_word(name: &Text) -> Option<AnB>
 fn integer_alone(tokens: &[Token]) -> Option<AnB>
     ensures { option_map formula_of result ≡ integer_in tokens.now }
 {
-    let (first, rest) = tokens.split_first()?;
-    if !rest.is_empty() || !is_integer_number(first) {
+    let mut left = Cursor::new(tokens);
+    let first = left.next()?;
+    if !left.is_at_end() || !is_integer_number(first) {
         return None;
     }
     Some(AnB {
         a: 0,
         b: integer(spelling_of(first)),
     })
-}
-
-/// A and B.
-fn linear(alloc: Global, tokens: &[Token]) -> Result<Option<AnB>, NoMemory>
-    ensures { IfOk result (λ found. option_map formula_of found ≡ linear_in tokens.now) }
-{
-    let Some(start) = first_of(alloc, tokens)? else {
-        return Ok(None);
-    };
-    let Some(b) = offset(start.word.as_slice(), start.rest) else {
-        return Ok(None);
-    };
-    Ok(Some(AnB { a: start.a, b }))
 }

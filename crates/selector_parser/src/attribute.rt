@@ -1,13 +1,13 @@
 //! Attribute selectors (selectors-4, section 6).
 
-ghost use Rattle.std.specs.Prelude.{◌≡◌, IfOk, option_copied, option_map};
+ghost use Rattle.std.specs.Prelude.{◌≡◌, IfOk, option_map};
 ghost use Rattle.selector_types.specs.SimpleView.{operator_of, simple_of};
 ghost use Rattle.sheet_model.specs.SelectorTokens.{named};
-ghost use Rattle.sheet_model.specs.AttributeIn.{after_equals, attribute_in, compared_in, matcher_at, modifier_in, modifiers, operator_by, value_at};
+ghost use Rattle.sheet_model.specs.AttributeIn.{attribute_in, compared_in, matcher_at, modifier_in, modifiers, operator_by, value_at};
 
 use crate::kinds::is_text;
-use crate::names::{Named, ident, is};
-use css_tokens::{Token, name_of, trimmed, without_white};
+use crate::names::is;
+use css_tokens::{Cursor, Token, name_of, trimmed};
 use selector_types::{AttributeOperator, Simple};
 use std::alloc::Global;
 use stylo_base::{Atom, NoMemory, Text};
@@ -17,26 +17,30 @@ use stylo_base::{Atom, NoMemory, Text};
 pub(crate) fn attribute(alloc: Global, tokens: &[Token]) -> Result<Option<Simple>, NoMemory>
     ensures { IfOk result (λ found. option_map simple_of found ≡ attribute_in tokens.now) }
 {
-    let Some(Named { name, rest }) = ident(trimmed(tokens)) else {
+    let mut left = Cursor::new(trimmed(tokens));
+    let Some(name) = left.take_ident() else {
         return Ok(None);
     };
-    compared(alloc, name, without_white(rest))
+    left.skip_whitespace();
+    compared(alloc, name, &mut left)
 }
 
 /// What stands after the attribute's name.
-fn compared(alloc: Global, name: &Text, tokens: &[Token]) -> Result<Option<Simple>, NoMemory>
-    ensures { IfOk result (λ found. option_map simple_of found ≡ compared_in name.now tokens.now) }
+fn compared(alloc: Global, name: &Text, left: &mut Cursor) -> Result<Option<Simple>, NoMemory>
+    ensures { IfOk result (λ found. option_map simple_of found ≡ compared_in name.now left.old) }
 {
-    if tokens.is_empty() {
+    if left.is_at_end() {
         return Ok(Some(Simple::Attribute(Atom::of_text(name.copy(alloc)?))));
     }
-    let Some((operator, rest)) = matcher(tokens) else {
+    let Some(operator) = matcher(left) else {
         return Ok(None);
     };
-    let Some(Named { name: value, rest }) = value(without_white(rest)) else {
+    left.skip_whitespace();
+    let Some(value) = value(left) else {
         return Ok(None);
     };
-    let Some(case_counts) = modifier(without_white(rest)) else {
+    left.skip_whitespace();
+    let Some(case_counts) = modifier(left) else {
         return Ok(None);
     };
     Ok(Some(Simple::AttributeCompares {
@@ -47,17 +51,19 @@ fn compared(alloc: Global, name: &Text, tokens: &[Token]) -> Result<Option<Simpl
     }))
 }
 
-/// How the value is compared, and what comes after it.
-fn matcher<'a>(tokens: &'a [Token]) -> Option<(AttributeOperator, &'a [Token])>
-    ensures { option_map (λ found. (operator_of found.0, found.1.now)) result ≡ matcher_at tokens.now }
+/// Consumes what says how the value is compared.
+fn matcher(left: &mut Cursor) -> Option<AttributeOperator>
+    ensures { option_map (λ operator. (operator_of operator, left.new)) result ≡ matcher_at left.old }
 {
-    let (first, rest) = tokens.split_first()?;
-    if first.is_delim('=') {
-        return Some((AttributeOperator::Equals, rest));
+    if left.take_delim('=') {
+        return Some(AttributeOperator::Equals);
     }
-    let operator = operator(first)?;
-    let rest = after_equals(rest)?;
-    Some((operator, rest))
+    let operator = operator(left.next()?)?;
+    if left.take_delim('=') {
+        Some(operator)
+    } else {
+        None
+    }
 }
 
 /// The operator that a character before `=` makes.
@@ -79,39 +85,26 @@ fn operator(token: &Token) -> Option<AttributeOperator>
     }
 }
 
-/// What comes after `=`.
-fn after_equals<'a>(tokens: &'a [Token]) -> Option<&'a [Token]>
-    ensures { option_copied result ≡ after_equals tokens.now }
+/// Consumes the value.
+fn value<'a>(left: &mut Cursor<'a>) -> Option<&'a Text>
+    ensures { option_map (λ value. (value.now, left.new)) result ≡ value_at left.old }
 {
-    let (first, rest) = tokens.split_first()?;
-    if !first.is_delim('=') {
-        return None;
+    let first = left.next()?;
+    if is_text(first) {
+        Some(name_of(first))
+    } else {
+        None
     }
-    Some(rest)
 }
 
-/// The value that the tokens begin with, and what comes after it.
-fn value<'a>(tokens: &'a [Token]) -> Option<Named<'a>>
-    ensures { option_map (λ found. (found.name.now, found.rest.now)) result ≡ value_at tokens.now }
+/// Whether ASCII case counts, by what is left.
+fn modifier(left: &mut Cursor) -> Option<bool>
+    ensures { result ≡ modifier_in left.old }
 {
-    let (first, rest) = tokens.split_first()?;
-    if !is_text(first) {
-        return None;
-    }
-    Some(Named {
-        name: name_of(first),
-        rest,
-    })
-}
-
-/// Whether ASCII case counts.
-fn modifier(tokens: &[Token]) -> Option<bool>
-    ensures { result ≡ modifier_in tokens.now }
-{
-    let Some((first, rest)) = tokens.split_first() else {
+    let Some(first) = left.next() else {
         return Some(true);
     };
-    if !rest.is_empty() || !first.is_ident() {
+    if !left.is_at_end() || !first.is_ident() {
         return None;
     }
     modifier_by(name_of(first))

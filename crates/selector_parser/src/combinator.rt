@@ -5,39 +5,42 @@ ghost use Rattle.selector_types.specs.ComplexView.{combinator_of};
 ghost use Rattle.sheet_model.specs.SelectorsIn.{combinator_after, combinator_at, combinator_by};
 ghost use Rattle.syntax_model.specs.TokenKinds.{begins_with, is_white};
 
-use css_tokens::{Token, without_white};
+use css_tokens::{Cursor, Token};
 use selector_types::Combinator;
 
-/// The combinator that the tokens begin with, and what comes after it.
-pub(crate) fn combinator<'a>(tokens: &'a [Token]) -> Option<(Combinator, &'a [Token])>
-    ensures { option_map (λ found. (combinator_of found.0, found.1.now)) result ≡ combinator_at tokens.now }
+/// Consumes a combinator with the whitespace around it, or whitespace alone.
+pub(crate) fn combinator(left: &mut Cursor) -> Option<Combinator>
+    ensures { option_map (λ combinator. (combinator_of combinator, left.new)) result ≡ combinator_at left.old }
 {
-    combinator_after(begins_with_white(tokens), without_white(tokens))
+    let is_apart = begins_with_white(left);
+    left.skip_whitespace();
+    combinator_after(is_apart, left)
 }
 
-/// Whether whitespace is first.
-fn begins_with_white(tokens: &[Token]) -> bool
-    ensures { result ≡ begins_with is_white tokens.now }
+/// Whether whitespace is next.
+fn begins_with_white(left: &Cursor) -> bool
+    ensures { result ≡ begins_with is_white left.now }
 {
-    match tokens.first() {
+    match left.peek() {
         Some(first) => first.is_white(),
         None => false,
     }
 }
 
 /// The same after whitespace, or without any before.
-fn combinator_after<'a>(is_apart: bool, tokens: &'a [Token]) -> Option<(Combinator, &'a [Token])>
-    ensures { option_map (λ found. (combinator_of found.0, found.1.now)) result
-        ≡ combinator_after is_apart tokens.now }
+fn combinator_after(is_apart: bool, left: &mut Cursor) -> Option<Combinator>
+    ensures { option_map (λ combinator. (combinator_of combinator, left.new)) result
+        ≡ combinator_after is_apart left.old }
 {
-    let (first, rest) = tokens.split_first()?;
-    if let Some(combinator) = combinator_by(first) {
-        return Some((combinator, without_white(rest)));
+    if let Some(combinator) = combinator_by(left.peek()?) {
+        left.next();
+        left.skip_whitespace();
+        return Some(combinator);
     }
     if !is_apart {
         return None;
     }
-    Some((Combinator::Descendant, tokens))
+    Some(Combinator::Descendant)
 }
 
 /// The combinator that a character is.

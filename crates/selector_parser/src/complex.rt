@@ -3,30 +3,17 @@
 ghost use Rattle.std.specs.Prelude.{◌≡◌, IfOk, option_map};
 ghost use Rattle.selector_types.specs.ComplexView.{complex_of};
 ghost use Rattle.sheet_model.specs.SelectorsIn.{complex_in, reader_of};
-ghost use Rattle.selector_parser.specs.Member.{selector_within};
 
 use crate::combinator::combinator;
 use crate::compound::compound;
 use crate::count::with_one_more;
-use css_tokens::{Token, trimmed};
+use css_tokens::{Cursor, Token, trimmed};
 use selector_types::Complex;
 use std::alloc::Global;
 use stylo_base::NoMemory;
 
 /// Reads tokens as a selector in which lists may be nested so deep, with whitespace around it. None:
 /// they are none.
-#[tactic(auto, unfolding(crate::specs::Member::selector_within))]
-pub(crate) fn selector(
-    alloc: Global,
-    depth: u32,
-    tokens: &[Token],
-) -> Result<Option<Complex>, NoMemory>
-    ensures { IfOk result (λ found. option_map complex_of found ≡ selector_within depth tokens.now) }
-{
-    complex(alloc, depth, tokens)
-}
-
-/// The same, for the lists in it.
 #[cycle(selector)]
 pub(crate) fn complex(
     alloc: Global,
@@ -35,7 +22,8 @@ pub(crate) fn complex(
 ) -> Result<Option<Complex>, NoMemory>
     ensures { IfOk result (λ found. option_map complex_of found ≡ complex_in (reader_of depth) tokens.now) }
 {
-    let Some((tests, mut rest)) = compound(alloc, depth, trimmed(tokens))? else {
+    let mut left = Cursor::new(trimmed(tokens));
+    let Some(tests) = compound(alloc, depth, &mut left)? else {
         return Ok(None);
     };
     let Some(mut count) = with_one_more(0, &tests) else {
@@ -43,11 +31,11 @@ pub(crate) fn complex(
     };
     let mut complex = Complex::alone(tests);
     // The proof calls the loop by this label.
-    'compounds: while !rest.is_empty() {
-        let Some((combinator, after)) = combinator(rest) else {
+    'compounds: while !left.is_at_end() {
+        let Some(combinator) = combinator(&mut left) else {
             return Ok(None);
         };
-        let Some((tests, left)) = compound(alloc, depth, after)? else {
+        let Some(tests) = compound(alloc, depth, &mut left)? else {
             return Ok(None);
         };
         let Some(sum) = with_one_more(count, &tests) else {
@@ -55,7 +43,6 @@ pub(crate) fn complex(
         };
         complex = Complex::combined(alloc, tests, combinator, complex)?;
         count = sum;
-        rest = left;
     }
     Ok(Some(complex))
 }

@@ -6,7 +6,6 @@ ghost use Rattle.base_model.specs.Ascii.{digit_zero};
 ghost use Rattle.sheet_model.specs.AnPlusB as model;
 ghost use Rattle.sheet_model.specs.AnPlusB.{greatest_index, size_of};
 ghost use Rattle.syntax_model.specs.Letters.{begins, is_digit, is_sign};
-ghost use Rattle.syntax_model.specs.Numbers.{after_sign};
 
 use css_tokens::letters::{is_digit, is_minus, is_sign};
 
@@ -36,7 +35,8 @@ fn next(size: u64, digit: char) -> u64
 pub(crate) fn integer(text: &[char]) -> i32
     ensures { result ≡ model.integer text.now }
 {
-    let size = size(without_sign(text));
+    let digits = if is_signed(text) { &text[1..] } else { text };
+    let size = size(digits);
     if is_minus(text) { -size } else { size }
 }
 
@@ -48,13 +48,6 @@ pub(crate) fn is_signed(text: &[char]) -> bool
         Some(c) => is_sign(*c),
         None => false,
     }
-}
-
-/// The text after its sign.
-fn without_sign(text: &[char]) -> &[char]
-    ensures { result.now ≡ after_sign text.now }
-{
-    if is_signed(text) { &text[1..] } else { text }
 }
 
 /// Whether all are digits.

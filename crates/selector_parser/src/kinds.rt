@@ -5,23 +5,6 @@ ghost use Rattle.sheet_model.specs.SelectorTokens as model;
 
 use css_tokens::{Token, TokenKind};
 
-/// Whether it is a hash that is an identifier.
-pub(crate) fn is_id_hash(token: &Token) -> bool
-    ensures { result ≡ model.is_id_hash token.now.kind }
-{
-    match token.kind() {
-        TokenKind::Hash { is_id } => is_id,
-        _ => false,
-    }
-}
-
-/// Whether it is `[`.
-pub(crate) fn is_open_square(token: &Token) -> bool
-    ensures { result ≡ model.is_open_square token.now.kind }
-{
-    matches!(token.kind(), TokenKind::OpenSquare)
-}
-
 /// Whether it is an identifier or a string.
 pub(crate) fn is_text(token: &Token) -> bool
     ensures { result ≡ model.is_text token.now.kind }

@@ -8,9 +8,9 @@ mod complex;
 mod compound;
 mod count;
 mod function;
-mod inside;
 mod integer;
 mod kinds;
+mod linear;
 mod list;
 mod names;
 mod nested;
@@ -18,6 +18,5 @@ mod offset;
 mod pseudo;
 mod pseudo_class;
 mod single;
-mod start;
 
 pub use list::selector_list;

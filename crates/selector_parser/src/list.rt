@@ -1,13 +1,13 @@
 //! Lists of selectors.
 
 ghost use Rattle.std.specs.Prelude.{◌≡◌, IfOk, map, option_map};
+ghost use Rattle.selector_types.specs.ComplexView.{complex_of};
 ghost use Rattle.selector_types.specs.View.{selector_of};
-ghost use Rattle.selector_parser.specs.Member.{selector_within};
-ghost use Rattle.sheet_model.specs.SelectorsIn.{list_limit, selectors_in};
+ghost use Rattle.sheet_model.specs.SelectorsIn.{selectors_in};
 
-use crate::complex::selector;
-use css_tokens::{Cursor, Separator, Token};
-use selector_types::Selector;
+use crate::nested::strict;
+use css_tokens::Token;
+use selector_types::{Complex, Selector};
 use std::alloc::Global;
 use stylo_base::NoMemory;
 
@@ -19,28 +19,28 @@ pub fn selector_list(alloc: Global, tokens: &[Token]) -> Result<Option<Vec<Selec
     ensures { IfOk result (λ found.
         option_map (λ list. map selector_of list.items) found ≡ selectors_in tokens.now) }
 {
-    let mut cursor = Cursor::new(tokens);
-    let mut list = Vec::new(alloc);
-    // The proof calls the loop by this label.
-    'members: loop {
-        let part = cursor.until(alloc, Separator::Comma)?;
-        let Some(selector) = member(alloc, part.tokens)? else {
-            return Ok(None);
-        };
-        list.push(selector)?;
-        let Some(_) = cursor.next() else {
-            list.shrink_to_fit();
-            return Ok(Some(list));
-        };
-    }
-}
-
-/// A selector with whitespace around it.
-fn member(alloc: Global, tokens: &[Token]) -> Result<Option<Selector>, NoMemory>
-    ensures { IfOk result (λ found. option_map selector_of found ≡ selector_within list_limit tokens.now) }
-{
-    let Some(complex) = selector(alloc, LIST_LIMIT, tokens)? else {
+    let Some(members) = members(alloc, tokens)? else {
         return Ok(None);
     };
-    Ok(Some(Selector::new(alloc, complex)?))
+    Ok(Some(selectors(alloc, members)?))
+}
+
+/// The members of a list that is in no other.
+#[tactic(auto, unfolding(sheet_model::specs::SelectorsIn::selectors_in))]
+fn members(alloc: Global, tokens: &[Token]) -> Result<Option<Vec<Complex>>, NoMemory>
+    ensures { IfOk result (λ found.
+        option_map (λ list. map complex_of list.items) found ≡ selectors_in tokens.now) }
+{
+    strict(alloc, LIST_LIMIT, tokens)
+}
+
+/// What is asked of selectors most is found once.
+fn selectors(alloc: Global, members: Vec<Complex>) -> Result<Vec<Selector>, NoMemory>
+    ensures { IfOk result (λ list. map selector_of list.items ≡ map complex_of members.items) }
+{
+    let mut list = Vec::with_capacity(alloc, members.len())?;
+    for member in members {
+        list.push(Selector::new(alloc, member)?)?;
+    }
+    Ok(list)
 }

@@ -8,7 +8,7 @@ ghost use Rattle.syntax_model.specs.TokenKinds.{is_comma};
 ghost use Rattle.syntax_model.specs.Outside.{parts_between};
 
 use crate::complex::complex;
-use css_tokens::{Cursor, Separator, Token};
+use css_tokens::{CommaSeparated, Token};
 use selector_types::Complex;
 use std::alloc::Global;
 use stylo_base::NoMemory;
@@ -23,18 +23,15 @@ pub(crate) fn forgiving(
     ensures { IfOk result (λ list. map complex_of list.items
         ≡ filter_map (complex_in (reader_of depth)) (parts_between is_comma tokens.now)) }
 {
-    let mut cursor = Cursor::new(tokens);
+    let mut parts = CommaSeparated::new(tokens);
     let mut list = Vec::new(alloc);
     // The proof calls the loop by this label.
-    'members: loop {
-        let part = cursor.until(alloc, Separator::Comma)?;
-        let member = complex(alloc, depth, part.tokens)?;
+    'members: while let Some(part) = parts.next(alloc)? {
+        let member = complex(alloc, depth, part)?;
         add(&mut list, member)?;
-        let Some(_) = cursor.next() else {
-            list.shrink_to_fit();
-            return Ok(list);
-        };
     }
+    list.shrink_to_fit();
+    Ok(list)
 }
 
 /// Adds a member, if there is one.
@@ -57,18 +54,14 @@ pub(crate) fn strict(
     ensures { IfOk result (λ found. option_map (λ list. map complex_of list.items) found
         ≡ strict (complex_in (reader_of depth)) tokens.now) }
 {
-    let mut cursor = Cursor::new(tokens);
+    let mut parts = CommaSeparated::new(tokens);
     let mut list = Vec::new(alloc);
     // The proof calls the loop by this label.
-    'members: loop {
-        let part = cursor.until(alloc, Separator::Comma)?;
-        let Some(member) = complex(alloc, depth, part.tokens)? else {
+    'members: while let Some(part) = parts.next(alloc)? {
+        let Some(member) = complex(alloc, depth, part)? else {
             return Ok(None);
         };
         list.push(member)?;
-        let Some(_) = cursor.next() else {
-            list.shrink_to_fit();
-            return Ok(Some(list));
-        };
     }
+    Ok(Some(list))
 }

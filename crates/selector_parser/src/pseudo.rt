@@ -1,68 +1,59 @@
 //! Pseudo-classes.
 
-ghost use Rattle.std.specs.Prelude.{◌≡◌, ◌≤◌, IfOk, IfSome, length, option_map, true};
+ghost use Rattle.std.specs.Prelude.{◌≡◌, ◌≤◌, IfOk, IfSome, length, option_map};
 ghost use Rattle.selector_types.specs.ComplexView.{test_of};
 ghost use Rattle.selector_parser.specs.View.{function_of};
-ghost use Rattle.syntax_model.specs.TokenKinds.{is_function};
 ghost use Rattle.sheet_model.specs.SelectorsIn.{complex_in, function_at, function_by, index_by, not_list, pseudo_class_at, reader_of};
 
 use crate::an_plus_b::an_plus_b;
 use crate::function::Function;
-use crate::inside::cut_bracket;
 use crate::nested::{forgiving, strict};
 use crate::pseudo_class::{function, indexed, pseudo_class};
-use css_tokens::{Token, name_of};
+use css_tokens::{Bracket, Cursor, Token};
 use selector_types::Test;
 use std::alloc::Global;
-use stylo_base::NoMemory;
+use stylo_base::{NoMemory, Text};
 
-/// The test of a pseudo-class, after its colon, and what comes after it.
+/// Consumes a pseudo-class after its colon.
 #[cycle(selector)]
-pub(crate) fn pseudo_class_test<'a>(
+pub(crate) fn pseudo_class_test(
     alloc: Global,
     depth: u32,
-    tokens: &'a [Token],
-) -> Result<Option<(Test, &'a [Token])>, NoMemory>
-    ensures value { IfOk result (λ found. option_map (λ x. (test_of x.0, x.1.now)) found
-        ≡ pseudo_class_at (reader_of depth) tokens.now) }
-    ensures shorter { IfOk result (λ found. IfSome found (λ x. length x.1.now ≤ length tokens.now)) }
+    left: &mut Cursor,
+) -> Result<Option<Test>, NoMemory>
+    ensures value { IfOk result (λ found. option_map (λ test. (test_of test, left.new)) found
+        ≡ pseudo_class_at (reader_of depth) left.old) }
+    ensures shorter { IfOk result (λ found. IfSome found (λ test. length left.new ≤ length left.old)) }
 {
-    let Some((first, rest)) = tokens.split_first() else {
-        return Ok(None);
-    };
-    if first.is_ident() {
-        let Some(test) = pseudo_class(name_of(first)) else {
+    if let Some(name) = left.take_ident() {
+        let Some(test) = pseudo_class(name) else {
             return Ok(None);
         };
-        return Ok(Some((Test::Simple(test), rest)));
+        return Ok(Some(Test::Simple(test)));
     }
-    if !first.is_function() {
+    let Some(name) = left.take_function() else {
         return Ok(None);
-    }
-    function_test(alloc, depth, first, rest)
+    };
+    function_test(alloc, depth, name, left)
 }
 
-/// The test of a pseudo-class with brackets, after its opening bracket.
+/// Consumes what is in the brackets of the pseudo-class of this name, and their closer.
 #[cycle(selector)]
-fn function_test<'a>(
+fn function_test(
     alloc: Global,
     depth: u32,
-    opener: &Token,
-    tokens: &'a [Token],
-) -> Result<Option<(Test, &'a [Token])>, NoMemory>
-    requires { is_function opener.now.kind ≡ true }
-    ensures value { IfOk result (λ found. option_map (λ x. (test_of x.0, x.1.now)) found
-        ≡ function_at (reader_of depth) opener.now.name tokens.now) }
-    ensures shorter { IfOk result (λ found. IfSome found (λ x. length x.1.now ≤ length tokens.now)) }
+    name: &Text,
+    left: &mut Cursor,
+) -> Result<Option<Test>, NoMemory>
+    ensures value { IfOk result (λ found. option_map (λ test. (test_of test, left.new)) found
+        ≡ function_at (reader_of depth) name.now left.old) }
+    ensures shorter { IfOk result (λ found. IfSome found (λ test. length left.new ≤ length left.old)) }
 {
-    let Some(function) = function(name_of(opener)) else {
+    let Some(function) = function(name) else {
         return Ok(None);
     };
-    let bracket = cut_bracket(alloc, opener, tokens)?;
-    let Some(test) = by_function(alloc, depth, function, bracket.tokens)? else {
-        return Ok(None);
-    };
-    Ok(Some((test, bracket.rest)))
+    let tokens = left.inside(alloc, Bracket::Round)?;
+    by_function(alloc, depth, function, tokens)
 }
 
 /// What a pseudo-class says of the tokens in its brackets.
@@ -107,9 +98,10 @@ fn not_test(alloc: Global, depth: u32, tokens: &[Token]) -> Result<Option<Test>,
     ensures { IfOk result (λ found. option_map test_of found
         ≡ function_by (complex_in (reader_of depth)) not_list tokens.now) }
 {
-    let Some(list) = strict(alloc, depth, tokens)? else {
+    let Some(mut list) = strict(alloc, depth, tokens)? else {
         return Ok(None);
     };
+    list.shrink_to_fit();
     Ok(Some(Test::Not(list)))
 }
 

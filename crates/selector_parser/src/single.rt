@@ -1,15 +1,12 @@
 //! Tests that hold no selectors.
 
-ghost use Rattle.std.specs.Prelude.{◌≡◌, ◌≤◌, IfOk, IfSome, length, option_map, true};
+ghost use Rattle.std.specs.Prelude.{◌≡◌, ◌≤◌, IfOk, IfSome, length, option_map};
 ghost use Rattle.selector_model.specs.Selector.{id_selector, simple};
 ghost use Rattle.selector_types.specs.ComplexView.{test_of};
-ghost use Rattle.sheet_model.specs.SelectorTokens.{is_open_square};
 ghost use Rattle.sheet_model.specs.SelectorsIn.{attribute_at, class_at};
 
 use crate::attribute::attribute;
-use crate::inside::cut_bracket;
-use crate::names::{Named, ident};
-use css_tokens::Token;
+use css_tokens::{Bracket, Cursor};
 use selector_types::{Simple, Test};
 use std::alloc::Global;
 use stylo_base::{Atom, NoMemory, Text};
@@ -21,36 +18,28 @@ pub(crate) fn id_test(alloc: Global, name: &Text) -> Result<Test, NoMemory>
     Ok(Test::Simple(Simple::Id(Atom::of_text(name.copy(alloc)?))))
 }
 
-/// The test of a class, after its `.`, and what comes after it.
-pub(crate) fn class_test<'a>(
-    alloc: Global,
-    tokens: &'a [Token],
-) -> Result<Option<(Test, &'a [Token])>, NoMemory>
-    ensures value { IfOk result (λ found. option_map (λ x. (test_of x.0, x.1.now)) found
-        ≡ class_at tokens.now) }
-    ensures shorter { IfOk result (λ found. IfSome found (λ x. length x.1.now ≤ length tokens.now)) }
+/// Consumes a class after its `.`.
+pub(crate) fn class_test(alloc: Global, left: &mut Cursor) -> Result<Option<Test>, NoMemory>
+    ensures value { IfOk result (λ found. option_map (λ test. (test_of test, left.new)) found
+        ≡ class_at left.old) }
+    ensures shorter { IfOk result (λ found. IfSome found (λ test. length left.new ≤ length left.old)) }
 {
-    let Some(Named { name, rest }) = ident(tokens) else {
+    let Some(name) = left.take_ident() else {
         return Ok(None);
     };
     let class = Atom::of_text(name.copy(alloc)?);
-    Ok(Some((Test::Simple(Simple::Class(class)), rest)))
+    Ok(Some(Test::Simple(Simple::Class(class))))
 }
 
-/// The test of an attribute, after its `[`, and what comes after it.
-pub(crate) fn attribute_test<'a>(
-    alloc: Global,
-    opener: &Token,
-    tokens: &'a [Token],
-) -> Result<Option<(Test, &'a [Token])>, NoMemory>
-    requires { is_open_square opener.now.kind ≡ true }
-    ensures value { IfOk result (λ found. option_map (λ x. (test_of x.0, x.1.now)) found
-        ≡ attribute_at tokens.now) }
-    ensures shorter { IfOk result (λ found. IfSome found (λ x. length x.1.now ≤ length tokens.now)) }
+/// Consumes an attribute selector after its `[`.
+pub(crate) fn attribute_test(alloc: Global, left: &mut Cursor) -> Result<Option<Test>, NoMemory>
+    ensures value { IfOk result (λ found. option_map (λ test. (test_of test, left.new)) found
+        ≡ attribute_at left.old) }
+    ensures shorter { IfOk result (λ found. IfSome found (λ test. length left.new ≤ length left.old)) }
 {
-    let bracket = cut_bracket(alloc, opener, tokens)?;
-    let Some(test) = attribute(alloc, bracket.tokens)? else {
+    let tokens = left.inside(alloc, Bracket::Square)?;
+    let Some(test) = attribute(alloc, tokens)? else {
         return Ok(None);
     };
-    Ok(Some((Test::Simple(test), bracket.rest)))
+    Ok(Some(Test::Simple(test)))
 }

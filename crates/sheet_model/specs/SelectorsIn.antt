@@ -9,10 +9,9 @@ use Rattle.base_model.specs.State.{hover_state, active_state, focus_state}
 use Rattle.base_model.specs.Text.{Characters}
 use Rattle.syntax_model.specs.Signs.{plus_sign, greater_than_sign}
 use Rattle.syntax_model.specs.Token.{Token, TokenKind}
-use Rattle.syntax_model.specs.Brackets.{square, round}
+use Rattle.syntax_model.specs.Brackets.{square, round, inside, past}
 use Rattle.syntax_model.specs.TokenKinds.{is_ident, is_delim, is_comma, is_colon, is_white, begins_with, trimmed}
-use Rattle.syntax_model.specs.TokenKinds.{is_function}
-use Rattle.syntax_model.specs.TokenKinds.{without_white}
+use Rattle.syntax_model.specs.TokenKinds.{is_function, is_id_hash, is_open_square, without_white}
 use Rattle.syntax_model.specs.Outside.{parts_between}
 use Rattle.selector_model.specs.Compounds.{compounds_in, compound_limit}
 use Rattle.selector_model.specs.Selector.{Combinator, descendant, child, next_sibling, later_sibling, AnB}
@@ -22,7 +21,7 @@ use Rattle.selector_model.specs.Selector.{Selector, subject, combined, Compound,
 use Rattle.selector_model.specs.Selector.{Test, simple, is_some, where_some, not_some, Selectors, no_more, more}
 use Rattle.sheet_model.specs.AnPlusB.{an_plus_b_in, formula}
 use Rattle.sheet_model.specs.AttributeIn.{attribute_in, tilde}
-use Rattle.sheet_model.specs.SelectorTokens.{is_id_hash, is_open_square, inside, past, ident_at, named}
+use Rattle.sheet_model.specs.SelectorTokens.{ident_at, named}
 
 -- an index from the first or from the last, among all siblings or among those of the same type
 abbrev pub indexed : Bool → Bool → AnB → Simple

@@ -1,6 +1,7 @@
--- Brackets, and what is outside them (css-syntax-3, section 5.4).
-use Rattle.std.specs.Prelude.{ℕ, nat_le, List, [], ◌∷◌, ◌++◌, length, Bool, true, false, ◌&&◌, Option, Some, None}
-use Rattle.std.specs.Prelude.{if◌then◌else◌}
+-- Brackets, what is in them, and what is outside them (css-syntax-3, section 5.4).
+use Rattle.std.specs.Prelude.{ℕ, ◌+◌, nat_le, List, [], ◌∷◌, ◌++◌, length, take, drop, Bool, true, false, ◌&&◌}
+use Rattle.std.specs.Prelude.{if◌then◌else◌, Option, Some, None}
+use Rattle.base_model.specs.Lists.{is_nil}
 use Rattle.syntax_model.specs.Token.{Token, TokenKind, function, open_square, close_square, open_round, close_round}
 use Rattle.syntax_model.specs.Token.{open_curly, close_curly}
 
@@ -48,6 +49,20 @@ open_past pending token = with_opened (opened_by token.kind) (without_closed pen
 abbrev pub open_after : List Bracket → List Token → List Bracket
 open_after pending [] = pending
 open_after pending (token ∷ tokens) = open_after (open_past pending token) tokens
+
+-- how many tokens come before the one that closes the last of these brackets: all of them, if none does
+abbrev pub inside_len : List Bracket → List Token → ℕ
+inside_len pending [] = 0
+inside_len pending (token ∷ tokens) =
+    if is_nil (open_past pending token) then 0 else 1 + inside_len (open_past pending token) tokens
+
+-- what stands in a bracket that was just opened
+abbrev pub inside : Bracket → List Token → List Token
+inside bracket tokens = take (inside_len (bracket ∷ []) tokens) tokens
+
+-- and what comes after its closer
+abbrev pub past : Bracket → List Token → List Token
+past bracket tokens = drop (inside_len (bracket ∷ []) tokens + 1) tokens
 
 abbrev pub closer_kind : Bracket → TokenKind
 closer_kind square = close_square

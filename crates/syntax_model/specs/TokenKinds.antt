@@ -2,7 +2,7 @@
 use Rattle.std.specs.Prelude.{ℕ, ◌==◌, List, [], ◌∷◌, reverse, Bool, true, false, ◌||◌, if◌then◌else◌}
 use Rattle.syntax_model.specs.Token.{Token, TokenKind, ident, function, at_keyword, hash, delim, whitespace, cdo, cdc}
 use Rattle.syntax_model.specs.Token.{colon}
-use Rattle.syntax_model.specs.Token.{semicolon, comma, close_round, open_curly, close_curly}
+use Rattle.syntax_model.specs.Token.{semicolon, comma, open_square, close_round, open_curly, close_curly}
 
 abbrev pub is_white : TokenKind → Bool
 is_white whitespace = true
@@ -23,6 +23,11 @@ is_at_keyword kind = false
 abbrev pub is_hash : TokenKind → Bool
 is_hash (hash is_id) = true
 is_hash kind = false
+
+-- a hash that is an identifier
+abbrev pub is_id_hash : TokenKind → Bool
+is_id_hash (hash is_id) = is_id
+is_id_hash kind = false
 
 -- the kind is that of this character alone
 abbrev pub is_delim : ℕ → TokenKind → Bool
@@ -48,6 +53,10 @@ is_colon kind = false
 abbrev pub is_semicolon : TokenKind → Bool
 is_semicolon semicolon = true
 is_semicolon kind = false
+
+abbrev pub is_open_square : TokenKind → Bool
+is_open_square open_square = true
+is_open_square kind = false
 
 abbrev pub is_close_round : TokenKind → Bool
 is_close_round close_round = true

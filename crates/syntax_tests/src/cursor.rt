@@ -1,4 +1,6 @@
-use css_tokens::{Cursor, OpenBrackets, Part, Separator, Token, preprocess, tokens};
+use css_tokens::{
+    Bracket, CommaSeparated, Cursor, OpenBrackets, Part, Separator, Token, preprocess, tokens,
+};
 use std::alloc::Global;
 use std::test::Fail;
 use stylo_base::NoMemory;
@@ -39,6 +41,43 @@ fn first_part(alloc: Global, text: &str) -> Result<(usize, usize, bool), NoMemor
 fn parts(rt: HostRuntime) -> Result<(), Fail> {
     let seen = first_part(rt.alloc(), "a(,)b,c")?;
     assert_eq!(rt; seen, (4, 2, false));
+    Ok(())
+}
+
+/// Whether the text is a function, an id and `[`, and how many tokens are in the brackets.
+fn in_brackets(alloc: Global, text: &str) -> Result<(bool, usize, usize), NoMemory> {
+    let list = tokens_of(alloc, text)?;
+    let mut left = Cursor::new(list.as_slice());
+    let named = left.take_function().is_some();
+    let round = left.inside(alloc, Bracket::Round)?;
+    let taken = left.take_id_hash().is_some() && left.take_open_square();
+    let mut ahead = left.fork();
+    let square = ahead.inside(alloc, Bracket::Square)?;
+    Ok((named && taken, round.len(), square.len()))
+}
+
+#[test]
+fn brackets(rt: HostRuntime) -> Result<(), Fail> {
+    let seen = in_brackets(rt.alloc(), "a((b)c)#d[ef")?;
+    assert_eq!(rt; seen, (true, 4, 1));
+    Ok(())
+}
+
+/// How long the parts between commas are.
+fn part_lengths(alloc: Global, text: &str) -> Result<String, NoMemory> {
+    let list = tokens_of(alloc, text)?;
+    let mut parts = CommaSeparated::new(list.as_slice());
+    let mut out = String::new(alloc);
+    while let Some(part) = parts.next(alloc)? {
+        write!(out, "{};", part.len())?;
+    }
+    Ok(out)
+}
+
+#[test]
+fn comma_separated(rt: HostRuntime) -> Result<(), Fail> {
+    let seen = part_lengths(rt.alloc(), "a(,)b,,c,")?;
+    assert_eq!(rt; seen.as_str(), "4;0;1;0;");
     Ok(())
 }
 

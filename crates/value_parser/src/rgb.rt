@@ -1,31 +1,33 @@
 //! Colours by `rgb()` with three integers (css-color-4, section 5.1, with commas).
 
-ghost use Rattle.std.specs.Prelude.{◌≡◌, option_map};
+ghost use Rattle.std.specs.Prelude.{◌≡◌, codes, option_map};
+ghost use Rattle.base_model.specs.Text.{is_word};
 ghost use Rattle.property_table.specs.View.{color_of};
-ghost use Rattle.sheet_model.specs.ValueIn.{channel_at, channel_by, channel_of, channels_in, is_closed, is_rgb, next_channel_at, rgb_in};
+ghost use Rattle.sheet_model.specs.ValueIn.{channel_at, channel_by, channel_of, channels_in, is_closed, next_channel_at, rgb_in};
 
 use crate::color::opaque;
-use css_tokens::{Cursor, Token, TokenKind, name_of, value_of};
+use css_tokens::{Cursor, Token, TokenKind, value_of};
 use property_table::Color;
-use stylo_base::{Fixed, eq_ascii_case};
+use stylo_base::{Fixed, Text, eq_ascii_case};
 
 /// The colour that the tokens are, by its parts.
 pub(crate) fn rgb_of(tokens: &[Token]) -> Option<Color>
     ensures { option_map color_of result ≡ rgb_in tokens.now }
 {
     let mut cursor = Cursor::new(tokens);
-    if is_rgb(cursor.next()?) {
+    let name = cursor.take_function()?;
+    if is_rgb(name) {
         channels(&mut cursor)
     } else {
         None
     }
 }
 
-/// Whether the token is `rgb(`.
-fn is_rgb(token: &Token) -> bool
-    ensures { result ≡ is_rgb token.now }
+/// Whether a function of this name is `rgb(`.
+fn is_rgb(name: &Text) -> bool
+    ensures { result ≡ is_word (codes "rgb") name.now }
 {
-    token.is_function() && eq_ascii_case(name_of(token).as_str(), "rgb")
+    eq_ascii_case(name.as_str(), "rgb")
 }
 
 /// The colour of three integers, and after them the closing bracket alone.

@@ -1,14 +1,15 @@
-use Rattle.std.proofs.Common.{◌≡◌, ◌++◌, length}
-use Rattle.std.specs.Option.{option_map}
-use Rattle.css_rules.specs.Layers.{layers_named}
-use Rattle.css_rules.specs.View.{context_of, contexts_of}
+use Rattle.std.proofs.Common.{length}
+use Rattle.syntax_model.specs.TokenKinds.{is_comma}
+use Rattle.syntax_model.specs.Outside.{parts_between}
+use Rattle.css_tokens.proofs.SeparatedLemmas.{AreSoFar}
+use Rattle.css_rules.specs.View.{context_of}
+use Rattle.css_rules.proofs.LayerLemmas.{layer_in}
 use Rattle.css_rules.proofs.layer_names.layers_declared.Given as goal
 
 -- the layers so far and those of what is left are the whole
 abbrev pub invariant-names : goal.invariant-names
 invariant-names l =
-    layers_named (context_of l.context) l.prelude
-    ≡ option_map (λ rest. contexts_of l.list.items ++ rest) (layers_named (context_of l.context) l.left)
+    AreSoFar context_of (layer_in (context_of l.context)) l.list.items l.names (parts_between is_comma l.prelude)
 
 abbrev pub decreases-names : goal.decreases-names
-decreases-names l = length l.left
+decreases-names l = length l.names

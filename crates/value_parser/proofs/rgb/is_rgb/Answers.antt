@@ -1,9 +1,9 @@
-use Rattle.std.proofs.Common.{sym, ◌∙◌}
+use Rattle.std.proofs.Common.{ap, ◌∙◌}
+use Rattle.std.specs.Prelude.{codes}
 use Rattle.std.specs.Str.{chars}
-use Rattle.value_parser.proofs.RgbLemmas.{rgb_by_name}
+use Rattle.base_model.specs.Text.{is_word}
 use Rattle.value_parser.proofs.rgb.is_rgb.Goals as goal
 
-pub returns-then-is_function : goal.returns-then-is_function
+pub returns : goal.returns
 unfolding chars
-returns-then-is_function c =
-    rgb_by_name c.args.token.now (chars c.as_str.result.now) c.eq_ascii_case.result (sym c.is_function.ensures ∙ c.if-is_function.true) (c.as_str.ensures.characters ∙ c.name_of.ensures) c.eq_ascii_case.ensures.value
+returns c = c.eq_ascii_case.ensures.value ∙ ap (is_word (codes "rgb")) c.as_str.ensures.characters
