@@ -1,13 +1,10 @@
 -- The values of an element, on the way from those that nothing sets to those by the declarations.
-use Rattle.std.proofs.Common.{◌≤◌, lit<, ◌≡◌, ◌≢◌, ◌==◌, ℕ, ◌*◌, ◌%◌, ◌^◌, ◌<◌, ℤ, Bool, if◌then◌else◌, List, Some, slice_get, length, set, sym, ap, ◌∙◌, ⊎_elim, arith}
+use Rattle.std.proofs.Common.{◌≡◌, ◌≢◌, ◌==◌, ◌&&◌, not, ℕ, ◌<◌, ℤ, Bool, true, false, if◌then◌else◌, List, [], ◌∷◌, Some, slice_get, length, set, get_or, sym, ap, ◌∙◌, ⊎_elim, arith, refl}
 use Rattle.std.specs.FinMap as finmap
-use Rattle.std.specs.Int.{bit_at, w64, bit_not}
-use Rattle.std.specs.Int.RustNames.{bit_and}
-use Rattle.std.proofs.lemmas.Bool.{cases_lt, cases_eq, false_from_ne_true, eqb-true}
-use Rattle.std.proofs.lemmas.Nat.{and_le_l}
+use Rattle.std.proofs.Math.Bool.{and-true}
+use Rattle.std.proofs.lemmas.Bool.{and_right, cases_eq, eq-eqb, eqb-false, eqb-true, false_from_ne_true, ne_eqb, or_parts}
 use Rattle.std.proofs.lemmas.List.{length-set, same_lists}
 use Rattle.std.proofs.lemmas.Option.{unwrap_or-slice_get}
-use Rattle.std.proofs.lemmas.Nat.Bits.{bit_at_and, bit_at_clear_same, bit_at_clear_other, bit_at-lt, bit_at-zero}
 use Rattle.base_model.proofs.Lists.{slice_get_some}
 use Rattle.custom_model.specs.Value.{CustomValues}
 use Rattle.custom_model.specs.Expand.{Lookup}
@@ -19,21 +16,21 @@ use Rattle.cascade_model.specs.Key.{Matched}
 use Rattle.cascade_model.specs.Ending.{unsets, ending}
 use Rattle.cascade_model.specs.Cascade.{Sizes, sizes, own_size, value_at, property_value, values_over}
 use Rattle.cascade_model.proofs.ValuesLemmas.{values_from-at, length-values_over, size_within}
-use Rattle.cascade_core.proofs.WonLemmas.{get-set_other, get-set_same, short_table}
+use Rattle.property_table.specs.PropertySet.{has_row, without_row}
+use Rattle.property_table.proofs.SetLemmas.{has_row-without}
+use Rattle.style_value.specs.ColumnView.{replaced}
+use Rattle.style_value.proofs.InheritedLemmas.{length-with_values, with_values_at, with_values_in}
+use Rattle.cascade_core.proofs.WonLemmas.{get-set_other, get-set_same}
 
--- a number without one of its bits, which is less
-abbrev pub cleared : ℕ → ℕ → ℕ
-cleared n q = bit_and n (bit_not w64 (1 * 2 ^ q % 2 ^ 64))
+-- what is in a set without a row
+taken_out : (row : ℕ) (rows : List ℕ) → has_row row (without_row row rows) ≡ false
+taken_out row rows = rw (has_row-without row row rows, eq-eqb row row refl) (and_right (has_row row rows) false refl)
 
-pub cleared_less : (n q : ℕ) → q < 64 → bit_at n q ≡ 1 → cleared n q < n
-cleared_less n q within is =
-    ⊎_elim (λ (less : cleared n q < n). less) (λ (most : n ≤ cleared n q).
-    let same : cleared n q ≡ n = omega (arith, and_le_l n (bit_not w64 (1 * 2 ^ q % 2 ^ 64))) in
-    absurd (omega (arith, bit_at_clear_same w64 n q within, ap (λ m. bit_at m q) same, is))) (cases_lt (cleared n q) n)
-
--- a bit of it that is set was set before
-still_set : (n q p : ℕ) → bit_at (cleared n q) p ≡ 1 → bit_at n p ≡ 1
-still_set n q p is = omega (arith, bit_at_and n (bit_not w64 (1 * 2 ^ q % 2 ^ 64)) p, bit_at-lt n p, is)
+not_left : (row other : ℕ) (rows : List ℕ) → other ≢ row → has_row other (without_row row rows) ≡ false → has_row other rows ≡ false
+not_left row other rows ne none =
+    sym (and-true (has_row other rows))
+    ∙ (ap (λ b. has_row other rows && not b) (sym (ne_eqb row other (λ e. ne (sym e))))
+    ∙ (sym (has_row-without row other rows) ∙ none))
 
 -- what the values of an element are made from
 pub record Sources : Type 0 where
@@ -72,13 +69,10 @@ module _ (s : Sources) where
   abbrev before : List Value
   before = inherited_values table s.parents
 
-  -- the properties whose bits are set are as before, and all others are done
-  pub record IsPartly (values : List Value) (rest : ℕ) : Type 0 where
-    pub long : length values ≡ length table
-    pub unset : (p : ℕ) → p < length table → bit_at rest p ≡ 1 → slice_get values p ≡ slice_get before p
-    pub ready : (p : ℕ) → p < length table → bit_at rest p ≡ 0 → slice_get values p ≡ slice_get done p
-    pub rows : (p : ℕ) → bit_at rest p ≡ 1 → p < length table
-    pub other_rows : bit_at rest font_size_property ≡ 0
+  -- once these properties too have their values, all are done; the font size is none of them
+  pub record IsPartly (values : List Value) (rest : List ℕ) : Type 0 where
+    pub ends : with_values_in done rest values ≡ done
+    pub other_rows : has_row font_size_property rest ≡ false
 
   done-at : (p : ℕ) (row : PropertyRow) (v : Value) → slice_get table p ≡ Some row → slice_get s.parents p ≡ Some v → slice_get done p ≡ Some (value_by p row v)
   done-at p row v at here = rw (values_from-at value_by table s.parents p row at, here)
@@ -90,90 +84,72 @@ module _ (s : Sources) where
     length-before : length before ≡ length table
     length-before = length-inherited table s.parents full ∙ full
 
+    length-done : length done ≡ length table
+    length-done = length-values_over s.custom s.is_root s.parents s.root_size s.ds full
+
     -- at first the font size is done, and each property without a declaration
-    module _ (declared : ℕ) (rows : (p : ℕ) → bit_at declared p ≡ 1 → p < length table) (others : (p : ℕ) → bit_at declared p ≡ 0 → p < length table → ending s.custom p s.ds ≡ unsets) where
+    module _ (declared : List ℕ) (others : (p : ℕ) → has_row p declared ≡ false → p < length table → ending s.custom p s.ds ≡ unsets) where
       abbrev first : List Value
       first = set before font_size_property (pixels own)
 
-      abbrev left : ℕ
-      left = cleared declared font_size_property
+      abbrev left : List ℕ
+      left = without_row font_size_property declared
 
-      no_size : bit_at left font_size_property ≡ 0
-      no_size = bit_at_clear_same w64 declared font_size_property (lit< tt)
+      length-first : length first ≡ length table
+      length-first = length-set before font_size_property (pixels own) ∙ length-before
 
-      unset_first : (p : ℕ) → p < length table → bit_at left p ≡ 1 → slice_get first p ≡ slice_get before p
-      unset_first p within is =
-          get-set_other before font_size_property p (pixels own) (λ e. absurd (omega (arith, no_size, rw e at is)))
-
-      ready_row : (p : ℕ) (row : PropertyRow) (v : Value) → slice_get table p ≡ Some row → slice_get s.parents p ≡ Some v → p < length table → bit_at left p ≡ 0 → slice_get first p ≡ slice_get done p
+      ready_row : (p : ℕ) (row : PropertyRow) (v : Value) → slice_get table p ≡ Some row → slice_get s.parents p ≡ Some v
+          → p < length table → has_row p left ≡ false → slice_get first p ≡ slice_get done p
       ready_row p row v at here within is =
           ⊎_elim
           (λ (e : p ≡ font_size_property).
           let size = get-set_same before font_size_property (pixels own) (omega (arith, length-before, size_within)) in
           rw (e, size, done-at font_size_property row v (rw e at at) (rw e at here)))
           (λ (ne : p ≢ font_size_property).
-          let still = bit_at_clear_other w64 declared font_size_property (lit< tt) p (omega (arith, short_table)) ne in
-          let ends = others p (sym still ∙ is) within in
+          let ends = others p (not_left font_size_property p declared ne is) within in
           rw (get-set_other before font_size_property p (pixels own) ne, inherited-at table s.parents p row at, here, done-at p row v at here, of_other p row v ne, ends))
           (cases_eq p font_size_property)
 
-      ready_first : (p : ℕ) → p < length table → bit_at left p ≡ 0 → slice_get first p ≡ slice_get done p
+      ready_first : (p : ℕ) → p < length table → has_row p left ≡ false → slice_get first p ≡ slice_get done p
       ready_first p within is =
           let (row, at) = slice_get_some table p within in
           let (v, here) = slice_get_some s.parents p (omega (arith, full)) in ready_row p row v at here within is
 
+      value_first : (p : ℕ) (d : Value) (among : Bool) → has_row p left ≡ among → p < length table → (if among then get_or done p d else get_or first p d) ≡ get_or done p d
+      value_first p d true is within = refl
+      value_first p d false is within =
+          rw (← unwrap_or-slice_get first p d, ← unwrap_or-slice_get done p d, ready_first p within is)
+
       pub partly_first : IsPartly first left
       partly_first = record {
-        long = length-set before font_size_property (pixels own) ∙ length-before;
-        unset = unset_first;
-        ready = ready_first;
-        rows = λ p is. rows p (still_set declared font_size_property p is);
-        other_rows = no_size;
+        ends =
+            same_lists (with_values_in done left first) done (length-with_values done left first ∙ (length-first ∙ sym length-done)) (λ p d within.
+            let in_table : p < length table = omega (arith, length-with_values done left first, length-first) in
+            with_values_at done left first p d (omega (arith, length-done)) (omega (arith, length-first))
+            ∙ value_first p d (has_row p left) refl in_table);
+        other_rows = taken_out font_size_property declared;
       }
 
-    module _ (values : List Value) (rest : ℕ) (partly : IsPartly values rest) where
+    module _ (values : List Value) (q : ℕ) (rest : List ℕ) (partly : IsPartly values (q ∷ rest)) where
+      others_left : ((font_size_property == q) ≡ false) × (has_row font_size_property rest ≡ false)
+      others_left = or_parts (font_size_property == q) (has_row font_size_property rest) partly.other_rows
+
       -- then one more
-      module _ (q : ℕ) (row : PropertyRow) (v : Value) (is_set : bit_at rest q ≡ 1) (at : slice_get table q ≡ Some row) (here : slice_get s.parents q ≡ Some v) where
+      module _ (row : PropertyRow) (v : Value) (at : slice_get table q ≡ Some row) (here : slice_get s.parents q ≡ Some v) where
         abbrev x : Value
         x = value_of q row v
 
-        in_table : q < length table
-        in_table = partly.rows q is_set
+        x_done : slice_get done q ≡ Some x
+        x_done =
+            done-at q row v at here
+            ∙ ap Some (of_other q row v (λ e. eqb-false font_size_property q others_left.0 (sym e)))
 
-        none_left : bit_at (cleared rest q) q ≡ 0
-        none_left = bit_at_clear_same w64 rest q (omega (arith, in_table, short_table))
-
-        not_size : q ≢ font_size_property
-        not_size = λ e. absurd (omega (arith, partly.other_rows, rw e at is_set))
-
-        unset_next : (p : ℕ) → p < length table → bit_at (cleared rest q) p ≡ 1 → slice_get (set values q x) p ≡ slice_get before p
-        unset_next p within one =
-            get-set_other values q p x (λ e. absurd (omega (arith, none_left, rw e at one)))
-            ∙ partly.unset p within (still_set rest q p one)
-
-        ready_next : (p : ℕ) → p < length table → bit_at (cleared rest q) p ≡ 0 → slice_get (set values q x) p ≡ slice_get done p
-        ready_next p within none =
-            ⊎_elim
-            (λ (e : p ≡ q).
-            let put = get-set_same values q x (omega (arith, in_table, partly.long)) in
-            rw (e, put, done-at q row v at here, of_other q row v not_size))
-            (λ (ne : p ≢ q).
-            let still = bit_at_clear_other w64 rest q (omega (arith, in_table, short_table)) p (omega (arith, short_table)) ne in
-            rw (get-set_other values q p x ne) (partly.ready p within (sym still ∙ none)))
-            (cases_eq p q)
-
-        pub partly_next : IsPartly (set values q x) (cleared rest q)
+        pub partly_next : IsPartly (set values q x) rest
         partly_next = record {
-          long = length-set values q x ∙ partly.long;
-          unset = unset_next;
-          ready = ready_next;
-          rows = λ p one. partly.rows p (still_set rest q p one);
-          other_rows = omega (arith, bit_at_and rest (bit_not w64 (1 * 2 ^ q % 2 ^ 64)) font_size_property, partly.other_rows);
+          ends = ap (λ o. with_values_in done rest (replaced o q values)) (sym x_done) ∙ partly.ends;
+          other_rows = others_left.1;
         }
 
-      -- and at the end all are
-      pub partly_all : rest ≡ 0 → values ≡ done
-      partly_all none =
-          let long = length-values_over s.custom s.is_root s.parents s.root_size s.ds full in
-          same_lists values done (partly.long ∙ sym long) (λ p d within.
-          rw (← unwrap_or-slice_get values p d, ← unwrap_or-slice_get done p d, partly.ready p (omega (arith, partly.long)) (rw none (bit_at-zero p))))
+    -- and at the end all are
+    pub partly_all : (values : List Value) (rest : List ℕ) → IsPartly values rest → rest ≡ [] → values ≡ done
+    partly_all values rest partly none = ap (λ l. with_values_in done l values) (sym none) ∙ partly.ends

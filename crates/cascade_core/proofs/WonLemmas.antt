@@ -1,13 +1,10 @@
 -- The winner of each property, as declarations come one by one.
-use Rattle.std.proofs.Common.{lit<, true, is_some, append-nil, append_assoc, get_or, take, length-set, ◌≡◌, ◌≢◌, ◌==◌, ℕ, zero, suc, ◌+◌, ◌<◌, ◌^◌}
-use Rattle.std.proofs.Common.{◌*◌, ◌%◌, false, List, [], ◌∷◌, ◌++◌, Option, Some, None, slice_get, length, set, option_map, refl, sym, ap, ◌∙◌, ⊎_elim, arith}
-use Rattle.std.specs.Int.{bit_at, w64}
+use Rattle.std.proofs.Common.{true, is_some, append-nil, append_assoc, get_or, take, length-set, ◌≡◌, ◌≢◌, ◌==◌, ℕ, zero, suc, ◌+◌, ◌<◌}
+use Rattle.std.proofs.Common.{◌||◌, Bool, false, List, [], ◌∷◌, ◌++◌, Option, Some, None, slice_get, length, set, option_map, refl, sym, ap, ◌∙◌, ⊎_elim, arith}
 use Rattle.std.specs.List.{flat_map, list_all}
 use Rattle.std.proofs.lemmas.List.{take_more}
 use Rattle.std.proofs.lemmas.Grind.{flat_map-append}
-use Rattle.std.specs.Int.RustNames.{bit_or}
-use Rattle.std.proofs.lemmas.Bool.{true≢false, and_parts, cases_eq, eqb-true, false_from_ne_true}
-use Rattle.std.proofs.lemmas.Nat.Bits.{bit_at_set_same, bit_at_set_other, bit_at-zero}
+use Rattle.std.proofs.lemmas.Bool.{true≢false, and_parts, cases_eq, eqb-false, eqb-true, ne_eqb, or_parts}
 use Rattle.std.proofs.lemmas.Option.{none-some, same_Some, slice_get_within}
 use Rattle.base_model.proofs.Lists.{slice_get_some}
 use Rattle.cascade_model.specs.Key.{Matched}
@@ -15,6 +12,8 @@ use Rattle.cascade_model.specs.Winner.{winner, declares_longhand}
 use Rattle.cascade_model.proofs.WinnerLemmas.{winner_other}
 use Rattle.sheet_model.specs.Declared.{longhand, is_longhand}
 use Rattle.value_model.specs.Table.{table}
+use Rattle.property_table.specs.PropertySet.{has_row, with_row}
+use Rattle.property_table.proofs.SetLemmas.{has_row-with}
 use Rattle.cascade_model.specs.Custom.{custom_name}
 use Rattle.shorthands.specs.declared.declared.Target.{Target}
 use Rattle.shorthands.specs.declared.declared.Target.TheVariants.{Longhand, Shorthand, Custom}
@@ -25,10 +24,6 @@ use Rattle.cascade_core.specs.declared.matched.Matched as code
 use Rattle.cascade_core.specs.declared.places.Places.{Places}
 use Rattle.cascade_core.proofs.BestLemmas.{still_custom, custom_added}
 use Rattle.cascade_core.proofs.EntryLemmas.{matched_custom}
-
-pub short_table : length table < 64
-unfolding table
-short_table = lit< tt
 
 module _ {X : Type 0} where
   pub get-set_other : (xs : List X) (k n : ℕ) (x : X) → n ≢ k → slice_get (set xs k x) n ≡ slice_get xs n
@@ -44,11 +39,8 @@ module _ {X : Type 0} where
   get-set_same (y ∷ ys) (suc k) x within = get-set_same ys k x (omega arith)
 
 -- a declaration of another property
-declares_other : (p k : ℕ) → k ≢ p → (p == k) ≡ false
-declares_other p k other = false_from_ne_true _ (λ e. other (sym (eqb-true p k e)))
-
 pub won_other : (ds : List Matched) (d : Matched) (q p : ℕ) → d.target ≡ longhand q → p ≢ q → won (ds ++ d ∷ []) p ≡ won ds p
-won_other ds d q p target other = winner_other (declares_longhand p) ds d (ap (is_longhand p) target ∙ declares_other q p other)
+won_other ds d q p target other = winner_other (declares_longhand p) ds d (ap (is_longhand p) target ∙ ne_eqb q p (λ e. other (sym e)))
 
 module _ {X : Type 0} (seen : ℕ → X → Option Matched) (ds : List Matched) (d : Matched) (q : ℕ) (target : d.target ≡ longhand q) where
   abbrev AreBest : List Matched → List X → Type 0
@@ -63,27 +55,15 @@ module _ {X : Type 0} (seen : ℕ → X → Option Matched) (ds : List Matched) 
       (λ (ne : p ≢ q). rw (won_other ds d q p target ne) (are p o (rw (get-set_other best q p new ne) at found)))
       (cases_eq p q)
 
-  module _ (declared : ℕ) (within : q < 64) where
-    abbrev marked : ℕ
-    marked = bit_or declared (1 * 2 ^ q % 2 ^ 64)
-
-    pub rows_put : q < length table → ((p : ℕ) → bit_at declared p ≡ 1 → p < length table) → (p : ℕ) → bit_at marked p ≡ 1 → p < length table
-    rows_put in_table rows p is =
-        ⊎_elim
-        (λ (e : p ≡ q). rw e in_table)
-        (λ (ne : p ≢ q). rows p (sym (bit_at_set_other w64 declared q within p ne) ∙ is))
-        (cases_eq p q)
-
-    pub others_put : ((p : ℕ) → bit_at declared p ≡ 0 → p < length table → won ds p ≡ None) → (p : ℕ) → bit_at marked p ≡ 0 → p < length table → won (ds ++ d ∷ []) p ≡ None
-    others_put others p is in_table =
-        ⊎_elim
-        (λ (e : p ≡ q). absurd (omega (arith, bit_at_set_same w64 declared q within, (rw e at is))))
-        (λ (ne : p ≢ q). rw (won_other ds d q p target ne) (others p (sym (bit_at_set_other w64 declared q within p ne) ∙ is) in_table))
-        (cases_eq p q)
+  pub others_put : (declared : List ℕ) → ((p : ℕ) → has_row p declared ≡ false → p < length table → won ds p ≡ None)
+      → (p : ℕ) → has_row p (with_row q declared) ≡ false → p < length table → won (ds ++ d ∷ []) p ≡ None
+  others_put declared others p is in_table =
+      let (unlike, before) = or_parts (q == p) (has_row p declared) (sym (has_row-with q p declared in_table) ∙ is) in
+      rw (won_other ds d q p target (λ e. eqb-false q p unlike (sym e))) (others p before in_table)
 
 -- with a winner for a property
 abbrev with_winner : Places → ℕ → ℕ → Places
-with_winner w q place = record w { rows = set w.rows q place; declared = bit_or w.declared (1 * 2 ^ q % 2 ^ 64) }
+with_winner w q place = record w { rows = set w.rows q place; declared = with_row q w.declared }
 
 -- what the first of a list give, after others, with one more of them
 pub one_more : {X A : Type 0} (f : X → List A) (xs ys : List X) (i : ℕ) (x : X) → i < length ys → x ≡ get_or ys i x → flat_map f (xs ++ take i ys) ++ f x ≡ flat_map f (xs ++ take (i + 1) ys)
@@ -125,12 +105,10 @@ module _ (list : List code.Matched) (w : Places) (ds : List Matched) (are : AreW
     put_one new wins =
         let (old, at) = slice_get_some w.rows q (omega (arith, within, are.long)) in
         let seen : ℕ → ℕ → Option Matched = λ p place. option_map (entry_of p) (at_place list place) in
-        let short : q < 64 = omega (arith, within, short_table) in
         record {
           long = length-set w.rows q new ∙ are.long;
           best = best_put seen ds (entry_of q d) q refl w.rows old new are.best at wins;
-          rows = rows_put seen ds (entry_of q d) q refl w.declared short within are.rows;
-          others = others_put seen ds (entry_of q d) q refl w.declared short are.others;
+          others = others_put seen ds (entry_of q d) q refl w.declared are.others;
           have_custom = are.have_custom ∙ sym (still_custom ds (entry_of q d) q refl);
         }
 
@@ -141,7 +119,6 @@ module _ (list : List code.Matched) (w : Places) (ds : List Matched) (are : AreW
       rw (matched_custom d h) (record {
         long = are.long;
         best = λ p o at. same p ∙ are.best p o at;
-        rows = are.rows;
         others = λ p is within. same p ∙ are.others p is within;
         have_custom = sym (custom_added ds (head_of d) (is_named d.declared.now.target h));
       })
@@ -159,11 +136,10 @@ unfolding winner
 nothing_won p = refl
 
 -- of no declarations none wins
-pub none_wins : (list : List code.Matched) (w : Places) → length w.rows ≡ length table → list_all (λ k. k == 0) w.rows ≡ true → w.declared ≡ 0 → w.have_custom ≡ false → AreWinners list w []
+pub none_wins : (list : List code.Matched) (w : Places) → length w.rows ≡ length table → list_all (λ k. k == 0) w.rows ≡ true → w.declared ≡ [] → w.have_custom ≡ false → AreWinners list w []
 none_wins list w long none unset absent = record {
   long = long;
   best = λ p place at. nothing_won p ∙ ap (λ k. option_map (entry_of p) (at_place list k)) (sym (zero_at w.rows p place none at));
-  rows = λ p is. absurd (omega (arith, bit_at-zero p, ap (λ n. bit_at n p) unset, is));
   others = λ p is within. nothing_won p;
   have_custom = absent;
 }

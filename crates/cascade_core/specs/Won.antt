@@ -1,11 +1,11 @@
 -- Which declarations win.
 use Rattle.std.specs.Prelude.{◌≡◌, ℕ, ◌<◌, List, length, slice_get}
-use Rattle.std.specs.Prelude.{Option, Some, None, option_map, Bool, is_some}
-use Rattle.std.specs.Int.{bit_at}
+use Rattle.std.specs.Prelude.{Option, Some, None, option_map, Bool, false, is_some}
 use Rattle.std.specs.List.{list_any}
 use Rattle.cascade_model.specs.Key as model
 use Rattle.cascade_model.specs.Winner.{winner, declares_longhand}
 use Rattle.value_model.specs.Table.{table}
+use Rattle.property_table.specs.PropertySet.{has_row}
 use Rattle.cascade_core.specs.Declarations.{at_place}
 use Rattle.cascade_core.specs.Names.{name_of}
 use Rattle.cascade_core.specs.View.{entry_of}
@@ -25,7 +25,6 @@ pub record AreWinners (list : List Matched) (w : Places) (ds : List model.Matche
   -- a place for each property of the table
   pub long : length w.rows ≡ length table
   pub best : (p place : ℕ) → slice_get w.rows p ≡ Some place → won ds p ≡ option_map (entry_of p) (at_place list place)
-  -- no bit is set but of a row, and where none is there is no declaration
-  pub rows : (p : ℕ) → bit_at w.declared p ≡ 1 → p < length table
-  pub others : (p : ℕ) → bit_at w.declared p ≡ 0 → p < length table → won ds p ≡ None
+  -- no other property has a declaration
+  pub others : (p : ℕ) → has_row p w.declared ≡ false → p < length table → won ds p ≡ None
   pub have_custom : w.have_custom ≡ have_custom ds

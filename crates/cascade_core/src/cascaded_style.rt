@@ -17,7 +17,7 @@ use crate::longhands::Longhands;
 use crate::winners::Winners;
 use crate::{Declarations, Matched};
 use css_tokens::CustomMap;
-use property_table::{PropId, PropertyRow, Value};
+use property_table::{PropId, PropertyRow, PropertySet, Value};
 use std::alloc::Global;
 use style_value::{Custom, Style, StyleDraft};
 use stylo_base::{Fixed, NoMemory};
@@ -134,18 +134,17 @@ fn set_values(
     };
     draft.set(PropId::FontSize, Value::Pixels(own));
     let mut longhands = Longhands::over(custom, PropId::FontSize);
-    let mut rest = winners.declared() & !(1 << PropId::FontSize.row());
-    while rest != 0 {
-        let row = &PropertyRow::all()[rest.trailing_zeros() as usize];
-        let id = row.id;
-        rest &= !(1 << id.row());
+    let mut rest: PropertySet = winners.declared().iter();
+    rest.remove(PropId::FontSize);
+    for id in rest {
         longhands.read_as(id);
         let cascaded = winners.cascaded_value(alloc, &mut longhands)?;
         let parents = ParentValues {
             value: parent.value(id),
             font,
         };
-        draft.set(id, value_at(row, parents, &sizes, cascaded));
+        let value = value_at(PropertyRow::of(id), parents, &sizes, cascaded);
+        draft.set(id, value);
     }
     Ok(())
 }
@@ -163,7 +162,7 @@ fn size_of(
         IfOk result (λ size. size
         ≡ size_in (value_at font_size_row (pixels font.size) font.size font.weight sizes ends)) }
 {
-    if (winners.declared() >> PropId::FontSize.row()) & 1 == 0 {
+    if !winners.declared().contains(PropId::FontSize) {
         return Ok(font.size);
     }
     let mut longhands = Longhands::over(custom, PropId::FontSize);

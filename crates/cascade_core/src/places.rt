@@ -9,7 +9,7 @@ ghost use Rattle.cascade_core.specs.Won.{AreWinners, won};
 
 use crate::matched::{compare_for, is_custom};
 use crate::{Declarations, Matched};
-use property_table::{COUNT, PropId};
+use property_table::{COUNT, PropId, PropertySet};
 use stylo_base::NoMemory;
 
 /// For each property the place of the declaration that wins among those that were added, and whether
@@ -18,8 +18,8 @@ use stylo_base::NoMemory;
 pub(crate) struct Places {
     /// The place of the winner of each row of the table; 0 where there is none.
     rows: [u32; COUNT],
-    /// The rows that have a winner, each as a bit.
-    declared: u64,
+    /// The properties that have a winner.
+    declared: PropertySet,
     have_custom: bool,
 }
 
@@ -50,11 +50,11 @@ impl Places {
         self.rows[id.row()]
     }
 
-    /// The rows that have a winner, each as a bit.
-    pub(crate) fn declared(&self) -> u64
-        ensures { result ≡ self.now.declared }
+    /// The properties that have a winner.
+    pub(crate) fn declared(&self) -> &PropertySet
+        ensures { result.now ≡ self.now.declared }
     {
-        self.declared
+        &self.declared
     }
 
     /// Whether a declaration of a custom property was added.
@@ -70,7 +70,7 @@ impl Places {
     {
         Places {
             rows: [0; COUNT],
-            declared: 0,
+            declared: PropertySet::new(),
             have_custom: false,
         }
     }
@@ -99,7 +99,7 @@ impl Places {
     {
         let row = id.row();
         self.rows[row] = self.better(declarations, id, place, d);
-        self.declared |= 1 << row;
+        self.declared.insert(id);
     }
 
     /// The place of the winner of a property once the declaration at `place` is added to it.

@@ -1,11 +1,11 @@
 //! The declarations that apply to an element, with the one that wins for each property.
 
-ghost use Rattle.std.specs.Prelude.{◌≡◌, ℕ, ◌<◌, IfOk, IfSome, length};
+ghost use Rattle.std.specs.Prelude.{◌≡◌, ℕ, ◌<◌, IfOk, IfSome, false, length};
 ghost use Rattle.custom_model.specs.Expand.{Lookup};
+ghost use Rattle.property_table.specs.PropertySet.{has_row};
 ghost use Rattle.property_table.specs.View.{value_seen};
 ghost use Rattle.cascade_model.specs.Ending.{ending, unsets};
 ghost use Rattle.std.specs.FinMap as finmap;
-ghost use Rattle.std.specs.Int.{bit_at};
 ghost use Rattle.value_model.specs.Table.{table};
 ghost use Rattle.cascade_core.specs.CascadedValue.{cascaded_seen};
 ghost use Rattle.cascade_core.specs.Declarations.{all_matched};
@@ -17,7 +17,7 @@ use crate::longhands::Longhands;
 use crate::places::Places;
 use crate::rollback::rolled_back;
 use crate::substitution::Substitution;
-use property_table::Value;
+use property_table::{PropertySet, Value};
 use std::alloc::Global;
 use std::marker::Model;
 use stylo_base::NoMemory;
@@ -99,11 +99,9 @@ impl<'a> Winners<'a> {
         Ok(CascadedValue::settled(substituted))
     }
 
-    /// The properties that are declared, each by the bit of its row. No other property has a
-    /// declaration.
-    pub(crate) fn declared(&self) -> u64
-        ensures rows { (p : ℕ) → bit_at result p ≡ 1 → p < length table }
-        ensures others { (values : Lookup) (p : ℕ) → bit_at result p ≡ 0 → p < length table
+    /// The properties that are declared. No other property has a declaration.
+    pub(crate) fn declared(&self) -> &PropertySet
+        ensures { (values : Lookup) (p : ℕ) → has_row p result.now ≡ false → p < length table
             → ending values p self.now ≡ unsets }
     {
         self.places.declared()

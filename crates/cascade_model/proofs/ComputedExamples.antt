@@ -5,6 +5,16 @@ use Rattle.base_model.specs.Text.{Characters}
 use Rattle.value_model.specs.Color.{opaque}
 use Rattle.value_model.specs.Value.{Value, color, pixels, percent, number, em, rem, current_color}
 use Rattle.value_model.specs.Table.{table}
+use Rattle.value_model.specs.Table.{color_property, display_property, position_property, float_property}
+use Rattle.value_model.specs.Table.{width_property, height_property, margin_top_property, margin_right_property}
+use Rattle.value_model.specs.Table.{margin_bottom_property, margin_left_property, border_top_width_property}
+use Rattle.value_model.specs.Table.{border_right_width_property, border_bottom_width_property}
+use Rattle.value_model.specs.Table.{border_left_width_property, border_top_style_property}
+use Rattle.value_model.specs.Table.{border_right_style_property, border_bottom_style_property}
+use Rattle.value_model.specs.Table.{border_left_style_property, border_top_color_property}
+use Rattle.value_model.specs.Table.{border_right_color_property, border_bottom_color_property}
+use Rattle.value_model.specs.Table.{background_color_property, font_size_property, font_weight_property}
+use Rattle.value_model.specs.Table.{line_height_property}
 use Rattle.sheet_model.proofs.ExampleCases.{minus}
 use Rattle.cascade_model.specs.Ending.{ending_of}
 use Rattle.cascade_model.specs.Cascade.{cascaded}
@@ -20,49 +30,49 @@ abbrev are : List Value → List (Option Value)
 are values = map Some values
 
 -- `em` in `font-size` is of the parent's font size, and elsewhere of the own
-em_of_both : come false ((36, px 20) ∷ []) ((36, em (pos 1_500)) ∷ (9, em (pos 2_000)) ∷ []) (36 ∷ 9 ∷ []) ≡ are (px 30 ∷ px 60 ∷ [])
+em_of_both : come false ((font_size_property, px 20) ∷ []) ((font_size_property, em (pos 1_500)) ∷ (width_property, em (pos 2_000)) ∷ []) (font_size_property ∷ width_property ∷ []) ≡ are (px 30 ∷ px 60 ∷ [])
 unfolding ending_of table
 em_of_both = refl
 
-em_of_the_inherited : come false ((36, px 20) ∷ []) ((9, em (pos 2_000)) ∷ (15, em (minus 500)) ∷ (31, em (pos 1)) ∷ []) (36 ∷ 9 ∷ 15 ∷ []) ≡ are (px 20 ∷ px 40 ∷ pixels (minus 10_000) ∷ [])
+em_of_the_inherited : come false ((font_size_property, px 20) ∷ []) ((width_property, em (pos 2_000)) ∷ (margin_top_property, em (minus 500)) ∷ (border_top_color_property, em (pos 1)) ∷ []) (font_size_property ∷ width_property ∷ margin_top_property ∷ []) ≡ are (px 20 ∷ px 40 ∷ pixels (minus 10_000) ∷ [])
 unfolding ending_of table
 em_of_the_inherited = refl
 
-rem_of_the_root : come false ((36, px 20) ∷ []) ((36, rem (pos 3_000)) ∷ (9, rem (pos 1_500)) ∷ (39, rem (pos 2_000)) ∷ []) (36 ∷ 9 ∷ 39 ∷ []) ≡ are (px 30 ∷ px 15 ∷ px 20 ∷ [])
+rem_of_the_root : come false ((font_size_property, px 20) ∷ []) ((font_size_property, rem (pos 3_000)) ∷ (width_property, rem (pos 1_500)) ∷ (line_height_property, rem (pos 2_000)) ∷ []) (font_size_property ∷ width_property ∷ line_height_property ∷ []) ≡ are (px 30 ∷ px 15 ∷ px 20 ∷ [])
 unfolding ending_of table
 rem_of_the_root = refl
 
 -- at the root `rem` is of what is handed in for `font-size`, and elsewhere of the own
-rem_at_the_root : come true [] ((36, rem (pos 3_000)) ∷ (9, rem (pos 2_000)) ∷ (10, em (pos 2_000)) ∷ []) (36 ∷ 9 ∷ 10 ∷ []) ≡ are (px 30 ∷ px 60 ∷ px 60 ∷ [])
+rem_at_the_root : come true [] ((font_size_property, rem (pos 3_000)) ∷ (width_property, rem (pos 2_000)) ∷ (height_property, em (pos 2_000)) ∷ []) (font_size_property ∷ width_property ∷ height_property ∷ []) ≡ are (px 30 ∷ px 60 ∷ px 60 ∷ [])
 unfolding ending_of table
 rem_at_the_root = refl
 
 -- rounded once, to the nearest thousandth, and within the range
-rounded_sizes : come false ((36, pixels (pos 333)) ∷ []) ((9, em (pos 500)) ∷ (10, em (pos 1_500)) ∷ (15, em (minus 500)) ∷ (16, em (pos 2_000_000_000_000)) ∷ (17, rem (pos 2_000_000_000_000)) ∷ (18, rem (minus 2_000_000_000_000)) ∷ []) (9 ∷ 10 ∷ 15 ∷ 16 ∷ 17 ∷ 18 ∷ []) ≡ are (pixels (pos 167) ∷ pixels (pos 500) ∷ pixels (minus 167) ∷ pixels (pos 666_000_000_000) ∷ pixels (pos 2_000_000_000_000) ∷ pixels (minus 2_000_000_000_000) ∷ [])
+rounded_sizes : come false ((font_size_property, pixels (pos 333)) ∷ []) ((width_property, em (pos 500)) ∷ (height_property, em (pos 1_500)) ∷ (margin_top_property, em (minus 500)) ∷ (margin_right_property, em (pos 2_000_000_000_000)) ∷ (margin_bottom_property, rem (pos 2_000_000_000_000)) ∷ (margin_left_property, rem (minus 2_000_000_000_000)) ∷ []) (width_property ∷ height_property ∷ margin_top_property ∷ margin_right_property ∷ margin_bottom_property ∷ margin_left_property ∷ []) ≡ are (pixels (pos 167) ∷ pixels (pos 500) ∷ pixels (minus 167) ∷ pixels (pos 666_000_000_000) ∷ pixels (pos 2_000_000_000_000) ∷ pixels (minus 2_000_000_000_000) ∷ [])
 unfolding ending_of table
 rounded_sizes = refl
 
 -- A percentage of `font-size` is of the parent's, one of `line-height` of the own, and others stay.
-percentages : come false ((36, px 20) ∷ []) ((36, percent (pos 150_000)) ∷ (39, percent (pos 150_000)) ∷ (9, percent (pos 150_000)) ∷ []) (36 ∷ 39 ∷ 9 ∷ []) ≡ are (px 30 ∷ px 45 ∷ percent (pos 150_000) ∷ [])
+percentages : come false ((font_size_property, px 20) ∷ []) ((font_size_property, percent (pos 150_000)) ∷ (line_height_property, percent (pos 150_000)) ∷ (width_property, percent (pos 150_000)) ∷ []) (font_size_property ∷ line_height_property ∷ width_property ∷ []) ≡ are (px 30 ∷ px 45 ∷ percent (pos 150_000) ∷ [])
 unfolding ending_of table
 percentages = refl
 
-rounded_percentages : come false ((36, pixels (pos 333)) ∷ []) ((36, percent (pos 50_000)) ∷ (39, percent (pos 150_000)) ∷ []) (36 ∷ 39 ∷ []) ≡ are (pixels (pos 167) ∷ pixels (pos 251) ∷ [])
+rounded_percentages : come false ((font_size_property, pixels (pos 333)) ∷ []) ((font_size_property, percent (pos 50_000)) ∷ (line_height_property, percent (pos 150_000)) ∷ []) (font_size_property ∷ line_height_property ∷ []) ≡ are (pixels (pos 167) ∷ pixels (pos 251) ∷ [])
 unfolding ending_of table
 rounded_percentages = refl
 
 -- `line-height` is inherited as it was computed
-heights : map (λ given. come false ((36, px 20) ∷ []) ((39, given) ∷ []) (39 ∷ [])) (number (pos 1_500) ∷ em (pos 1_500) ∷ px 7 ∷ word (codes "normal") ∷ []) ≡ map (λ value. are (value ∷ [])) (number (pos 1_500) ∷ px 30 ∷ px 7 ∷ word (codes "normal") ∷ [])
+heights : map (λ given. come false ((font_size_property, px 20) ∷ []) ((line_height_property, given) ∷ []) (line_height_property ∷ [])) (number (pos 1_500) ∷ em (pos 1_500) ∷ px 7 ∷ word (codes "normal") ∷ []) ≡ map (λ value. are (value ∷ [])) (number (pos 1_500) ∷ px 30 ∷ px 7 ∷ word (codes "normal") ∷ [])
 unfolding ending_of table
 heights = refl
 
-inherited_heights : map (λ height. come false ((36, px 20) ∷ (39, height) ∷ []) ((36, px 40) ∷ []) (39 ∷ [])) (number (pos 1_500) ∷ px 30 ∷ []) ≡ map (λ value. are (value ∷ [])) (number (pos 1_500) ∷ px 30 ∷ [])
+inherited_heights : map (λ height. come false ((font_size_property, px 20) ∷ (line_height_property, height) ∷ []) ((font_size_property, px 40) ∷ []) (line_height_property ∷ [])) (number (pos 1_500) ∷ px 30 ∷ []) ≡ map (λ value. are (value ∷ [])) (number (pos 1_500) ∷ px 30 ∷ [])
 unfolding ending_of table
 inherited_heights = refl
 
 -- the font size of an element whose parent has this one
 abbrev size_over : ℤ → Value → List (Option Value)
-size_over parent given = come false ((36, pixels parent) ∷ []) ((36, given) ∷ []) (36 ∷ [])
+size_over parent given = come false ((font_size_property, pixels parent) ∷ []) ((font_size_property, given) ∷ []) (font_size_property ∷ [])
 
 abbrev sizes_over : ℤ → List Value → List (List (Option Value))
 sizes_over parent given = map (size_over parent) given
@@ -84,7 +94,7 @@ of_no_size = refl
 
 -- the font weight of an element whose parent has this one
 abbrev weight_over : Value → ℤ → List (Option Value)
-weight_over given parent = come false ((37, number parent) ∷ []) ((37, given) ∷ []) (37 ∷ [])
+weight_over given parent = come false ((font_weight_property, number parent) ∷ []) ((font_weight_property, given) ∷ []) (font_weight_property ∷ [])
 
 -- every edge
 abbrev edges : List ℤ
@@ -105,27 +115,27 @@ unfolding ending_of table
 other_weights = refl
 
 -- `currentcolor` in `color` is the parent's colour, and elsewhere it stays
-current_colors : come false ((0, lime) ∷ []) ((0, current_color) ∷ (31, current_color) ∷ (32, red) ∷ (35, current_color) ∷ []) (0 ∷ 31 ∷ 32 ∷ 33 ∷ 35 ∷ []) ≡ are (lime ∷ current_color ∷ red ∷ current_color ∷ current_color ∷ [])
+current_colors : come false ((color_property, lime) ∷ []) ((color_property, current_color) ∷ (border_top_color_property, current_color) ∷ (border_right_color_property, red) ∷ (background_color_property, current_color) ∷ []) (color_property ∷ border_top_color_property ∷ border_right_color_property ∷ border_bottom_color_property ∷ background_color_property ∷ []) ≡ are (lime ∷ current_color ∷ red ∷ current_color ∷ current_color ∷ [])
 unfolding ending_of table
 current_colors = refl
 
-current_color_of_a_root : come true [] ((0, current_color) ∷ []) (0 ∷ []) ≡ are (color (opaque 0 0 0) ∷ [])
+current_color_of_a_root : come true [] ((color_property, current_color) ∷ []) (color_property ∷ []) ≡ are (color (opaque 0 0 0) ∷ [])
 unfolding ending_of table
 current_color_of_a_root = refl
 
 -- There is no border where its style is `none` or `hidden`, and one of 3 pixels where nothing is said of its width.
-bare_borders : come false ((27, word (codes "solid")) ∷ (23, px 7) ∷ []) [] (23 ∷ 27 ∷ []) ≡ are (px 0 ∷ word (codes "none") ∷ [])
+bare_borders : come false ((border_top_style_property, word (codes "solid")) ∷ (border_top_width_property, px 7) ∷ []) [] (border_top_width_property ∷ border_top_style_property ∷ []) ≡ are (px 0 ∷ word (codes "none") ∷ [])
 unfolding ending_of table
 bare_borders = refl
 
-borders : come false [] ((27, word (codes "solid")) ∷ (28, word (codes "none")) ∷ (24, px 5) ∷ (29, word (codes "hidden")) ∷ (25, em (pos 1_000)) ∷ (30, word (codes "dotted")) ∷ (26, em (pos 500)) ∷ []) (23 ∷ 24 ∷ 25 ∷ 26 ∷ []) ≡ are (px 3 ∷ px 0 ∷ px 0 ∷ px 8 ∷ [])
+borders : come false [] ((border_top_style_property, word (codes "solid")) ∷ (border_right_style_property, word (codes "none")) ∷ (border_right_width_property, px 5) ∷ (border_bottom_style_property, word (codes "hidden")) ∷ (border_bottom_width_property, em (pos 1_000)) ∷ (border_left_style_property, word (codes "dotted")) ∷ (border_left_width_property, em (pos 500)) ∷ []) (border_top_width_property ∷ border_right_width_property ∷ border_bottom_width_property ∷ border_left_width_property ∷ []) ≡ are (px 3 ∷ px 0 ∷ px 0 ∷ px 8 ∷ [])
 unfolding ending_of table
 borders = refl
 
 -- What is absolutely positioned does not float, and is made a block; so is what floats, and the root.
 abbrev with_position : Bool → Characters → Characters → Characters → List (Option Value)
 with_position is_root position float display =
-    come is_root [] ((3, word position) ∷ (4, word float) ∷ (2, word display) ∷ []) (3 ∷ 4 ∷ 2 ∷ [])
+    come is_root [] ((position_property, word position) ∷ (float_property, word float) ∷ (display_property, word display) ∷ []) (position_property ∷ float_property ∷ display_property ∷ [])
 
 abbrev three : Characters → Characters → Characters → List (Option Value)
 three position float display = are (word position ∷ word float ∷ word display ∷ [])

@@ -11,6 +11,8 @@ use Rattle.custom_model.proofs.Maps.{resolved-empty}
 use Rattle.value_model.specs.Color.{opaque}
 use Rattle.value_model.specs.Value.{Value, keyword, color, pixels}
 use Rattle.value_model.specs.Table.{color_property}
+use Rattle.value_model.specs.Table.{border_top_width_property, border_right_width_property}
+use Rattle.value_model.specs.Table.{border_bottom_width_property, border_left_width_property}
 use Rattle.value_model.specs.Style.{Style, initial_style}
 use Rattle.sheet_model.specs.Declared.{longhand, exactly}
 use Rattle.cascade_model.specs.Key.{Matched}
@@ -44,7 +46,7 @@ styled changes = record { values = values_with changes; custom = maps.empty }
 
 -- what the borders are adjusted to where they have no style
 abbrev pub no_borders : List (ℕ × Value)
-no_borders = (23, px 0) ∷ (24, px 0) ∷ (25, px 0) ∷ (26, px 0) ∷ []
+no_borders = (border_top_width_property, px 0) ∷ (border_right_width_property, px 0) ∷ (border_bottom_width_property, px 0) ∷ (border_left_width_property, px 0) ∷ []
 
 -- a declaration of an author's sheet, in a rule for `*`, and the same of `color`
 abbrev pub declares_one : ℕ → Value → Matched

@@ -4,6 +4,7 @@ use Rattle.std.specs.Prelude.{codes}
 use Rattle.custom_model.proofs.Maps.{resolved-empty}
 use Rattle.value_model.specs.Value.{Value, current_color}
 use Rattle.value_model.specs.Table.{table, display_property}
+use Rattle.value_model.specs.Table.{color_property, clear_property, visibility_property, width_property}
 use Rattle.value_model.specs.Style.{Style, initial_style, initial_size, blockified}
 use Rattle.cascade_model.specs.Ending.{ending_of}
 use Rattle.cascade_model.specs.Custom.{declared_values}
@@ -11,13 +12,13 @@ use Rattle.cascade_model.specs.Cascade.{cascaded}
 use Rattle.cascade_model.proofs.ExampleCases.{word, px, lime, styled, no_borders, plainly, declares_one}
 
 abbrev parent : Style
-parent = styled ((0, lime) ∷ (2, word (codes "flex")) ∷ (5, word (codes "both")) ∷ (6, word (codes "hidden")) ∷ (9, px 5) ∷ [])
+parent = styled ((color_property, lime) ∷ (display_property, word (codes "flex")) ∷ (clear_property, word (codes "both")) ∷ (visibility_property, word (codes "hidden")) ∷ (width_property, px 5) ∷ [])
 
-without_a_declaration : cascaded false parent initial_size [] ≡ styled ((0, lime) ∷ (6, word (codes "hidden")) ∷ no_borders)
+without_a_declaration : cascaded false parent initial_size [] ≡ styled ((color_property, lime) ∷ (visibility_property, word (codes "hidden")) ∷ no_borders)
 unfolding ending_of table declared_values
 without_a_declaration = simp resolved-empty
 
-each_property_alone : cascaded false parent initial_size (declares_one 6 (word (codes "collapse")) ∷ declares_one 2 (word (codes "inline-block")) ∷ declares_one 5 (word (codes "left")) ∷ []) ≡ styled ((0, lime) ∷ (2, word (codes "inline-block")) ∷ (5, word (codes "left")) ∷ (6, word (codes "collapse")) ∷ no_borders)
+each_property_alone : cascaded false parent initial_size (declares_one visibility_property (word (codes "collapse")) ∷ declares_one display_property (word (codes "inline-block")) ∷ declares_one clear_property (word (codes "left")) ∷ []) ≡ styled ((color_property, lime) ∷ (display_property, word (codes "inline-block")) ∷ (clear_property, word (codes "left")) ∷ (visibility_property, word (codes "collapse")) ∷ no_borders)
 unfolding ending_of table declared_values
 each_property_alone = simp resolved-empty
 
@@ -29,7 +30,7 @@ current_color_of_the_root : cascaded true initial_style initial_size (plainly cu
 unfolding ending_of table declared_values
 current_color_of_the_root = simp resolved-empty
 
-bare_root : cascaded true initial_style initial_size [] ≡ styled ((2, word (codes "block")) ∷ no_borders)
+bare_root : cascaded true initial_style initial_size [] ≡ styled ((display_property, word (codes "block")) ∷ no_borders)
 unfolding ending_of table declared_values
 bare_root = simp resolved-empty
 

@@ -9,6 +9,8 @@ use Rattle.base_model.proofs.Lists.{slice_get_some}
 use Rattle.custom_model.specs.Expand.{Lookup}
 use Rattle.value_model.specs.Value.{Value}
 use Rattle.value_model.specs.Table.{PropertyRow, table, display_property, float_property, border_sides, font_size_property, font_size_row, font_weight_property}
+use Rattle.value_model.specs.Table.{border_top_width_property, border_right_width_property}
+use Rattle.value_model.specs.Table.{border_bottom_width_property, border_left_width_property}
 use Rattle.value_model.specs.Style.{Style, changed, with_changed, passes_at, is_no_border, is_positioned, floats, with_float, with_display, with_border, with_borders, adjusted, size_in, initial_size, font_size_of, weight_in, initial_weight, font_weight_of}
 use Rattle.value_model.proofs.ByRow.{by_row, by_row-at, by_row-keeps, length-by_row, keeps}
 use Rattle.cascade_model.specs.Key.{Matched}
@@ -68,7 +70,7 @@ length_keeps k change values = length-changed change (slice_get values k) k valu
 
 pub length-adjusted : (is_root : Bool) (values : List Value) → length (adjusted is_root values) ≡ length values
 length-adjusted =
-    adjusted_keeps length (length_keeps 4) (length_keeps 2) (length_keeps 23, (length_keeps 24, (length_keeps 25, (length_keeps 26, tt))))
+    adjusted_keeps length (length_keeps float_property) (length_keeps display_property) (length_keeps border_top_width_property, (length_keeps border_right_width_property, (length_keeps border_bottom_width_property, (length_keeps border_left_width_property, tt))))
 
 get-set_other : (values : List Value) (k n : ℕ) (value : Value) → k ≢ n → slice_get (set values k value) n ≡ slice_get values n
 get-set_other [] k n value other = refl
@@ -89,18 +91,18 @@ get_keeps n k other change values =
 -- the properties that are adjusted
 abbrev pub is_adjusted : ℕ → Bool
 is_adjusted n =
-    nat_eq float_property n || (nat_eq display_property n || (nat_eq 23 n || (nat_eq 24 n || (nat_eq 25 n || nat_eq 26 n))))
+    nat_eq float_property n || (nat_eq display_property n || (nat_eq border_top_width_property n || (nat_eq border_right_width_property n || (nat_eq border_bottom_width_property n || nat_eq border_left_width_property n))))
 
 -- each other one stays as it was
 pub adjusted-at : (n : ℕ) → is_adjusted n ≡ false → (is_root : Bool) (values : List Value) → slice_get (adjusted is_root values) n ≡ slice_get values n
 adjusted-at n other =
     let float = or_parts (nat_eq float_property n) _ other in
     let display = or_parts (nat_eq display_property n) _ float.1 in
-    let top = or_parts (nat_eq 23 n) _ display.1 in
-    let right = or_parts (nat_eq 24 n) _ top.1 in
-    let bottom = or_parts (nat_eq 25 n) _ right.1 in
-    adjusted_keeps (λ values. slice_get values n) (get_keeps n 4 float.0) (get_keeps n 2 display.0)
-    (get_keeps n 23 top.0, (get_keeps n 24 right.0, (get_keeps n 25 bottom.0, (get_keeps n 26 bottom.1, tt))))
+    let top = or_parts (nat_eq border_top_width_property n) _ display.1 in
+    let right = or_parts (nat_eq border_right_width_property n) _ top.1 in
+    let bottom = or_parts (nat_eq border_bottom_width_property n) _ right.1 in
+    adjusted_keeps (λ values. slice_get values n) (get_keeps n float_property float.0) (get_keeps n display_property display.0)
+    (get_keeps n border_top_width_property top.0, (get_keeps n border_right_width_property right.0, (get_keeps n border_bottom_width_property bottom.0, (get_keeps n border_left_width_property bottom.1, tt))))
 
 pub font_size_of-adjusted : (is_root : Bool) (values : List Value) → font_size_of (adjusted is_root values) ≡ font_size_of values
 font_size_of-adjusted is_root values =

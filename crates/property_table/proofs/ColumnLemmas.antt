@@ -1,5 +1,5 @@
 -- A value is known by its word and its number.
-use Rattle.std.proofs.Common.{◌≡◌, ℕ, zero, suc, ◌/◌, ◌%◌, ℤ, pos, List, [], ◌∷◌, ◌++◌, map, Option, Some, option_map, slice_get, unwrap_or, codes, length, refl, sym, ap, ◌∙◌, arith}
+use Rattle.std.proofs.Common.{◌≡◌, ℕ, zero, suc, ◌+◌, ◌-◌, ◌/◌, ◌%◌, ℤ, pos, List, [], ◌∷◌, ◌++◌, map, Option, Some, option_map, slice_get, unwrap_or, codes, length, refl, sym, ap, ◌∙◌, arith}
 use Rattle.std.specs.List.{AllByRecursion}
 use Rattle.std.proofs.lemmas.Option.{slice_get-map}
 use denote.Enum.Declared.{tag_of}
@@ -13,6 +13,7 @@ use Rattle.property_table.specs.declared.keyword.TheConstants.{KEYWORDS, WORDS}
 use Rattle.property_table.specs.declared.keyword.Keyword as declared
 use Rattle.property_table.specs.declared.keyword.Keyword.TheVariants as keyword
 use Rattle.property_table.specs.contracts.keyword.Keyword.{the_type}
+use Rattle.property_table.specs.declared.word.TheConstants.{FIRST_KEYWORD}
 use Rattle.property_table.specs.declared.value.Value.{Value}
 use Rattle.property_table.specs.declared.value.Value.TheVariants.{Keyword, Color, Pixels, Percent, Number, Em, Rem}
 use Rattle.property_table.proofs.ValueLemmas.{value_seen-same}
@@ -25,10 +26,10 @@ words_listed = refl
 pub word_at : (i : ℕ) → slice_get (map (λ text. text.now) WORDS.now) i ≡ option_map word_of (slice_get KEYWORDS.now i)
 word_at i = ap (λ (words : List Characters). slice_get words i) (sym words_listed) ∙ slice_get-map word_of KEYWORDS.now i
 
--- the keyword value of the keyword at an index
-pub keyword_value_at : (i : ℕ) (found : Option declared.Keyword) → slice_get KEYWORDS.now i ≡ found → keyword_value i ≡ model.keyword (unwrap_or (option_map word_of found) (codes "inline"))
-keyword_value_at i found h =
-    ap (λ text. model.keyword (unwrap_or text (codes "inline"))) (word_at i ∙ ap (option_map word_of) h)
+-- the keyword value of the keyword at an index, which comes after the words of other values
+pub keyword_value_at : (word : ℕ) (found : Option declared.Keyword) → slice_get KEYWORDS.now (word - FIRST_KEYWORD) ≡ found → keyword_value word ≡ model.keyword (unwrap_or (option_map word_of found) (codes "inline"))
+keyword_value_at word found h =
+    ap (λ text. model.keyword (unwrap_or text (codes "inline"))) (word_at (word - FIRST_KEYWORD) ∙ ap (option_map word_of) h)
 
 -- the parts are read back from the bits
 pub color_back : (c : color_model.Color) → AreBytes c → color_with (pos (color_bits c)) ≡ c
@@ -43,7 +44,7 @@ color_back c h =
     ∙ (ap (λ x. rgba c.red c.green x (bits % 256)) blue ∙ ap (λ x. rgba c.red c.green c.blue x) alpha))
 
 -- a keyword is read back
-keyword_back : (k : declared.Keyword) → value_of_word (tag_of the_type k) (pos 0) ≡ model.keyword (word_of k)
+keyword_back : (k : declared.Keyword) → value_of_word (FIRST_KEYWORD + tag_of the_type k) (pos 0) ≡ model.keyword (word_of k)
 keyword_back keyword.Inline = refl
 keyword_back _ = refl
 

@@ -4,3 +4,4 @@ pub mod ValueLemmas
 pub mod ColumnLemmas
 pub mod RowLemmas
 pub mod NameLemmas
+pub mod SetLemmas

@@ -8,7 +8,7 @@ use crate::{Color, Keyword, Value};
 use stylo_base::Fixed;
 
 /// The initial `font-size`, in thousandths of a pixel.
-pub const INITIAL_SIZE: i64 = 16_000;
+const INITIAL_SIZE: i64 = 16_000;
 
 /// The initial `font-size`: 16 pixels.
 pub fn initial_size() -> Fixed

@@ -6,7 +6,7 @@ ghost use Rattle.std.specs.Str.{chars};
 ghost use Rattle.value_model.specs.Table.{property_named, table};
 ghost use Rattle.property_table.specs.View.{inherited_properties, value_seen, property_of, row_of, row_seen};
 
-use crate::rows::ROWS;
+use crate::rows::{INHERITED, ROWS};
 use crate::{ComputeRule, Constant, Value, ValueForm};
 use stylo_base::eq_ascii_case;
 
@@ -78,17 +78,6 @@ pub struct PropertyRow {
 
 /// The number of properties.
 pub const COUNT: usize = ROWS.len();
-
-/// The properties that are inherited, in the order of the table.
-const INHERITED: &[PropId] = &[
-    PropId::Color,
-    PropId::Direction,
-    PropId::Visibility,
-    PropId::FontSize,
-    PropId::FontWeight,
-    PropId::FontStyle,
-    PropId::LineHeight,
-];
 
 impl PropId {
     /// Its row in the table, from 0.

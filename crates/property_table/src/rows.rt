@@ -1,248 +1,334 @@
-//! The rows of the table, in the order in which they are printed.
+//! The rows of the table, in the order in which they are printed. All that is known of a property is
+//! written here once, and each constant below takes from the rows what it needs.
 
-use crate::{Color, ComputeRule, Constant, INITIAL_SIZE, Keyword, PropId, PropertyRow, ValueForm};
+ghost use Rattle.std.specs.Prelude.{◌≡◌, map};
+ghost use Rattle.property_table.specs.ValueParts.{initial_values, value_amount};
 
-const BLACK: Constant = Constant::Color(Color {
-    red: 0,
-    green: 0,
-    blue: 0,
-    alpha: 255,
-});
-
-const TRANSPARENT: Constant = Constant::Color(Color {
-    red: 0,
-    green: 0,
-    blue: 0,
-    alpha: 0,
-});
-
-const CURRENT_COLOR: Constant = Constant::Keyword(Keyword::CurrentColor);
-
-/// No length or percentage at all, in thousandths.
-const NOTHING: Constant = Constant::Pixels(0);
+use crate::word::{COLOR, FIRST_KEYWORD, NUMBER, PIXELS};
+use crate::{COUNT, Color, ComputeRule, Constant, Keyword, PropId, PropertyRow, ValueForm};
+use stylo_base::Fixed;
 
 /// The greatest number, in thousandths.
 const MOST: i64 = 2_000_000_000_000;
 
-/// The row of a property: whether it is inherited, its initial value, what is not printed, what it
-/// takes and how it is computed.
+/// Hands a row for each property to a macro. A row begins with whether its property is inherited, a
+/// form of `row!`, and the property.
+#[macro_export]
+macro_rules! property_rows {
+    ($to:ident) => {
+        $to! {
+            [inherited value Color, "color", (Color 0 0 0 255), Color, (&[ValueForm::AnyColor])]
+            [inherited words Direction, "direction", Ltr Rtl]
+            [own words Display, "display", Inline Block InlineBlock Flex InlineFlex None]
+            [own words Position, "position", Static Relative Absolute Fixed Sticky]
+            [own words Float, "float", None Left Right]
+            [own words Clear, "clear", None Left Right Both]
+            [inherited words Visibility, "visibility", Visible Hidden Collapse]
+            [own overflow OverflowX, "overflow-x"]
+            [own overflow OverflowY, "overflow-y"]
+            [own box_size Width, "width", Auto]
+            [own box_size Height, "height", Auto]
+            [own box_size MinWidth, "min-width", Auto]
+            [own box_size MinHeight, "min-height", Auto]
+            [own box_size MaxWidth, "max-width", None]
+            [own box_size MaxHeight, "max-height", None]
+            [own margin MarginTop, "margin-top"]
+            [own margin MarginRight, "margin-right"]
+            [own margin MarginBottom, "margin-bottom"]
+            [own margin MarginLeft, "margin-left"]
+            [own padding PaddingTop, "padding-top"]
+            [own padding PaddingRight, "padding-right"]
+            [own padding PaddingBottom, "padding-bottom"]
+            [own padding PaddingLeft, "padding-left"]
+            [own border_width BorderTopWidth, "border-top-width"]
+            [own border_width BorderRightWidth, "border-right-width"]
+            [own border_width BorderBottomWidth, "border-bottom-width"]
+            [own border_width BorderLeftWidth, "border-left-width"]
+            [own border_style BorderTopStyle, "border-top-style"]
+            [own border_style BorderRightStyle, "border-right-style"]
+            [own border_style BorderBottomStyle, "border-bottom-style"]
+            [own border_style BorderLeftStyle, "border-left-style"]
+            [own color BorderTopColor, "border-top-color", (Keyword CurrentColor)]
+            [own color BorderRightColor, "border-right-color", (Keyword CurrentColor)]
+            [own color BorderBottomColor, "border-bottom-color", (Keyword CurrentColor)]
+            [own color BorderLeftColor, "border-left-color", (Keyword CurrentColor)]
+            [own color BackgroundColor, "background-color", (Color 0 0 0 0)]
+            [inherited value FontSize, "font-size", (Pixels 16_000), FontSize, (&[
+                ValueForm::Named("xx-small", Constant::Pixels(9_000)),
+                ValueForm::Named("x-small", Constant::Pixels(10_000)),
+                ValueForm::Named("small", Constant::Pixels(13_000)),
+                ValueForm::Named("medium", Constant::Pixels(16_000)),
+                ValueForm::Named("large", Constant::Pixels(18_000)),
+                ValueForm::Named("x-large", Constant::Pixels(24_000)),
+                ValueForm::Named("xx-large", Constant::Pixels(32_000)),
+                ValueForm::Word(Keyword::Larger),
+                ValueForm::Word(Keyword::Smaller),
+                ValueForm::Length { negative: false, zero: true },
+                ValueForm::Percentage { negative: false },
+            ])]
+            [inherited value FontWeight, "font-weight", (Number 400_000), FontWeight, (&[
+                ValueForm::Named("normal", Constant::Number(400_000)),
+                ValueForm::Named("bold", Constant::Number(700_000)),
+                ValueForm::Word(Keyword::Bolder),
+                ValueForm::Word(Keyword::Lighter),
+                ValueForm::Number { least: 1_000, most: 1_000_000 },
+            ])]
+            [inherited words FontStyle, "font-style", Normal Italic Oblique]
+            [inherited value LineHeight, "line-height", (Keyword Normal), LineHeight, (&[
+                ValueForm::Word(Keyword::Normal),
+                ValueForm::Number { least: 0, most: MOST },
+                ValueForm::Length { negative: false, zero: false },
+                ValueForm::Percentage { negative: false },
+            ])]
+        }
+    };
+}
+
+/// Hands a row to a macro in one form: whether it is inherited, the property, its name, its initial
+/// value, the value that is not printed, how it is computed, and what it takes.
 macro_rules! row {
-    ($id:ident, $name:literal, $inherited:literal, $initial:expr, $standing:expr, $rule:ident, $forms:expr) => {
+    // The initial value is not printed.
+    ($to:ident $flow:ident value $id:ident, $name:literal, $initial:tt, $rule:ident, $forms:tt) => {
+        $to!($flow, $id, $name, $initial, $initial, $rule, $forms)
+    };
+    // A property that takes keywords alone, of which the first is the initial value.
+    ($to:ident $flow:ident words $id:ident, $name:literal, $initial:ident $($other:ident)*) => {
+        row!($to $flow value $id, $name, (Keyword $initial), Plain, (&[
+            ValueForm::Word(Keyword::$initial)
+            $(, ValueForm::Word(Keyword::$other))*
+        ]))
+    };
+    // The overflow on an axis.
+    ($to:ident $flow:ident overflow $id:ident, $name:literal) => {
+        row!($to $flow words $id, $name, Visible Hidden Scroll Auto)
+    };
+    // A colour.
+    ($to:ident $flow:ident color $id:ident, $name:literal, $initial:tt) => {
+        row!($to $flow value $id, $name, $initial, Plain, (&[ValueForm::AnyColor]))
+    };
+    // A size of a box, which takes a keyword, its initial value.
+    ($to:ident $flow:ident box_size $id:ident, $name:literal, $word:ident) => {
+        row!($to $flow value $id, $name, (Keyword $word), Plain, (&[
+            ValueForm::Word(Keyword::$word),
+            ValueForm::Length { negative: false, zero: true },
+            ValueForm::Percentage { negative: false },
+        ]))
+    };
+    ($to:ident $flow:ident margin $id:ident, $name:literal) => {
+        row!($to $flow value $id, $name, (Pixels 0), Plain, (&[
+            ValueForm::Word(Keyword::Auto),
+            ValueForm::Length { negative: true, zero: true },
+            ValueForm::Percentage { negative: true },
+        ]))
+    };
+    ($to:ident $flow:ident padding $id:ident, $name:literal) => {
+        row!($to $flow value $id, $name, (Pixels 0), Plain, (&[
+            ValueForm::Length { negative: false, zero: true },
+            ValueForm::Percentage { negative: false },
+        ]))
+    };
+    // The width of a border, of which nothing is printed where there is none.
+    ($to:ident $flow:ident border_width $id:ident, $name:literal) => {
+        $to!($flow, $id, $name, (Pixels 3_000), (Pixels 0), Plain, (&[
+            ValueForm::Named("thin", Constant::Pixels(1_000)),
+            ValueForm::Named("medium", Constant::Pixels(3_000)),
+            ValueForm::Named("thick", Constant::Pixels(5_000)),
+            ValueForm::Length { negative: false, zero: true },
+        ]))
+    };
+    ($to:ident $flow:ident border_style $id:ident, $name:literal) => {
+        row!(
+            $to $flow words $id, $name,
+            None Hidden Dotted Dashed Solid Double Groove Ridge Inset Outset
+        )
+    };
+}
+
+/// A value that the table names.
+macro_rules! constant {
+    (Keyword $word:ident) => {
+        Constant::Keyword(Keyword::$word)
+    };
+    (Color $red:literal $green:literal $blue:literal $alpha:literal) => {
+        Constant::Color(Color {
+            red: $red,
+            green: $green,
+            blue: $blue,
+            alpha: $alpha,
+        })
+    };
+    ($kind:ident $amount:literal) => {
+        Constant::$kind($amount)
+    };
+}
+
+/// The word of a value that the table names.
+macro_rules! word {
+    (Keyword $word:ident) => {
+        FIRST_KEYWORD + Keyword::$word as u8
+    };
+    (Color $($part:literal)*) => {
+        COLOR
+    };
+    (Pixels $amount:literal) => {
+        PIXELS
+    };
+    (Number $amount:literal) => {
+        NUMBER
+    };
+}
+
+/// Its amount.
+macro_rules! amount {
+    (Keyword $word:ident) => {
+        0
+    };
+    (Color $red:literal $green:literal $blue:literal $alpha:literal) => {
+        (($red * 256 + $green) * 256 + $blue) * 256 + $alpha
+    };
+    ($kind:ident $amount:literal) => {
+        $amount
+    };
+}
+
+macro_rules! is_inherited {
+    (inherited) => {
+        true
+    };
+    (own) => {
+        false
+    };
+}
+
+macro_rules! table_row {
+    ($flow:ident, $id:ident, $name:literal, ($($initial:tt)*), ($($standing:tt)*), $rule:ident, ($forms:expr)) => {
         PropertyRow {
             id: PropId::$id,
             name: $name,
             label: concat!($name, ": "),
-            inherited: $inherited,
-            initial: $initial,
-            standing: $standing,
+            inherited: is_inherited!($flow),
+            initial: constant!($($initial)*),
+            standing: constant!($($standing)*),
             forms: $forms,
             rule: ComputeRule::$rule,
         }
     };
 }
 
-/// The row of a property that takes keywords alone: the property, its name, whether it is inherited,
-/// and its keywords, of which the first is the initial value, and is not printed.
-macro_rules! of_words {
-    ($id:ident, $name:literal, $inherited:literal; $initial:ident $(, $other:ident)*) => {
-        row!(
-            $id,
-            $name,
-            $inherited,
-            Constant::Keyword(Keyword::$initial),
-            Constant::Keyword(Keyword::$initial),
-            Plain,
-            &[
-                ValueForm::Word(Keyword::$initial)
-                $(, ValueForm::Word(Keyword::$other))*
-            ]
-        )
+macro_rules! table_rows {
+    ($([$($row:tt)*])*) => {
+        &[$(row!(table_row $($row)*)),*]
     };
 }
 
-/// The row of a colour that is not inherited.
-macro_rules! of_color {
-    ($id:ident, $name:literal, $initial:expr) => {
-        row!($id, $name, false, $initial, $initial, Plain, &[ValueForm::AnyColor])
+macro_rules! initial_value {
+    ($flow:ident, $id:ident, $name:literal, ($($initial:tt)*), $($others:tt)*) => {
+        constant!($($initial)*)
     };
 }
 
-/// The row of the overflow on an axis.
-macro_rules! overflow {
-    ($id:ident, $name:literal) => {
-        of_words!($id, $name, false; Visible, Hidden, Scroll, Auto)
+macro_rules! initial_values {
+    ($([$($row:tt)*])*) => {
+        [$(row!(initial_value $($row)*)),*]
     };
 }
 
-/// The row of a size of a box, which takes a keyword, its initial value.
-macro_rules! box_size {
-    ($id:ident, $name:literal, $word:ident) => {
-        row!(
-            $id,
-            $name,
-            false,
-            Constant::Keyword(Keyword::$word),
-            Constant::Keyword(Keyword::$word),
-            Plain,
-            &[
-                ValueForm::Word(Keyword::$word),
-                ValueForm::Length { negative: false, zero: true },
-                ValueForm::Percentage { negative: false },
-            ]
-        )
+macro_rules! standing_value {
+    ($flow:ident, $id:ident, $name:literal, $initial:tt, ($($standing:tt)*), $($others:tt)*) => {
+        constant!($($standing)*)
     };
 }
 
-/// The row of a margin.
-macro_rules! margin {
-    ($id:ident, $name:literal) => {
-        row!($id, $name, false, NOTHING, NOTHING, Plain, &[
-            ValueForm::Word(Keyword::Auto),
-            ValueForm::Length { negative: true, zero: true },
-            ValueForm::Percentage { negative: true },
-        ])
+macro_rules! standing_values {
+    ($([$($row:tt)*])*) => {
+        [$(row!(standing_value $($row)*)),*]
     };
 }
 
-/// The row of a padding.
-macro_rules! padding {
-    ($id:ident, $name:literal) => {
-        row!($id, $name, false, NOTHING, NOTHING, Plain, &[
-            ValueForm::Length { negative: false, zero: true },
-            ValueForm::Percentage { negative: false },
-        ])
+macro_rules! initial_word {
+    ($flow:ident, $id:ident, $name:literal, ($($initial:tt)*), $($others:tt)*) => {
+        word!($($initial)*)
     };
 }
 
-/// The row of the width of a border.
-macro_rules! border_width {
-    ($id:ident, $name:literal) => {
-        row!($id, $name, false, Constant::Pixels(3_000), NOTHING, Plain, &[
-            ValueForm::Named("thin", Constant::Pixels(1_000)),
-            ValueForm::Named("medium", Constant::Pixels(3_000)),
-            ValueForm::Named("thick", Constant::Pixels(5_000)),
-            ValueForm::Length { negative: false, zero: true },
-        ])
+macro_rules! initial_words {
+    ($([$($row:tt)*])*) => {
+        [$(row!(initial_word $($row)*)),*]
     };
 }
 
-/// The row of the style of a border.
-macro_rules! border_style {
-    ($id:ident, $name:literal) => {
-        of_words!(
-            $id, $name, false;
-            None, Hidden, Dotted, Dashed, Solid, Double, Groove, Ridge, Inset, Outset
-        )
+macro_rules! standing_amount {
+    ($flow:ident, $id:ident, $name:literal, $initial:tt, ($($standing:tt)*), $($others:tt)*) => {
+        amount!($($standing)*)
+    };
+}
+
+macro_rules! standing_amounts {
+    ($([$($row:tt)*])*) => {
+        [$(row!(standing_amount $($row)*)),*]
+    };
+}
+
+/// The properties that are inherited, of rows, behind those that were found.
+macro_rules! inherited_ids {
+    (@ [$($id:ident)*]) => {
+        &[$(PropId::$id),*]
+    };
+    (@ [$($found:ident)*] [inherited $form:ident $id:ident $($row:tt)*] $($rows:tt)*) => {
+        inherited_ids!(@ [$($found)* $id] $($rows)*)
+    };
+    (@ [$($found:ident)*] [own $($row:tt)*] $($rows:tt)*) => {
+        inherited_ids!(@ [$($found)*] $($rows)*)
+    };
+    ($($rows:tt)*) => {
+        inherited_ids!(@ [] $($rows)*)
     };
 }
 
 /// A row for each property.
-pub(crate) const ROWS: &[PropertyRow] = &[
-    row!(
-        Color,
-        "color",
-        true,
-        BLACK,
-        BLACK,
-        Color,
-        &[ValueForm::AnyColor]
-    ),
-    of_words!(Direction, "direction", true; Ltr, Rtl),
-    of_words!(Display, "display", false; Inline, Block, InlineBlock, Flex, InlineFlex, None),
-    of_words!(Position, "position", false; Static, Relative, Absolute, Fixed, Sticky),
-    of_words!(Float, "float", false; None, Left, Right),
-    of_words!(Clear, "clear", false; None, Left, Right, Both),
-    of_words!(Visibility, "visibility", true; Visible, Hidden, Collapse),
-    overflow!(OverflowX, "overflow-x"),
-    overflow!(OverflowY, "overflow-y"),
-    box_size!(Width, "width", Auto),
-    box_size!(Height, "height", Auto),
-    box_size!(MinWidth, "min-width", Auto),
-    box_size!(MinHeight, "min-height", Auto),
-    box_size!(MaxWidth, "max-width", None),
-    box_size!(MaxHeight, "max-height", None),
-    margin!(MarginTop, "margin-top"),
-    margin!(MarginRight, "margin-right"),
-    margin!(MarginBottom, "margin-bottom"),
-    margin!(MarginLeft, "margin-left"),
-    padding!(PaddingTop, "padding-top"),
-    padding!(PaddingRight, "padding-right"),
-    padding!(PaddingBottom, "padding-bottom"),
-    padding!(PaddingLeft, "padding-left"),
-    border_width!(BorderTopWidth, "border-top-width"),
-    border_width!(BorderRightWidth, "border-right-width"),
-    border_width!(BorderBottomWidth, "border-bottom-width"),
-    border_width!(BorderLeftWidth, "border-left-width"),
-    border_style!(BorderTopStyle, "border-top-style"),
-    border_style!(BorderRightStyle, "border-right-style"),
-    border_style!(BorderBottomStyle, "border-bottom-style"),
-    border_style!(BorderLeftStyle, "border-left-style"),
-    of_color!(BorderTopColor, "border-top-color", CURRENT_COLOR),
-    of_color!(BorderRightColor, "border-right-color", CURRENT_COLOR),
-    of_color!(BorderBottomColor, "border-bottom-color", CURRENT_COLOR),
-    of_color!(BorderLeftColor, "border-left-color", CURRENT_COLOR),
-    of_color!(BackgroundColor, "background-color", TRANSPARENT),
-    row!(
-        FontSize,
-        "font-size",
-        true,
-        Constant::Pixels(INITIAL_SIZE),
-        Constant::Pixels(INITIAL_SIZE),
-        FontSize,
-        &[
-            ValueForm::Named("xx-small", Constant::Pixels(9_000)),
-            ValueForm::Named("x-small", Constant::Pixels(10_000)),
-            ValueForm::Named("small", Constant::Pixels(13_000)),
-            ValueForm::Named("medium", Constant::Pixels(INITIAL_SIZE)),
-            ValueForm::Named("large", Constant::Pixels(18_000)),
-            ValueForm::Named("x-large", Constant::Pixels(24_000)),
-            ValueForm::Named("xx-large", Constant::Pixels(32_000)),
-            ValueForm::Word(Keyword::Larger),
-            ValueForm::Word(Keyword::Smaller),
-            ValueForm::Length {
-                negative: false,
-                zero: true
-            },
-            ValueForm::Percentage { negative: false },
-        ]
-    ),
-    row!(
-        FontWeight,
-        "font-weight",
-        true,
-        Constant::Number(400_000),
-        Constant::Number(400_000),
-        FontWeight,
-        &[
-            ValueForm::Named("normal", Constant::Number(400_000)),
-            ValueForm::Named("bold", Constant::Number(700_000)),
-            ValueForm::Word(Keyword::Bolder),
-            ValueForm::Word(Keyword::Lighter),
-            ValueForm::Number {
-                least: 1_000,
-                most: 1_000_000
-            },
-        ]
-    ),
-    of_words!(FontStyle, "font-style", true; Normal, Italic, Oblique),
-    row!(
-        LineHeight,
-        "line-height",
-        true,
-        Constant::Keyword(Keyword::Normal),
-        Constant::Keyword(Keyword::Normal),
-        LineHeight,
-        &[
-            ValueForm::Word(Keyword::Normal),
-            ValueForm::Number {
-                least: 0,
-                most: MOST
-            },
-            ValueForm::Length {
-                negative: false,
-                zero: false
-            },
-            ValueForm::Percentage { negative: false },
-        ]
-    ),
-];
+pub(crate) const ROWS: &[PropertyRow] = property_rows!(table_rows);
+
+/// The properties that are inherited, in the order of the table.
+pub(crate) const INHERITED: &[PropId] = property_rows!(inherited_ids);
+
+/// The initial value of each property. Contracts read it here, and in `STANDING_VALUES`.
+pub const INITIAL_VALUES: [Constant; COUNT] = property_rows!(initial_values);
+
+/// The value of each property that is not printed.
+pub const STANDING_VALUES: [Constant; COUNT] = property_rows!(standing_values);
+
+/// The word of the initial value of each property, which is that of its standing value too.
+pub const WORDS: [u8; COUNT] = property_rows!(initial_words);
+
+/// The amount of the standing value of each property.
+pub const STANDING: [i64; COUNT] = property_rows!(standing_amounts);
+
+/// Gives the property of a row its initial amount, which is 0 before.
+macro_rules! set_amount {
+    ($amounts:ident $id:ident Keyword $word:ident) => {};
+    ($amounts:ident $id:ident Color 0 0 0 0) => {};
+    ($amounts:ident $id:ident Pixels 0) => {};
+    ($amounts:ident $id:ident $($initial:tt)*) => {
+        $amounts[PropId::$id.row()] = Fixed::clamp(amount!($($initial)*));
+    };
+}
+
+/// The amount of the initial value of each property.
+#[inline]
+pub fn initial_amounts() -> [Fixed; COUNT]
+    ensures { result ≡ map value_amount initial_values }
+{
+    let mut amounts = [Fixed::zero(); COUNT];
+    macro_rules! initial_amount {
+        ($flow:ident, $id:ident, $name:literal, ($($initial:tt)*), $($others:tt)*) => {
+            set_amount!(amounts $id $($initial)*)
+        };
+    }
+    macro_rules! set_amounts {
+        ($([$($row:tt)*])*) => {
+            $(row!(initial_amount $($row)*);)*
+        };
+    }
+    property_rows!(set_amounts);
+    amounts
+}

@@ -5,7 +5,7 @@ ghost use Rattle.property_table.specs.ValueParts.{AreBytes, HasByteParts, value_
 ghost use Rattle.property_table.specs.View.{color_of, value_seen, word_of};
 ghost use Rattle.value_model.specs.Value.{keyword};
 
-use crate::word::{COLOR, EM, NUMBER, PERCENT, PIXELS, REM};
+use crate::word::{COLOR, EM, FIRST_KEYWORD, NUMBER, PERCENT, PIXELS, REM};
 use crate::{Color, KEYWORDS, Keyword, Value};
 use stylo_base::Fixed;
 
@@ -15,7 +15,7 @@ impl Value {
         ensures { result ≡ value_word self }
     {
         match self {
-            Value::Keyword(keyword) => keyword as u8,
+            Value::Keyword(keyword) => FIRST_KEYWORD + keyword as u8,
             Value::Color(_) => COLOR,
             Value::Pixels(_) => PIXELS,
             Value::Percent(_) => PERCENT,
@@ -61,7 +61,7 @@ impl Value {
 fn keyword_at(word: u8) -> Keyword
     ensures { keyword (word_of result) ≡ keyword_value word }
 {
-    match KEYWORDS.get(usize::from(word)) {
+    match KEYWORDS.get(usize::from(word.saturating_sub(FIRST_KEYWORD))) {
         Some(keyword) => *keyword,
         None => Keyword::Inline,
     }

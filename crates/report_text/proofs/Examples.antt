@@ -8,6 +8,7 @@ use Rattle.std.specs.Fmt.{decimal}
 use Rattle.value_model.specs.Color.{opaque}
 use Rattle.value_model.specs.Value.{Value, color, pixels}
 use Rattle.value_model.specs.Table.{table, color_property}
+use Rattle.value_model.specs.Table.{margin_top_property}
 use Rattle.base_model.specs.Text.{Characters}
 use Rattle.syntax_model.specs.Token.{ident}
 use Rattle.syntax_model.specs.Written.{written}
@@ -52,10 +53,10 @@ unfolding table
 a_red_root n =
     line_of n (codes "a") (with_changed (λ _. color (opaque 255 0 0)) color_property (values_at true)) (codes "color: #ff0000" ∷ codes "display: block" ∷ []) refl
 
-a_length : (n : ℕ) → element_line n (codes "a") (style_of (with_changed (λ _. pixels (neg_ℤ (pos 1_500))) 15 (values_at false))) ≡ decimal n ++ codes " a{margin-top: -1.5px}\n"
+a_length : (n : ℕ) → element_line n (codes "a") (style_of (with_changed (λ _. pixels (neg_ℤ (pos 1_500))) margin_top_property (values_at false))) ≡ decimal n ++ codes " a{margin-top: -1.5px}\n"
 unfolding table
 a_length n =
-    line_of n (codes "a") (with_changed (λ _. pixels (neg_ℤ (pos 1_500))) 15 (values_at false)) (codes "margin-top: -1.5px" ∷ []) (simp digit_1)
+    line_of n (codes "a") (with_changed (λ _. pixels (neg_ℤ (pos 1_500))) margin_top_property (values_at false)) (codes "margin-top: -1.5px" ∷ []) (simp digit_1)
 
 -- behind the properties of the table are the custom ones
 

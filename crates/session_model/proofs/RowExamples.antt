@@ -19,6 +19,8 @@ use Rattle.scene_model.specs.Ancestors.{ancestors}
 use Rattle.selector_model.specs.Selector.{subject, any, with_test, type_selector, simple}
 use Rattle.value_model.specs.Value.{Value}
 use Rattle.value_model.specs.Table.{table}
+use Rattle.value_model.specs.Table.{display_property, clear_property, margin_top_property, margin_right_property}
+use Rattle.value_model.specs.Table.{margin_bottom_property, margin_left_property}
 use Rattle.value_model.specs.Color.{named_colors}
 use Rattle.value_model.specs.Style.{Style, initial_style, initial_size, font_size_of}
 use Rattle.sheet_model.specs.Declared.{Declared, longhand, wide, style_declared}
@@ -69,7 +71,7 @@ abbrev sources : Sources
 sources = record {
   rules = all_placed sheet 0 0 (record {
     selectors = subject (with_test (simple (type_selector (codes "i"))) any) ∷ [];
-    declarations = inherits_at 15 ∷ inherits_at 16 ∷ inherits_at 17 ∷ inherits_at 18 ∷ [];
+    declarations = inherits_at margin_top_property ∷ inherits_at margin_right_property ∷ inherits_at margin_bottom_property ∷ inherits_at margin_left_property ∷ [];
     context = no_context;
   } ∷ []);
   layers = layers_of [];
@@ -80,13 +82,13 @@ unfolding rules_of_sheets layers_of_sheets layers_in style_rules_in rules_in tok
 are_sources = refl
 
 margin : List Declared
-margin = declares 15 (px 1) ∷ declares 16 (px 1) ∷ declares 17 (px 1) ∷ declares 18 (px 1) ∷ []
+margin = declares margin_top_property (px 1) ∷ declares margin_right_property (px 1) ∷ declares margin_bottom_property (px 1) ∷ declares margin_left_property (px 1) ∷ []
 
 margin_is : style_declared (codes "margin:1px") ≡ margin
 unfolding margin style_declared tokens_in declarations_in value_in thousandths units table named_colors parts
 margin_is = refl
 
-clear_is : style_declared (codes "margin:1px;clear:both") ≡ margin ++ declares 5 (word (codes "both")) ∷ []
+clear_is : style_declared (codes "margin:1px;clear:both") ≡ margin ++ declares clear_property (word (codes "both")) ∷ []
 unfolding margin style_declared tokens_in declarations_in value_in thousandths units table named_colors parts
 clear_is = refl
 
@@ -102,7 +104,7 @@ inherited_margin = all_matched sources.layers (record {
   sheet = 1;
   position = 0;
   first_index = 0;
-}) (specificity_of (subject (with_test (simple (type_selector (codes "i"))) any))) 0 (inherits_at 15 ∷ inherits_at 16 ∷ inherits_at 17 ∷ inherits_at 18 ∷ [])
+}) (specificity_of (subject (with_test (simple (type_selector (codes "i"))) any))) 0 (inherits_at margin_top_property ∷ inherits_at margin_right_property ∷ inherits_at margin_bottom_property ∷ inherits_at margin_left_property ∷ [])
 
 module _ (attrs : Attributes) where
   rules_1 : matching_rules (els attrs) sources 1 ≡ []
@@ -146,13 +148,13 @@ pub step : (is_root : Bool) (changes : List (ℕ × Value)) (style : Style) (ds 
 step is_root changes style ds none is = cascaded_alone is_root changes initial_size ds none ∙ is
 
 abbrev pub root_values : List (ℕ × Value)
-root_values = (2, word (codes "block")) ∷ no_borders
+root_values = (display_property, word (codes "block")) ∷ no_borders
 
 abbrev pub margins : List (ℕ × Value)
-margins = (15, px 1) ∷ (16, px 1) ∷ (17, px 1) ∷ (18, px 1) ∷ no_borders
+margins = (margin_top_property, px 1) ∷ (margin_right_property, px 1) ∷ (margin_bottom_property, px 1) ∷ (margin_left_property, px 1) ∷ no_borders
 
 abbrev cleared : List (ℕ × Value)
-cleared = (5, word (codes "both")) ∷ margins
+cleared = (clear_property, word (codes "both")) ∷ margins
 
 pub first_root : cascaded true initial_style initial_size [] ≡ styled root_values
 unfolding ending_of table declared_values
@@ -186,9 +188,9 @@ with_margins : cascaded false (styled root_values) initial_size (all_attached so
 unfolding margin layer_order declared rank_in ending_of table declared_values
 with_margins = step false root_values (styled margins) (all_attached sources.layers 0 margin) refl refl
 
-with_clear : cascaded false (styled root_values) initial_size (all_attached sources.layers 0 (margin ++ declares 5 (word (codes "both")) ∷ [])) ≡ styled cleared
+with_clear : cascaded false (styled root_values) initial_size (all_attached sources.layers 0 (margin ++ declares clear_property (word (codes "both")) ∷ [])) ≡ styled cleared
 unfolding margin layer_order declared rank_in ending_of table declared_values
-with_clear = step false root_values (styled cleared) (all_attached sources.layers 0 (margin ++ declares 5 (word (codes "both")) ∷ [])) refl refl
+with_clear = step false root_values (styled cleared) (all_attached sources.layers 0 (margin ++ declares clear_property (word (codes "both")) ∷ [])) refl refl
 
 -- the styles
 
@@ -251,7 +253,7 @@ at_second : AreStyles one margins margins
 at_second = are one (all_attached sources.layers 0 margin) (style_2 (codes "margin:1px") ∙ ap (all_attached sources.layers 0) margin_is) margins margins with_margins inherits_margins plain_in_margins
 
 at_third : AreStyles two cleared margins
-at_third = are two (all_attached sources.layers 0 (margin ++ declares 5 (word (codes "both")) ∷ [])) (style_2 (codes "margin:1px;clear:both") ∙ ap (all_attached sources.layers 0) clear_is) cleared margins with_clear inherits_cleared plain_in_margins
+at_third = are two (all_attached sources.layers 0 (margin ++ declares clear_property (word (codes "both")) ∷ [])) (style_2 (codes "margin:1px;clear:both") ∙ ap (all_attached sources.layers 0) clear_is) cleared margins with_clear inherits_cleared plain_in_margins
 
 -- 2 is marked over the styles of another scene
 

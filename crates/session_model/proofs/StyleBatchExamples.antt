@@ -26,6 +26,8 @@ use Rattle.selector_model.specs.Selector.{Selector, subject, type_selector}
 use Rattle.selector_model.specs.SpecificityOf.{specificity_of}
 use Rattle.value_model.specs.Value.{Value, rem}
 use Rattle.value_model.specs.Table.{table}
+use Rattle.value_model.specs.Table.{display_property, width_property, margin_top_property, margin_right_property}
+use Rattle.value_model.specs.Table.{margin_bottom_property, margin_left_property, font_size_property}
 use Rattle.value_model.specs.Color.{named_colors}
 use Rattle.value_model.specs.Style.{Style, initial_style, initial_size, font_size_of}
 use Rattle.sheet_model.specs.Declared.{Declared, style_declared}
@@ -71,12 +73,12 @@ abbrev by_class : Sheet
 by_class = sheet 1 author (codes ".a{margin:1px} i{margin:inherit}")
 
 abbrev margin : List Declared
-margin = declares 15 (px 1) ∷ declares 16 (px 1) ∷ declares 17 (px 1) ∷ declares 18 (px 1) ∷ []
+margin = declares margin_top_property (px 1) ∷ declares margin_right_property (px 1) ∷ declares margin_bottom_property (px 1) ∷ declares margin_left_property (px 1) ∷ []
 
 abbrev sources : Sources
 sources = record {
   rules = all_placed by_class 0 0 (rule_with (subject class_a) margin
-      ∷ rule_with (of_type (codes "i")) (inherits_at 15 ∷ inherits_at 16 ∷ inherits_at 17 ∷ inherits_at 18 ∷ []) ∷ []);
+      ∷ rule_with (of_type (codes "i")) (inherits_at margin_top_property ∷ inherits_at margin_right_property ∷ inherits_at margin_bottom_property ∷ inherits_at margin_left_property ∷ []) ∷ []);
   layers = layers_of [];
 }
 
@@ -203,12 +205,12 @@ abbrev by_rem : Sheet
 by_rem = sheet 1 author (codes "html{font-size:2rem} i{width:1.5rem}")
 
 abbrev larger : List Declared
-larger = declares 36 (rem (pos 2_000)) ∷ []
+larger = declares font_size_property (rem (pos 2_000)) ∷ []
 
 abbrev in_rem : Sources
 in_rem = record {
   rules = all_placed by_rem 0 0 (rule_with (of_type (codes "html")) larger
-      ∷ rule_with (of_type (codes "i")) (declares 9 (rem (pos 1_500)) ∷ []) ∷ []);
+      ∷ rule_with (of_type (codes "i")) (declares width_property (rem (pos 1_500)) ∷ []) ∷ []);
   layers = layers_of [];
 }
 
@@ -219,7 +221,7 @@ are_in_rem = refl
 abbrev own_size : Attributes
 own_size = maps.insert maps.empty (codes "style") (codes "font-size:10px")
 
-own_is : style_declared (codes "font-size:10px") ≡ declares 36 (px 10) ∷ []
+own_is : style_declared (codes "font-size:10px") ≡ declares font_size_property (px 10) ∷ []
 unfolding style_declared tokens_in declarations_in value_in thousandths units table named_colors parts
 own_is = refl
 
@@ -228,7 +230,7 @@ enlarged =
     all_matched in_rem.layers (placed by_rem 0 0 (rule_with (of_type (codes "html")) larger)) (specificity_of (of_type (codes "html"))) 0 larger
 
 abbrev with_own : List Matched
-with_own = enlarged ++ all_attached in_rem.layers 0 (declares 36 (px 10) ∷ [])
+with_own = enlarged ++ all_attached in_rem.layers 0 (declares font_size_property (px 10) ∷ [])
 
 enlarged_is : (attrs : Attributes) → matching_rules (three attrs maps.empty) in_rem 1 ≡ enlarged
 unfolding matching_rules
@@ -243,7 +245,7 @@ unfolding matching_style
 size_of_own = rw (enlarged_is own_size) (simp (gets, own_is))
 
 abbrev sized : ℕ → List (ℕ × Value)
-sized n = (36, px n) ∷ (2, word (codes "block")) ∷ no_borders
+sized n = (font_size_property, px n) ∷ (display_property, word (codes "block")) ∷ no_borders
 
 root_at_first : cascaded true initial_style initial_size enlarged ≡ styled (sized 32)
 unfolding layer_order declared rank_in ending_of table declared_values

@@ -5,27 +5,12 @@ use Rattle.base_model.specs.Text.{Characters}
 use Rattle.syntax_model.specs.Numbers.{thousandths}
 use Rattle.syntax_model.specs.TokensIn.{tokens_in}
 use Rattle.value_model.specs.Value.{Value, keyword, pixels, percent, number, em, rem}
-use Rattle.value_model.specs.Table.{table, font_size_property, font_weight_property}
+use Rattle.value_model.specs.Table.{table, font_size_property, font_weight_property, width_property, height_property}
+use Rattle.value_model.specs.Table.{min_width_property, min_height_property, max_width_property, max_height_property}
+use Rattle.value_model.specs.Table.{margin_top_property, border_top_width_property, line_height_property}
+use Rattle.value_model.specs.Shorthand.{longhands_of, border_width, margin, padding}
 use Rattle.sheet_model.specs.ValueIn.{value_in, units}
 use Rattle.sheet_model.proofs.ExampleCases.{reads, reads_none, words, minus, all_pixels}
-
-abbrev width_property : ℕ
-width_property = 9
-
-abbrev max_width_property : ℕ
-max_width_property = 13
-
-abbrev margin_property : ℕ
-margin_property = 15
-
-abbrev padding_property : ℕ
-padding_property = 19
-
-abbrev border_property : ℕ
-border_property = 23
-
-abbrev line_height_property : ℕ
-line_height_property = 39
 
 -- what is read
 abbrev given : List Value → List (Option Value)
@@ -36,19 +21,19 @@ abbrev properties : List ℕ → Characters → List (Option Value)
 properties rows text = map (λ property. value_in property (tokens_in text)) rows
 
 abbrev box_sizes : List ℕ
-box_sizes = 9 ∷ 10 ∷ 11 ∷ 12 ∷ []
+box_sizes = width_property ∷ height_property ∷ min_width_property ∷ min_height_property ∷ []
 
 abbrev box_limits : List ℕ
-box_limits = 13 ∷ 14 ∷ []
+box_limits = max_width_property ∷ max_height_property ∷ []
 
 abbrev margins : List ℕ
-margins = 15 ∷ 16 ∷ 17 ∷ 18 ∷ []
+margins = longhands_of margin
 
 abbrev paddings : List ℕ
-paddings = 19 ∷ 20 ∷ 21 ∷ 22 ∷ []
+paddings = longhands_of padding
 
 abbrev border_widths : List ℕ
-border_widths = 23 ∷ 24 ∷ 25 ∷ 26 ∷ []
+border_widths = longhands_of border_width
 
 -- One of each unit: 96 pixels are an inch, which is 2.54 centimetres, 101.6 quarters of a millimetre, 72 points and 6
 -- picas. The nearest thousandth is taken.
@@ -66,11 +51,11 @@ unfolding value_in tokens_in table units thousandths
 spellings = refl
 
 -- of two nearest thousandths the one farther from 0 is taken, and what is beyond the range is at its end
-rounded_once : reads margin_property (codes "-1px" ∷ codes "-1pt" ∷ codes "-0.0004px" ∷ codes "-0.0005px" ∷ codes "-1.0005px" ∷ codes "-.5in" ∷ codes "-2em" ∷ codes "-0.5rem" ∷ []) ≡ given (pixels (minus 1_000) ∷ pixels (minus 1_333) ∷ pixels (pos 0) ∷ pixels (minus 1) ∷ pixels (minus 1_001) ∷ pixels (minus 48_000) ∷ em (minus 2_000) ∷ rem (minus 500) ∷ [])
+rounded_once : reads margin_top_property (codes "-1px" ∷ codes "-1pt" ∷ codes "-0.0004px" ∷ codes "-0.0005px" ∷ codes "-1.0005px" ∷ codes "-.5in" ∷ codes "-2em" ∷ codes "-0.5rem" ∷ []) ≡ given (pixels (minus 1_000) ∷ pixels (minus 1_333) ∷ pixels (pos 0) ∷ pixels (minus 1) ∷ pixels (minus 1_001) ∷ pixels (minus 48_000) ∷ em (minus 2_000) ∷ rem (minus 500) ∷ [])
 unfolding value_in tokens_in table units thousandths
 rounded_once = refl
 
-within_the_range : reads margin_property (codes "1e20px" ∷ codes "-1e20px" ∷ codes "1e20in" ∷ codes "30000000in" ∷ codes "2000000000px" ∷ codes "2000000000.001px" ∷ codes "1e20em" ∷ codes "1e20%" ∷ codes "-1e20%" ∷ []) ≡ given (pixels (pos 2_000_000_000_000) ∷ pixels (minus 2_000_000_000_000) ∷ pixels (pos 2_000_000_000_000) ∷ pixels (pos 2_000_000_000_000) ∷ pixels (pos 2_000_000_000_000) ∷ pixels (pos 2_000_000_000_000) ∷ em (pos 2_000_000_000_000) ∷ percent (pos 2_000_000_000_000) ∷ percent (minus 2_000_000_000_000) ∷ [])
+within_the_range : reads margin_top_property (codes "1e20px" ∷ codes "-1e20px" ∷ codes "1e20in" ∷ codes "30000000in" ∷ codes "2000000000px" ∷ codes "2000000000.001px" ∷ codes "1e20em" ∷ codes "1e20%" ∷ codes "-1e20%" ∷ []) ≡ given (pixels (pos 2_000_000_000_000) ∷ pixels (minus 2_000_000_000_000) ∷ pixels (pos 2_000_000_000_000) ∷ pixels (pos 2_000_000_000_000) ∷ pixels (pos 2_000_000_000_000) ∷ pixels (pos 2_000_000_000_000) ∷ em (pos 2_000_000_000_000) ∷ percent (pos 2_000_000_000_000) ∷ percent (minus 2_000_000_000_000) ∷ [])
 unfolding value_in tokens_in table units thousandths
 within_the_range = refl
 
@@ -87,7 +72,7 @@ no_widths : reads_none width_property (
 unfolding value_in tokens_in table units thousandths
 no_widths = refl
 
-percentages : reads margin_property (codes "5%" ∷ codes "-5%" ∷ codes "12.3456%" ∷ codes "+.5%" ∷ codes "1e2%" ∷ codes "-0.0004%" ∷ []) ≡ given (percent (pos 5_000) ∷ percent (minus 5_000) ∷ percent (pos 12_346) ∷ percent (pos 500) ∷ percent (pos 100_000) ∷ percent (pos 0) ∷ [])
+percentages : reads margin_top_property (codes "5%" ∷ codes "-5%" ∷ codes "12.3456%" ∷ codes "+.5%" ∷ codes "1e2%" ∷ codes "-0.0004%" ∷ []) ≡ given (percent (pos 5_000) ∷ percent (minus 5_000) ∷ percent (pos 12_346) ∷ percent (pos 500) ∷ percent (pos 100_000) ∷ percent (pos 0) ∷ [])
 unfolding value_in tokens_in table units thousandths
 percentages = refl
 
@@ -129,11 +114,11 @@ unfolding value_in tokens_in table units thousandths
 margins_below_0 = refl
 
 -- the widths of borders
-widths_by_name : reads border_property (codes "thin" ∷ codes "Medium" ∷ codes "THICK" ∷ codes "0" ∷ codes "2em" ∷ []) ≡ given (pixels (pos 1_000) ∷ pixels (pos 3_000) ∷ pixels (pos 5_000) ∷ pixels (pos 0) ∷ em (pos 2_000) ∷ [])
+widths_by_name : reads border_top_width_property (codes "thin" ∷ codes "Medium" ∷ codes "THICK" ∷ codes "0" ∷ codes "2em" ∷ []) ≡ given (pixels (pos 1_000) ∷ pixels (pos 3_000) ∷ pixels (pos 5_000) ∷ pixels (pos 0) ∷ em (pos 2_000) ∷ [])
 unfolding value_in tokens_in table units thousandths
 widths_by_name = refl
 
-no_border_widths : reads_none border_property (codes "5%" ∷ codes "0%" ∷ codes "-1px" ∷ codes "1" ∷ codes "small" ∷ codes "thin thin" ∷ codes "solid" ∷ [])
+no_border_widths : reads_none border_top_width_property (codes "5%" ∷ codes "0%" ∷ codes "-1px" ∷ codes "1" ∷ codes "small" ∷ codes "thin thin" ∷ codes "solid" ∷ [])
 unfolding value_in tokens_in table units thousandths
 no_border_widths = refl
 

@@ -1,7 +1,6 @@
 -- How the values of shorthands are split, and what they declare, computed.
 use Rattle.std.proofs.Common.{◌≡◌, ℕ, true, false, List, [], ◌∷◌, ◌++◌, map, length, replicate, Option, Some, None, refl}
 use Rattle.std.specs.Prelude.{codes, pos, ◌*◌, option_map, zip}
-use Rattle.std.specs.List.{range_with_len}
 use Rattle.base_model.specs.Text.{Characters}
 use Rattle.syntax_model.specs.Token.{said}
 use Rattle.syntax_model.specs.Numbers.{thousandths}
@@ -13,8 +12,10 @@ use Rattle.custom_model.specs.Value.{CustomValue}
 use Rattle.custom_model.specs.Parts.{parts}
 use Rattle.value_model.specs.Color.{opaque, named_colors}
 use Rattle.value_model.specs.Value.{Value, keyword, color, pixels, percent, em, current_color}
-use Rattle.value_model.specs.Table.{table}
-use Rattle.value_model.specs.Shorthand.{Short, margin, padding, border_style, overflow, all}
+use Rattle.value_model.specs.Table.{table, margin_top_property, margin_right_property, margin_bottom_property}
+use Rattle.value_model.specs.Table.{margin_left_property, padding_top_property, padding_left_property}
+use Rattle.value_model.specs.Shorthand.{Short, margin, padding, border_width, border_style, border_color}
+use Rattle.value_model.specs.Shorthand.{overflow, all, longhands_of}
 use Rattle.sheet_model.specs.ValueIn.{value_in, units}
 use Rattle.sheet_model.specs.Shorthands.{single, shorthand, slices, split, value_for}
 use Rattle.sheet_model.specs.Declared.{longhand, custom, Given, wide, referring, holding, Declared, style_declared}
@@ -62,12 +63,12 @@ no_splits = refl
 abbrev one_value : Short → ℕ → Characters → Option Value
 one_value short property text = value_for (shorthand short) property (tokens_in text)
 
-one_of_four : map (λ property. one_value margin property (codes "1px 2px 3px")) (15 ∷ 16 ∷ 17 ∷ 18 ∷ 19 ∷ []) ≡ Some (pixels (pos 1_000)) ∷ Some (pixels (pos 2_000)) ∷ Some (pixels (pos 3_000)) ∷ Some (pixels (pos 2_000)) ∷ None ∷ []
+one_of_four : map (λ property. one_value margin property (codes "1px 2px 3px")) (margin_top_property ∷ margin_right_property ∷ margin_bottom_property ∷ margin_left_property ∷ padding_top_property ∷ []) ≡ Some (pixels (pos 1_000)) ∷ Some (pixels (pos 2_000)) ∷ Some (pixels (pos 3_000)) ∷ Some (pixels (pos 2_000)) ∷ None ∷ []
 unfolding tokens_in value_in table units thousandths
 one_of_four = refl
 
 -- where one part is not taken, none is
-none_of_four : one_value padding 19 (codes "1px -1px") ≡ None
+none_of_four : one_value padding padding_top_property (codes "1px -1px") ≡ None
 unfolding tokens_in value_in table units thousandths
 none_of_four = refl
 
@@ -90,10 +91,10 @@ abbrev word : Characters → Value
 word text = keyword text
 
 abbrev margins : List ℕ
-margins = 15 ∷ 16 ∷ 17 ∷ 18 ∷ []
+margins = longhands_of margin
 
 abbrev all_but_direction : List ℕ
-all_but_direction = 0 ∷ range_with_len 2 38
+all_but_direction = longhands_of all
 
 abbrev tokens : Characters → CustomValue
 tokens text = map said (tokens_in text)
@@ -106,31 +107,31 @@ four_margins : style_declared (codes "MARGIN: 0 -1px auto 5% ") ≡ all_declare 
 unfolding style_declared declarations_in tokens_in value_in table units thousandths parts named_colors
 four_margins = refl
 
-three_paddings : style_declared (codes "padding:1px 2em 3%") ≡ all_declare (19 ∷ 20 ∷ 21 ∷ 22 ∷ []) (px 1 ∷ em (pos 2_000) ∷ percent (pos 3_000) ∷ em (pos 2_000) ∷ [])
+three_paddings : style_declared (codes "padding:1px 2em 3%") ≡ all_declare (longhands_of padding) (px 1 ∷ em (pos 2_000) ∷ percent (pos 3_000) ∷ em (pos 2_000) ∷ [])
 unfolding style_declared declarations_in tokens_in value_in table units thousandths parts named_colors
 three_paddings = refl
 
-border_widths : style_declared (codes "border-width:thin 1em 0 thick") ≡ all_declare (23 ∷ 24 ∷ 25 ∷ 26 ∷ []) (px 1 ∷ em (pos 1_000) ∷ px 0 ∷ px 5 ∷ [])
+border_widths : style_declared (codes "border-width:thin 1em 0 thick") ≡ all_declare (longhands_of border_width) (px 1 ∷ em (pos 1_000) ∷ px 0 ∷ px 5 ∷ [])
 unfolding style_declared declarations_in tokens_in value_in table units thousandths parts named_colors
 border_widths = refl
 
-border_styles : style_declared (codes "border-style:Solid none") ≡ all_declare (27 ∷ 28 ∷ 29 ∷ 30 ∷ []) (word (codes "solid") ∷ word (codes "none") ∷ word (codes "solid") ∷ word (codes "none") ∷ [])
+border_styles : style_declared (codes "border-style:Solid none") ≡ all_declare (longhands_of border_style) (word (codes "solid") ∷ word (codes "none") ∷ word (codes "solid") ∷ word (codes "none") ∷ [])
 unfolding style_declared declarations_in tokens_in value_in table units thousandths parts named_colors
 border_styles = refl
 
-border_colors : style_declared (codes "border-color:red rgb(1, 2, 3) currentcolor") ≡ all_declare (31 ∷ 32 ∷ 33 ∷ 34 ∷ []) (color (opaque 255 0 0) ∷ color (opaque 1 2 3) ∷ current_color ∷ color (opaque 1 2 3) ∷ [])
+border_colors : style_declared (codes "border-color:red rgb(1, 2, 3) currentcolor") ≡ all_declare (longhands_of border_color) (color (opaque 255 0 0) ∷ color (opaque 1 2 3) ∷ current_color ∷ color (opaque 1 2 3) ∷ [])
 unfolding style_declared declarations_in tokens_in value_in table units thousandths parts named_colors
 border_colors = refl
 
-overflows : style_declared (codes "overflow:hidden") ≡ all_declare (7 ∷ 8 ∷ []) (word (codes "hidden") ∷ word (codes "hidden") ∷ [])
+overflows : style_declared (codes "overflow:hidden") ≡ all_declare (longhands_of overflow) (word (codes "hidden") ∷ word (codes "hidden") ∷ [])
 unfolding style_declared declarations_in tokens_in value_in table units thousandths parts named_colors
 overflows = refl
 
-important_overflows : style_declared (codes "overflow:hidden scroll ! important") ≡ map importantly (all_declare (7 ∷ 8 ∷ []) (word (codes "hidden") ∷ word (codes "scroll") ∷ []))
+important_overflows : style_declared (codes "overflow:hidden scroll ! important") ≡ map importantly (all_declare (longhands_of overflow) (word (codes "hidden") ∷ word (codes "scroll") ∷ []))
 unfolding style_declared declarations_in tokens_in value_in table units thousandths parts named_colors
 important_overflows = refl
 
-in_their_order : style_declared (codes "padding-left:9px;padding:1px;padding-top:2px") ≡ declares 22 (px 9) ∷ all_declare (19 ∷ 20 ∷ 21 ∷ 22 ∷ []) (px 1 ∷ px 1 ∷ px 1 ∷ px 1 ∷ []) ++ declares 19 (px 2) ∷ []
+in_their_order : style_declared (codes "padding-left:9px;padding:1px;padding-top:2px") ≡ declares padding_left_property (px 9) ∷ all_declare (longhands_of padding) (px 1 ∷ px 1 ∷ px 1 ∷ px 1 ∷ []) ++ declares padding_top_property (px 2) ∷ []
 unfolding style_declared declarations_in tokens_in value_in table units thousandths parts named_colors
 in_their_order = refl
 
@@ -139,7 +140,7 @@ inherited_margins : style_declared (codes "margin:Inherit") ≡ all_given margin
 unfolding style_declared declarations_in tokens_in value_in table units thousandths parts named_colors
 inherited_margins = refl
 
-rolled_back_overflows : style_declared (codes "overflow: revert-layer ") ≡ all_given (7 ∷ 8 ∷ []) (wide revert_layer)
+rolled_back_overflows : style_declared (codes "overflow: revert-layer ") ≡ all_given (longhands_of overflow) (wide revert_layer)
 unfolding style_declared declarations_in tokens_in value_in table units thousandths parts named_colors
 rolled_back_overflows = refl
 
@@ -151,15 +152,12 @@ all_important : style_declared (codes "ALL:initial!important") ≡ map important
 unfolding style_declared declarations_in tokens_in value_in table units thousandths parts named_colors
 all_important = refl
 
-how_many_are_all : length all_but_direction ≡ 39
-how_many_are_all = refl
-
 -- values that refer to custom properties
 referring_margins : style_declared (codes "margin: 1px  var(--x)") ≡ all_given margins (referring (shorthand margin) (tokens (codes "1px var(--x)")))
 unfolding style_declared declarations_in tokens_in value_in table units thousandths parts named_colors
 referring_margins = refl
 
-referring_alone : style_declared (codes "margin-top:var(--x)") ≡ all_given (15 ∷ []) (referring (single 15) (tokens (codes "var(--x)")))
+referring_alone : style_declared (codes "margin-top:var(--x)") ≡ all_given (margin_top_property ∷ []) (referring (single margin_top_property) (tokens (codes "var(--x)")))
 unfolding style_declared declarations_in tokens_in value_in table units thousandths parts named_colors
 referring_alone = refl
 
@@ -173,7 +171,7 @@ unfolding style_declared declarations_in tokens_in value_in table units thousand
 of_a_custom_property = refl
 
 -- what is open at the end of a text is closed
-closed_at_the_end : style_declared (codes "border-color:rgb(1,2,3") ≡ all_declare (31 ∷ 32 ∷ 33 ∷ 34 ∷ []) (color (opaque 1 2 3) ∷ color (opaque 1 2 3) ∷ color (opaque 1 2 3) ∷ color (opaque 1 2 3) ∷ [])
+closed_at_the_end : style_declared (codes "border-color:rgb(1,2,3") ≡ all_declare (longhands_of border_color) (color (opaque 1 2 3) ∷ color (opaque 1 2 3) ∷ color (opaque 1 2 3) ∷ color (opaque 1 2 3) ∷ [])
 unfolding style_declared declarations_in tokens_in value_in table units thousandths parts named_colors
 closed_at_the_end = refl
 

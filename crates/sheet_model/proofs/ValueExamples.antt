@@ -1,20 +1,19 @@
 -- What values are read from tokens, computed.
-use Rattle.std.proofs.Common.{◌≡◌, ℕ, true, List, [], ◌∷◌, ◌++◌, map, replicate, Option, Some, None, is_none, refl}
+use Rattle.std.proofs.Common.{◌≡◌, ℕ, true, List, [], ◌∷◌, ◌++◌, length, map, replicate, Option, Some, None, is_none, refl}
 use Rattle.std.specs.Prelude.{codes}
 use Rattle.base_model.specs.Text.{Characters}
 use Rattle.value_model.specs.Color.{Color, opaque, rgba, transparent, black, named_colors}
 use Rattle.value_model.specs.Value.{Value, color, current_color}
-use Rattle.value_model.specs.Table.{table, color_property, display_property}
+use Rattle.value_model.specs.Table.{table, color_property, display_property, direction_property, position_property}
+use Rattle.value_model.specs.Table.{float_property, clear_property, visibility_property, overflow_x_property}
+use Rattle.value_model.specs.Table.{overflow_y_property, border_top_style_property, border_left_style_property}
+use Rattle.value_model.specs.Table.{background_color_property, font_size_property, font_weight_property}
+use Rattle.value_model.specs.Table.{font_style_property, line_height_property}
+use Rattle.value_model.specs.Shorthand.{longhands_of, border_color, border_style, overflow}
 use Rattle.syntax_model.specs.Numbers.{thousandths}
 use Rattle.syntax_model.specs.TokensIn.{tokens_in}
 use Rattle.sheet_model.specs.ValueIn.{value_in, units}
 use Rattle.sheet_model.proofs.ExampleCases.{reads, reads_none, words}
-
-abbrev clear_property : ℕ
-clear_property = 5
-
-abbrev visibility_property : ℕ
-visibility_property = 6
 
 abbrev colors : List Color → List (Option Value)
 colors list = map (λ c. Some (color c)) list
@@ -32,19 +31,19 @@ visibilities : reads visibility_property (codes "visiBLE" ∷ codes "Hidden" ∷
 unfolding value_in tokens_in table
 visibilities = refl
 
-directions : reads 1 (codes "ltr" ∷ codes "RTL" ∷ []) ≡ words (codes "ltr" ∷ codes "rtl" ∷ [])
+directions : reads direction_property (codes "ltr" ∷ codes "RTL" ∷ []) ≡ words (codes "ltr" ∷ codes "rtl" ∷ [])
 unfolding value_in tokens_in table
 directions = refl
 
-positions : reads 3 (codes "static" ∷ codes "Relative" ∷ codes "ABSOLUTE" ∷ codes "fiXed" ∷ codes "stickY" ∷ []) ≡ words (codes "static" ∷ codes "relative" ∷ codes "absolute" ∷ codes "fixed" ∷ codes "sticky" ∷ [])
+positions : reads position_property (codes "static" ∷ codes "Relative" ∷ codes "ABSOLUTE" ∷ codes "fiXed" ∷ codes "stickY" ∷ []) ≡ words (codes "static" ∷ codes "relative" ∷ codes "absolute" ∷ codes "fixed" ∷ codes "sticky" ∷ [])
 unfolding value_in tokens_in table
 positions = refl
 
-floats : reads 4 (codes "none" ∷ codes "LEFT" ∷ codes "Right" ∷ []) ≡ words (codes "none" ∷ codes "left" ∷ codes "right" ∷ [])
+floats : reads float_property (codes "none" ∷ codes "LEFT" ∷ codes "Right" ∷ []) ≡ words (codes "none" ∷ codes "left" ∷ codes "right" ∷ [])
 unfolding value_in tokens_in table
 floats = refl
 
-overflows : map (λ property. reads property (codes "visible" ∷ codes "hidden" ∷ codes "SCROLL" ∷ codes "Auto" ∷ [])) (7 ∷ 8 ∷ []) ≡ map (λ (property : ℕ). words (codes "visible" ∷ codes "hidden" ∷ codes "scroll" ∷ codes "auto" ∷ [])) (7 ∷ 8 ∷ [])
+overflows : map (λ property. reads property (codes "visible" ∷ codes "hidden" ∷ codes "SCROLL" ∷ codes "Auto" ∷ [])) (longhands_of overflow) ≡ map (λ (property : ℕ). words (codes "visible" ∷ codes "hidden" ∷ codes "scroll" ∷ codes "auto" ∷ [])) (longhands_of overflow)
 unfolding value_in tokens_in table
 overflows = refl
 
@@ -53,19 +52,22 @@ styles =
     codes "none" ∷ codes "hidden" ∷ codes "dotted" ∷ codes "dashed" ∷ codes "solid" ∷ codes "double" ∷ codes "groove"
     ∷ codes "ridge" ∷ codes "inset" ∷ codes "outset" ∷ []
 
-border_styles : map (λ property. reads property styles) (27 ∷ 28 ∷ 29 ∷ 30 ∷ []) ≡ map (λ (property : ℕ). words styles) (27 ∷ 28 ∷ 29 ∷ 30 ∷ [])
+border_styles : map (λ property. reads property styles) (longhands_of border_style) ≡ map (λ (property : ℕ). words styles) (longhands_of border_style)
 unfolding value_in tokens_in table
 border_styles = refl
 
-font_styles : reads 38 (codes "normal" ∷ codes "Italic" ∷ codes "OBLIQUE" ∷ []) ≡ words (codes "normal" ∷ codes "italic" ∷ codes "oblique" ∷ [])
+font_styles : reads font_style_property (codes "normal" ∷ codes "Italic" ∷ codes "OBLIQUE" ∷ []) ≡ words (codes "normal" ∷ codes "italic" ∷ codes "oblique" ∷ [])
 unfolding value_in tokens_in table
 font_styles = refl
 
 -- the words of other properties are none of these
 no_words : map (λ (pair : ℕ × Characters). is_none (value_in pair.0 (tokens_in pair.1))) (
-    (1, codes "left") ∷ (3, codes "none") ∷ (4, codes "both") ∷ (5, codes "inline-start") ∷ (7, codes "clip")
-    ∷ (8, codes "collapse") ∷ (27, codes "thin") ∷ (30, codes "auto") ∷ (38, codes "bold") ∷ (38, codes "oblique 10deg")
-    ∷ (39, codes "auto") ∷ (37, codes "medium") ∷ (36, codes "bold") ∷ (40, codes "none") ∷ []
+    (direction_property, codes "left") ∷ (position_property, codes "none") ∷ (float_property, codes "both")
+    ∷ (clear_property, codes "inline-start") ∷ (overflow_x_property, codes "clip")
+    ∷ (overflow_y_property, codes "collapse") ∷ (border_top_style_property, codes "thin")
+    ∷ (border_left_style_property, codes "auto") ∷ (font_style_property, codes "bold")
+    ∷ (font_style_property, codes "oblique 10deg") ∷ (line_height_property, codes "auto")
+    ∷ (font_weight_property, codes "medium") ∷ (font_size_property, codes "bold") ∷ (length table, codes "none") ∷ []
     ) ≡ replicate 14 true
 unfolding value_in tokens_in table units thousandths
 no_words = refl
@@ -131,7 +133,7 @@ unfolding value_in tokens_in table named_colors thousandths
 no_functions = refl
 
 -- the colours of borders and of the background are read likewise
-other_colors : map (λ property. reads property (codes "Red" ∷ codes "#0f00" ∷ codes "rgb(1,2,3)" ∷ codes "currentColor" ∷ codes "none" ∷ [])) (31 ∷ 32 ∷ 33 ∷ 34 ∷ 35 ∷ []) ≡ replicate 5 (Some (color (opaque 255 0 0)) ∷ Some (color (rgba 0 255 0 0)) ∷ Some (color (opaque 1 2 3)) ∷ Some current_color ∷ None ∷ [])
+other_colors : map (λ property. reads property (codes "Red" ∷ codes "#0f00" ∷ codes "rgb(1,2,3)" ∷ codes "currentColor" ∷ codes "none" ∷ [])) (longhands_of border_color ++ background_color_property ∷ []) ≡ replicate 5 (Some (color (opaque 255 0 0)) ∷ Some (color (rgba 0 255 0 0)) ∷ Some (color (opaque 1 2 3)) ∷ Some current_color ∷ None ∷ [])
 unfolding value_in tokens_in table named_colors thousandths
 other_colors = refl
 

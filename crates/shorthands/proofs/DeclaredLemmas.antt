@@ -34,23 +34,6 @@ count_shorthand d short is =
 pub count_custom : (d : Declared) (name : Characters) → d.target ≡ Custom name → declared_count d ≡ 1
 count_custom d name is = count_is d ∙ ap (λ target. length (targets_of target)) is
 
--- a shorthand has at most 39
-short_most : (short : Short) → (0 < length (longhands_of (short_of short))) × (length (longhands_of (short_of short)) ≤ 39)
-short_most All = let long : length (longhands_of (short_of All)) ≡ 39 = sym (ap length all_are) in (omega arith, omega arith)
-short_most Margin = (omega arith, omega arith)
-short_most _ = (omega arith, omega arith)
-
-pub count_most : (d : Declared) → (0 < declared_count d) × (declared_count d ≤ 39)
-count_most d = by_target d.target (count_is d)
-  where
-    by_target : (target : Target) → declared_count d ≡ length (targets_of target) → (0 < declared_count d) × (declared_count d ≤ 39)
-    by_target (Longhand id) is = (omega (arith, is), omega (arith, is))
-    by_target (Shorthand short) is =
-        let most = short_most short in
-        let long : declared_count d ≡ length (longhands_of (short_of short)) = is ∙ length-map (longhands_of (short_of short)) longhand in
-        (omega (arith, most.0), omega (arith, most.1))
-    by_target (Custom name) is = (omega (arith, is), omega (arith, is))
-
 -- whether each of a list is greater than the one before
 abbrev pub rises_after : ℕ → List ℕ → Bool
 rises_after n [] = true

@@ -81,3 +81,7 @@ offset_of d property = place_in (declared_longhands d) property
 -- how many rows come before a row, of so many that begin with the first; 0 where it is none of them
 abbrev pub rows_before : ℕ → ℕ → ℕ → ℕ
 rows_before first count row = if nat_lt row first || nat_le (first + count) row then 0 else row - first
+
+-- how many rows but one come before a row; 0 where it is that one
+abbrev pub rows_but : ℕ → ℕ → ℕ
+rows_but other row = if nat_lt row other then row else if row == other then 0 else row - 1

@@ -6,9 +6,9 @@ ghost use Rattle.base_model.specs.Text.{ascii_lower, is_word, same_text};
 ghost use Rattle.stylo_base.specs.Ascii.{is_all_ascii};
 ghost use Rattle.value_model.specs.Shorthand.{longhands_of, short_named};
 ghost use Rattle.property_table.specs.View.{property_of};
-ghost use Rattle.shorthands.specs.View.{place_in, rows_before, short_of};
+ghost use Rattle.shorthands.specs.View.{place_in, rows_before, rows_but, short_of};
 
-use property_table::PropId;
+use property_table::{PropId, property_rows};
 use stylo_base::eq_ascii_case;
 
 /// A shorthand.
@@ -61,47 +61,23 @@ const BORDER_COLOR: &[PropId] = &[
 
 const OVERFLOW: &[PropId] = &[PropId::OverflowX, PropId::OverflowY];
 
-const ALL: &[PropId] = &[
-    PropId::Color,
-    PropId::Display,
-    PropId::Position,
-    PropId::Float,
-    PropId::Clear,
-    PropId::Visibility,
-    PropId::OverflowX,
-    PropId::OverflowY,
-    PropId::Width,
-    PropId::Height,
-    PropId::MinWidth,
-    PropId::MinHeight,
-    PropId::MaxWidth,
-    PropId::MaxHeight,
-    PropId::MarginTop,
-    PropId::MarginRight,
-    PropId::MarginBottom,
-    PropId::MarginLeft,
-    PropId::PaddingTop,
-    PropId::PaddingRight,
-    PropId::PaddingBottom,
-    PropId::PaddingLeft,
-    PropId::BorderTopWidth,
-    PropId::BorderRightWidth,
-    PropId::BorderBottomWidth,
-    PropId::BorderLeftWidth,
-    PropId::BorderTopStyle,
-    PropId::BorderRightStyle,
-    PropId::BorderBottomStyle,
-    PropId::BorderLeftStyle,
-    PropId::BorderTopColor,
-    PropId::BorderRightColor,
-    PropId::BorderBottomColor,
-    PropId::BorderLeftColor,
-    PropId::BackgroundColor,
-    PropId::FontSize,
-    PropId::FontWeight,
-    PropId::FontStyle,
-    PropId::LineHeight,
-];
+/// The properties of rows, but for `direction`, behind those that were found.
+macro_rules! all_but_direction {
+    (@ [$($id:ident)*]) => {
+        &[$(PropId::$id),*]
+    };
+    (@ [$($found:ident)*] [$flow:ident $form:ident Direction $($row:tt)*] $($rows:tt)*) => {
+        all_but_direction!(@ [$($found)*] $($rows)*)
+    };
+    (@ [$($found:ident)*] [$flow:ident $form:ident $id:ident $($row:tt)*] $($rows:tt)*) => {
+        all_but_direction!(@ [$($found)* $id] $($rows)*)
+    };
+    ($($rows:tt)*) => {
+        all_but_direction!(@ [] $($rows)*)
+    };
+}
+
+const ALL: &[PropId] = property_rows!(all_but_direction);
 
 impl Short {
     /// The shorthand of that name, ignoring ASCII case.
@@ -153,7 +129,7 @@ impl Short {
             Short::BorderStyle => offset_from(PropId::BorderTopStyle, 4, id),
             Short::BorderColor => offset_from(PropId::BorderTopColor, 4, id),
             Short::Overflow => offset_from(PropId::OverflowX, 2, id),
-            Short::All => (id.row() as u64).saturating_sub(1),
+            Short::All => offset_but(PropId::Direction, id),
         }
     }
 }
@@ -170,6 +146,21 @@ fn offset_from(first: PropId, count: u64, id: PropId) -> u64
         0
     } else {
         row - first
+    }
+}
+
+/// How many properties but one come before this one; 0 where it is that one.
+fn offset_but(other: PropId, id: PropId) -> u64
+    ensures { result ≡ rows_but (property_of other) (property_of id) }
+{
+    let other = other.row() as u64;
+    let row = id.row() as u64;
+    if row < other {
+        row
+    } else if row == other {
+        0
+    } else {
+        row - 1
     }
 }
 

@@ -17,6 +17,9 @@ use Rattle.custom_model.specs.Parts.{parts}
 use Rattle.value_model.specs.Color.{named_colors, opaque}
 use Rattle.value_model.specs.Value.{Value, color, em, percent, rem}
 use Rattle.value_model.specs.Table.{table}
+use Rattle.value_model.specs.Table.{color_property, display_property, clear_property, width_property}
+use Rattle.value_model.specs.Table.{margin_top_property, margin_right_property, margin_bottom_property}
+use Rattle.value_model.specs.Table.{margin_left_property, padding_left_property, font_size_property}
 use Rattle.value_model.specs.Style.{initial_size}
 use Rattle.sheet_model.specs.SelectorsIn.{selectors_in}
 use Rattle.sheet_model.specs.ValueIn.{units, value_in}
@@ -59,7 +62,7 @@ digit_9 = decimal_digit 9 (lit< tt)
 
 -- the values of the root, of an element below it, and of one below that, where nothing is declared
 abbrev bare_root : List (ℕ × Value)
-bare_root = (2, word (codes "block")) ∷ no_borders
+bare_root = (display_property, word (codes "block")) ∷ no_borders
 
 bare_root_is : IsBy true [] bare_root initial_size []
 unfolding ending_of table declared_values
@@ -205,11 +208,11 @@ blue = color (opaque 0 0 255)
 
 abbrev rules : List PlacedRule
 rules =
-    rule 0 (testing (type_selector (codes "p"))) (declares 0 red ∷ declares 2 (word (codes "block")) ∷ [])
-    ∷ rule 2 (testing (class_selector (codes "note"))) (declares 0 blue ∷ declares 15 (px 1) ∷ declares 16 (px 2) ∷ declares 17 (px 1) ∷ declares 18 (px 2) ∷ [])
-    ∷ rule 7 (testing (type_selector (codes "html"))) (declares 36 (px 8) ∷ [])
-    ∷ rule 8 (testing (type_selector (codes "i"))) (declares 9 (rem (pos 1_000)) ∷ declares 22 (em (pos 1_500)) ∷ declares 36 (percent (pos 50_000)) ∷ [])
-    ∷ rule 11 (testing (type_selector (codes "b"))) (declares 5 (word (codes "left")) ∷ [])
+    rule 0 (testing (type_selector (codes "p"))) (declares color_property red ∷ declares display_property (word (codes "block")) ∷ [])
+    ∷ rule 2 (testing (class_selector (codes "note"))) (declares color_property blue ∷ declares margin_top_property (px 1) ∷ declares margin_right_property (px 2) ∷ declares margin_bottom_property (px 1) ∷ declares margin_left_property (px 2) ∷ [])
+    ∷ rule 7 (testing (type_selector (codes "html"))) (declares font_size_property (px 8) ∷ [])
+    ∷ rule 8 (testing (type_selector (codes "i"))) (declares width_property (rem (pos 1_000)) ∷ declares padding_left_property (em (pos 1_500)) ∷ declares font_size_property (percent (pos 50_000)) ∷ [])
+    ∷ rule 11 (testing (type_selector (codes "b"))) (declares clear_property (word (codes "left")) ∷ [])
     ∷ []
 
 rules_read : sources_of (sheets_of job.sheets) ≡ over rules
@@ -244,17 +247,17 @@ at_4 = simp gets
 -- the values of each element that are not initial ones, and the border widths
 
 abbrev values_1 : List (ℕ × Value)
-values_1 = (2, word (codes "block")) ∷ (36, px 8) ∷ no_borders
+values_1 = (display_property, word (codes "block")) ∷ (font_size_property, px 8) ∷ no_borders
 
 abbrev values_2 : List (ℕ × Value)
 values_2 =
-    (0, blue) ∷ (2, word (codes "block")) ∷ (15, px 1) ∷ (16, px 2) ∷ (17, px 1) ∷ (18, px 2) ∷ (36, px 8) ∷ no_borders
+    (color_property, blue) ∷ (display_property, word (codes "block")) ∷ (margin_top_property, px 1) ∷ (margin_right_property, px 2) ∷ (margin_bottom_property, px 1) ∷ (margin_left_property, px 2) ∷ (font_size_property, px 8) ∷ no_borders
 
 abbrev values_3 : List (ℕ × Value)
-values_3 = (0, red) ∷ (2, word (codes "block")) ∷ (36, px 8) ∷ no_borders
+values_3 = (color_property, red) ∷ (display_property, word (codes "block")) ∷ (font_size_property, px 8) ∷ no_borders
 
 abbrev values_4 : List (ℕ × Value)
-values_4 = (0, blue) ∷ (9, px 8) ∷ (22, px 6) ∷ (36, px 4) ∷ no_borders
+values_4 = (color_property, blue) ∷ (width_property, px 8) ∷ (padding_left_property, px 6) ∷ (font_size_property, px 4) ∷ no_borders
 
 by_1 : IsBy true [] values_1 initial_size (applied rules 2 by_type)
 unfolding ending_of table declared_values layer_order declared rank_in

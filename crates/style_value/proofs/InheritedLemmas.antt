@@ -9,6 +9,7 @@ use Rattle.value_model.specs.Value.{Value}
 use Rattle.value_model.specs.Table.{PropertyRow, color_row, table}
 use Rattle.value_model.specs.Style.{inherited_values, initial_style}
 use Rattle.value_model.proofs.ByRow.{inherited-at, length-inherited}
+use Rattle.property_table.specs.PropertySet.{has_row}
 use Rattle.property_table.specs.View.{inherited_properties, property_of}
 use Rattle.property_table.specs.declared.property.PropId.{PropId}
 use Rattle.property_table.proofs.RowLemmas.{length-table}
@@ -19,15 +20,11 @@ abbrev pub with_values_in : List Value → List ℕ → List Value → List Valu
 with_values_in parents [] values = values
 with_values_in parents (property ∷ properties) values = with_values_in parents properties (with_value_in parents property values)
 
-abbrev is_among : ℕ → List ℕ → Bool
-is_among k [] = false
-is_among k (property ∷ properties) = (k == property) || is_among k properties
-
 length-replaced : (found : Option Value) (property : ℕ) (values : List Value) → length (replaced found property values) ≡ length values
 length-replaced None property values = refl
 length-replaced (Some value) property values = length-set values property value
 
-length-with_values : (parents : List Value) (properties : List ℕ) (values : List Value) → length (with_values_in parents properties values) ≡ length values
+pub length-with_values : (parents : List Value) (properties : List ℕ) (values : List Value) → length (with_values_in parents properties values) ≡ length values
 length-with_values parents [] values = refl
 length-with_values parents (property ∷ properties) values =
     length-with_values parents properties (with_value_in parents property values)
@@ -58,23 +55,23 @@ either false true x y = refl
 either false false x y = refl
 
 -- the value of each property
-with_values_at : (parents : List Value) (properties : List ℕ) (values : List Value) (k : ℕ) (d : Value) → k < length parents → k < length values → get_or (with_values_in parents properties values) k d ≡ (if is_among k properties then get_or parents k d else get_or values k d)
+pub with_values_at : (parents : List Value) (properties : List ℕ) (values : List Value) (k : ℕ) (d : Value) → k < length parents → k < length values → get_or (with_values_in parents properties values) k d ≡ (if has_row k properties then get_or parents k d else get_or values k d)
 with_values_at parents [] values k d lt within = refl
 with_values_at parents (property ∷ properties) values k d lt within =
     let next : List Value = with_value_in parents property values in
     let more : k < length next = omega (arith, within, length-replaced (slice_get parents property) property values) in
     with_values_at parents properties next k d lt more
-    ∙ (ap (λ v. if is_among k properties then get_or parents k d else v) (replaced_at parents values k property d (k == property) refl lt within)
-    ∙ either (k == property) (is_among k properties) (get_or parents k d) (get_or values k d))
+    ∙ (ap (λ v. if has_row k properties then get_or parents k d else v) (replaced_at parents values k property d (k == property) refl lt within)
+    ∙ either (k == property) (has_row k properties) (get_or parents k d) (get_or values k d))
 
 -- which properties are inherited
-all_among : map (λ k. is_among k inherited_properties) (range_with_len 0 40) ≡ map (λ (row : PropertyRow). row.inherited) table
+all_among : map (λ k. has_row k inherited_properties) (range_with_len 0 (length table)) ≡ map (λ (row : PropertyRow). row.inherited) table
 unfolding table
 all_among = refl
 
-among_is : (k : ℕ) → k < length table → is_among k inherited_properties ≡ (get_or table k color_row).inherited
+among_is : (k : ℕ) → k < length table → has_row k inherited_properties ≡ (get_or table k color_row).inherited
 among_is k lt =
-    sym (get_or-map-range_with_len (λ k. is_among k inherited_properties) 0 40 k k false (omega (arith, length-table)) (omega arith))
+    sym (get_or-map-range_with_len (λ k. has_row k inherited_properties) 0 (length table) k k false (omega (arith, length-table)) (omega arith))
     ∙ (ap (λ l. get_or l k false) all_among ∙ get_or-map (λ (row : PropertyRow). row.inherited) table k color_row false lt)
 
 -- the initial values with the inherited ones of the parent

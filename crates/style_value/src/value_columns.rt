@@ -6,75 +6,14 @@ ghost use Rattle.value_model.specs.Table.{table};
 ghost use Rattle.value_model.specs.Value as value_model;
 ghost use Rattle.value_model.specs.Value.{same_value};
 ghost use Rattle.value_model.specs.Style.{inherited_values, initial_style};
-ghost use Rattle.property_table.specs.ValueParts.{value_amount, value_word};
+ghost use Rattle.property_table.specs.ValueParts.{value_word};
 ghost use Rattle.property_table.specs.View.{property_of, value_seen};
-ghost use Rattle.style_value.specs.ColumnView.{initial_values, with_value_in};
+ghost use Rattle.style_value.specs.ColumnView.{with_value_in};
 ghost use Rattle.style_value.specs.StyleText.{printed_properties};
 
-use property_table::word::{COLOR, NUMBER, PIXELS};
-use property_table::{
-    COUNT, INITIAL_SIZE as SIZE, Keyword, PropId, PropertyRow, Value, initial_size,
-};
+use property_table::{COUNT, PropId, PropertyRow, STANDING, Value, WORDS, initial_amounts};
 use std::marker::Model;
 use stylo_base::Fixed;
-
-/// The word of the initial value of each property, which is that of its standing value too.
-const WORDS: [u8; COUNT] = [
-    // color, direction, display, position, float, clear, visibility
-    COLOR,
-    Keyword::Ltr as u8,
-    Keyword::Inline as u8,
-    Keyword::Static as u8,
-    Keyword::None as u8,
-    Keyword::None as u8,
-    Keyword::Visible as u8,
-    // overflow
-    Keyword::Visible as u8,
-    Keyword::Visible as u8,
-    // width, height, and the least and the most of them
-    Keyword::Auto as u8,
-    Keyword::Auto as u8,
-    Keyword::Auto as u8,
-    Keyword::Auto as u8,
-    Keyword::None as u8,
-    Keyword::None as u8,
-    // margin
-    PIXELS,
-    PIXELS,
-    PIXELS,
-    PIXELS,
-    // padding
-    PIXELS,
-    PIXELS,
-    PIXELS,
-    PIXELS,
-    // the border: its width, style and color
-    PIXELS,
-    PIXELS,
-    PIXELS,
-    PIXELS,
-    Keyword::None as u8,
-    Keyword::None as u8,
-    Keyword::None as u8,
-    Keyword::None as u8,
-    Keyword::CurrentColor as u8,
-    Keyword::CurrentColor as u8,
-    Keyword::CurrentColor as u8,
-    Keyword::CurrentColor as u8,
-    // background-color
-    COLOR,
-    // font-size, font-weight, font-style, line-height
-    PIXELS,
-    NUMBER,
-    Keyword::Normal as u8,
-    Keyword::Normal as u8,
-];
-
-/// The amount of the standing value of each property.
-const STANDING: [i64; COUNT] = [
-    255, 0, 0, 0, 0, 0, 0, 0, 0, 0, 0, 0, 0, 0, 0, 0, 0, 0, 0, 0, 0, 0, 0, 0, 0, 0, 0, 0, 0, 0, 0,
-    0, 0, 0, 0, 0, SIZE, 400_000, 0, 0,
-];
 
 /// A value for each property, in the order of the table, as its word and its amount. Contracts see
 /// the list of the values.
@@ -210,22 +149,4 @@ fn word(value: &Value) -> u8
     ensures { result ≡ value_word value.now }
 {
     value.word()
-}
-
-/// The amount of the initial value of each property: black, a border that is 3 pixels wide, a font
-/// size of 16 pixels and a font weight of 400, and 0 at the others.
-#[inline]
-fn initial_amounts() -> [Fixed; COUNT]
-    ensures { result ≡ map value_amount initial_values }
-{
-    let width = Fixed::clamp(3_000);
-    let mut amounts = [Fixed::zero(); COUNT];
-    amounts[PropId::Color.row()] = Fixed::clamp(255);
-    amounts[PropId::BorderTopWidth.row()] = width;
-    amounts[PropId::BorderRightWidth.row()] = width;
-    amounts[PropId::BorderBottomWidth.row()] = width;
-    amounts[PropId::BorderLeftWidth.row()] = width;
-    amounts[PropId::FontSize.row()] = initial_size();
-    amounts[PropId::FontWeight.row()] = Fixed::clamp(400_000);
-    amounts
 }

@@ -63,13 +63,15 @@ fn brackets(rt: HostRuntime) -> Result<(), Fail> {
     Ok(())
 }
 
-/// How long the parts between commas are.
+/// How long the first five parts between commas are, as far as there are any.
 fn part_lengths(alloc: Global, text: &str) -> Result<String, NoMemory> {
     let list = tokens_of(alloc, text)?;
     let mut parts = CommaSeparated::new(list.as_slice());
     let mut out = String::new(alloc);
-    while let Some(part) = parts.next(alloc)? {
-        write!(out, "{};", part.len())?;
+    for _place in 0..5 {
+        if let Some(part) = parts.next(alloc)? {
+            write!(out, "{};", part.len())?;
+        }
     }
     Ok(out)
 }

@@ -1,16 +1,29 @@
 -- The definitions computed on small values.
 use Rattle.std.specs.Option.{option_map_or}
 use Rattle.std.proofs.Common.{lit<, ◌≡◌, true, false, Bool, None, not, List, [], ◌∷◌, ◌++◌, map, Some, is_none, refl}
-use Rattle.std.specs.Prelude.{codes, decimal, ℕ, pos, neg_ℤ, slice_get, slice_set, slice_range}
-use Rattle.std.specs.List.{range_with_len}
-use Rattle.std.specs.List.{list_all}
+use Rattle.std.specs.Prelude.{codes, decimal, ℕ, ◌+◌, ◌==◌, pos, neg_ℤ, slice_get, slice_set, length}
+use Rattle.std.specs.List.{list_all, list_any}
 use Rattle.std.proofs.lemmas.Fmt.{decimal_digit}
 use Rattle.base_model.specs.Text.{Characters}
 use Rattle.std.specs.FinMap as finmap
 use Rattle.custom_model.proofs.Maps.{texts-empty}
 use Rattle.value_model.specs.Color.{Color, opaque, rgba, transparent, black}
 use Rattle.value_model.specs.Value.{Value, keyword, color, pixels, percent, number, em, rem, printed_value, same_value, current_color}
-use Rattle.value_model.specs.Table.{PropertyRow, table, property_named}
+use Rattle.value_model.specs.Table.{PropertyRow, table, property_named, color_property, direction_property}
+use Rattle.value_model.specs.Table.{display_property, position_property, float_property, clear_property}
+use Rattle.value_model.specs.Table.{visibility_property, overflow_x_property, overflow_y_property, width_property}
+use Rattle.value_model.specs.Table.{height_property, min_width_property, min_height_property, max_width_property}
+use Rattle.value_model.specs.Table.{max_height_property, margin_top_property, margin_right_property}
+use Rattle.value_model.specs.Table.{margin_bottom_property, margin_left_property, padding_top_property}
+use Rattle.value_model.specs.Table.{padding_right_property, padding_bottom_property, padding_left_property}
+use Rattle.value_model.specs.Table.{border_top_width_property, border_right_width_property}
+use Rattle.value_model.specs.Table.{border_bottom_width_property, border_left_width_property}
+use Rattle.value_model.specs.Table.{border_top_style_property, border_right_style_property}
+use Rattle.value_model.specs.Table.{border_bottom_style_property, border_left_style_property}
+use Rattle.value_model.specs.Table.{border_top_color_property, border_right_color_property}
+use Rattle.value_model.specs.Table.{border_bottom_color_property, border_left_color_property}
+use Rattle.value_model.specs.Table.{background_color_property, font_size_property, font_weight_property}
+use Rattle.value_model.specs.Table.{font_style_property, line_height_property}
 use Rattle.value_model.specs.Shorthand.{Short, short_named, longhands_of, margin, padding, border_width, border_style}
 use Rattle.value_model.specs.Shorthand.{border_color, overflow, all}
 use Rattle.value_model.specs.Style.{Style, initial_style, inherited_part, blockified, adjusted, font_size_of, font_weight_of}
@@ -76,7 +89,7 @@ amounts_written = simp (digit_0, digit_1, digit_2, digit_3, digit_4, digit_5, di
 values_written : map printed_value values ≡ texts
 values_written = refl
 
--- the names of the table, in its order
+-- each number of a property is that of the row with its name
 abbrev all_names : List Characters
 all_names =
     codes "color" ∷ codes "direction" ∷ codes "display" ∷ codes "position" ∷ codes "float" ∷ codes "clear"
@@ -90,16 +103,25 @@ all_names =
     ∷ codes "border-bottom-color" ∷ codes "border-left-color" ∷ codes "background-color" ∷ codes "font-size"
     ∷ codes "font-weight" ∷ codes "font-style" ∷ codes "line-height" ∷ []
 
-names_in_order : map (λ (row : PropertyRow). row.name) table ≡ all_names
-unfolding table
-names_in_order = refl
+abbrev all_properties : List ℕ
+all_properties =
+    color_property ∷ direction_property ∷ display_property ∷ position_property ∷ float_property
+    ∷ clear_property ∷ visibility_property ∷ overflow_x_property ∷ overflow_y_property ∷ width_property
+    ∷ height_property ∷ min_width_property ∷ min_height_property ∷ max_width_property ∷ max_height_property
+    ∷ margin_top_property ∷ margin_right_property ∷ margin_bottom_property ∷ margin_left_property
+    ∷ padding_top_property ∷ padding_right_property ∷ padding_bottom_property ∷ padding_left_property
+    ∷ border_top_width_property ∷ border_right_width_property ∷ border_bottom_width_property
+    ∷ border_left_width_property ∷ border_top_style_property ∷ border_right_style_property
+    ∷ border_bottom_style_property ∷ border_left_style_property ∷ border_top_color_property
+    ∷ border_right_color_property ∷ border_bottom_color_property ∷ border_left_color_property
+    ∷ background_color_property ∷ font_size_property ∷ font_weight_property ∷ font_style_property
+    ∷ line_height_property ∷ []
 
--- which property a name is of
-names : map property_named all_names ≡ map Some (range_with_len 0 40)
+names : map property_named all_names ≡ map Some all_properties
 unfolding table
 names = refl
 
-names_in_any_case : map property_named (codes "Display" ∷ codes "CLEAR" ∷ codes "viSIbilitY" ∷ codes "Font-SIZE" ∷ []) ≡ Some 2 ∷ Some 5 ∷ Some 6 ∷ Some 36 ∷ []
+names_in_any_case : map property_named (codes "Display" ∷ codes "CLEAR" ∷ codes "viSIbilitY" ∷ codes "Font-SIZE" ∷ []) ≡ map Some (display_property ∷ clear_property ∷ visibility_property ∷ font_size_property ∷ [])
 unfolding table
 names_in_any_case = refl
 
@@ -113,13 +135,22 @@ no_shorts = refl
 abbrev row_names : Short → List Characters
 row_names short = map (λ property. option_map_or (λ (row : PropertyRow). row.name) (slice_get table property) []) (longhands_of short)
 
-sides : map row_names (margin ∷ padding ∷ border_width ∷ border_style ∷ border_color ∷ overflow ∷ []) ≡ map (λ (range : ℕ × ℕ). slice_range all_names range.0 range.1) ((15, 19) ∷ (19, 23) ∷ (23, 27) ∷ (27, 31) ∷ (31, 35) ∷ (7, 9) ∷ [])
+-- the names for the four sides, between these texts
+abbrev of_sides : Characters → Characters → List Characters
+of_sides first last =
+    map (λ side. first ++ (side ++ last)) (codes "top" ∷ codes "right" ∷ codes "bottom" ∷ codes "left" ∷ [])
+
+sides : map row_names (margin ∷ padding ∷ border_width ∷ border_style ∷ border_color ∷ overflow ∷ []) ≡ of_sides (codes "margin-") [] ∷ of_sides (codes "padding-") [] ∷ of_sides (codes "border-") (codes "-width") ∷ of_sides (codes "border-") (codes "-style") ∷ of_sides (codes "border-") (codes "-color") ∷ (codes "overflow-x" ∷ codes "overflow-y" ∷ []) ∷ []
 unfolding table
 sides = refl
 
-all_but_direction : longhands_of all ≡ 0 ∷ range_with_len 2 38
+all_but_direction : map (λ property. list_any (λ other. other == property) (longhands_of all)) all_properties ≡ map (λ property. not (property == direction_property)) all_properties
 unfolding table
 all_but_direction = refl
+
+how_many_are_all : length (longhands_of all) + 1 ≡ length table
+unfolding table
+how_many_are_all = refl
 
 abbrev other_names : List Characters
 other_names =
@@ -153,7 +184,7 @@ style changes = record { values = values_with changes; custom = finmap.empty }
 abbrev red : Color
 red = opaque 255 0 0
 
-inherited : inherited_part (style ((0, color red) ∷ (2, word (codes "flex")) ∷ (5, word (codes "left")) ∷ (6, word (codes "collapse")) ∷ (36, pixels (pos 9)) ∷ (23, pixels (pos 9)) ∷ [])) ≡ style ((0, color red) ∷ (6, word (codes "collapse")) ∷ (36, pixels (pos 9)) ∷ [])
+inherited : inherited_part (style ((color_property, color red) ∷ (display_property, word (codes "flex")) ∷ (clear_property, word (codes "left")) ∷ (visibility_property, word (codes "collapse")) ∷ (font_size_property, pixels (pos 9)) ∷ (border_top_width_property, pixels (pos 9)) ∷ [])) ≡ style ((color_property, color red) ∷ (visibility_property, word (codes "collapse")) ∷ (font_size_property, pixels (pos 9)) ∷ [])
 unfolding table
 inherited = refl
 
@@ -171,33 +202,33 @@ blockified_values = refl
 
 -- The adjustments: the border widths are 3 pixels before, and without a border style 0 after.
 abbrev no_borders : List (ℕ × Value)
-no_borders = (23, pixels (pos 0)) ∷ (24, pixels (pos 0)) ∷ (25, pixels (pos 0)) ∷ (26, pixels (pos 0)) ∷ []
+no_borders = (border_top_width_property, pixels (pos 0)) ∷ (border_right_width_property, pixels (pos 0)) ∷ (border_bottom_width_property, pixels (pos 0)) ∷ (border_left_width_property, pixels (pos 0)) ∷ []
 
 abbrev adjusts : Bool → List (ℕ × Value) → List (ℕ × Value) → Type 0
 adjusts is_root before after = adjusted is_root (values_with before) ≡ values_with (after ++ no_borders)
 
-nothing_changes : adjusts false ((2, word (codes "inline-flex")) ∷ []) ((2, word (codes "inline-flex")) ∷ [])
+nothing_changes : adjusts false ((display_property, word (codes "inline-flex")) ∷ []) ((display_property, word (codes "inline-flex")) ∷ [])
 unfolding table
 nothing_changes = refl
 
-the_root : adjusts true ((2, word (codes "inline-flex")) ∷ []) ((2, word (codes "flex")) ∷ [])
+the_root : adjusts true ((display_property, word (codes "inline-flex")) ∷ []) ((display_property, word (codes "flex")) ∷ [])
 unfolding table
 the_root = refl
 
-a_float : adjusts false ((4, word (codes "left")) ∷ []) ((4, word (codes "left")) ∷ (2, word (codes "block")) ∷ [])
+a_float : adjusts false ((float_property, word (codes "left")) ∷ []) ((float_property, word (codes "left")) ∷ (display_property, word (codes "block")) ∷ [])
 unfolding table
 a_float = refl
 
 -- `float` goes first, so that `display` is by the position alone
-positioned : adjusts false ((3, word (codes "fixed")) ∷ (4, word (codes "left")) ∷ (2, word (codes "inline-block")) ∷ []) ((3, word (codes "fixed")) ∷ (2, word (codes "block")) ∷ [])
+positioned : adjusts false ((position_property, word (codes "fixed")) ∷ (float_property, word (codes "left")) ∷ (display_property, word (codes "inline-block")) ∷ []) ((position_property, word (codes "fixed")) ∷ (display_property, word (codes "block")) ∷ [])
 unfolding table
 positioned = refl
 
-relative_floats : adjusts false ((3, word (codes "relative")) ∷ (4, word (codes "right")) ∷ (2, word (codes "none")) ∷ []) ((3, word (codes "relative")) ∷ (4, word (codes "right")) ∷ (2, word (codes "none")) ∷ [])
+relative_floats : adjusts false ((position_property, word (codes "relative")) ∷ (float_property, word (codes "right")) ∷ (display_property, word (codes "none")) ∷ []) ((position_property, word (codes "relative")) ∷ (float_property, word (codes "right")) ∷ (display_property, word (codes "none")) ∷ [])
 unfolding table
 relative_floats = refl
 
-borders : adjusts false ((27, word (codes "solid")) ∷ (28, word (codes "hidden")) ∷ (24, pixels (pos 9)) ∷ (30, word (codes "dotted")) ∷ (26, pixels (pos 7)) ∷ []) ((27, word (codes "solid")) ∷ (23, pixels (pos 3_000)) ∷ (28, word (codes "hidden")) ∷ (30, word (codes "dotted")) ∷ (26, pixels (pos 7)) ∷ [])
+borders : adjusts false ((border_top_style_property, word (codes "solid")) ∷ (border_right_style_property, word (codes "hidden")) ∷ (border_right_width_property, pixels (pos 9)) ∷ (border_left_style_property, word (codes "dotted")) ∷ (border_left_width_property, pixels (pos 7)) ∷ []) ((border_top_style_property, word (codes "solid")) ∷ (border_top_width_property, pixels (pos 3_000)) ∷ (border_right_style_property, word (codes "hidden")) ∷ (border_left_style_property, word (codes "dotted")) ∷ (border_left_width_property, pixels (pos 7)) ∷ [])
 unfolding table
 borders = refl
 
@@ -213,10 +244,10 @@ first_weight = refl
 abbrev styles : List Style
 styles =
     style no_borders
-    ∷ style ((2, word (codes "block")) ∷ no_borders)
-    ∷ style ((0, color (rgba 255 128 0 128)) ∷ (6, word (codes "hidden")) ∷ no_borders)
-    ∷ style ((0, color (opaque 16 128 0)) ∷ (2, word (codes "inline-flex")) ∷ (5, word (codes "both")) ∷ (39, number (pos 1_500)) ∷ no_borders)
-    ∷ style ((23, pixels (pos 3_000)) ∷ (24, pixels (pos 0)) ∷ (25, pixels (pos 1_500)) ∷ (26, pixels (pos 0)) ∷ (9, percent (pos 5_000)) ∷ [])
+    ∷ style ((display_property, word (codes "block")) ∷ no_borders)
+    ∷ style ((color_property, color (rgba 255 128 0 128)) ∷ (visibility_property, word (codes "hidden")) ∷ no_borders)
+    ∷ style ((color_property, color (opaque 16 128 0)) ∷ (display_property, word (codes "inline-flex")) ∷ (clear_property, word (codes "both")) ∷ (line_height_property, number (pos 1_500)) ∷ no_borders)
+    ∷ style ((border_top_width_property, pixels (pos 3_000)) ∷ (border_right_width_property, pixels (pos 0)) ∷ (border_bottom_width_property, pixels (pos 1_500)) ∷ (border_left_width_property, pixels (pos 0)) ∷ (width_property, percent (pos 5_000)) ∷ [])
     ∷ []
 
 abbrev printed : List Characters

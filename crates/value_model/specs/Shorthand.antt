@@ -2,7 +2,15 @@
 use Rattle.std.specs.Prelude.{ℕ, ◌==◌, List, [], ◌∷◌, filter, find, length, Option, option_map, not, codes}
 use Rattle.std.specs.List.{range_with_len}
 use Rattle.base_model.specs.Text.{Characters, is_word}
-use Rattle.value_model.specs.Table.{table}
+use Rattle.value_model.specs.Table.{table, direction_property, overflow_x_property, overflow_y_property}
+use Rattle.value_model.specs.Table.{margin_top_property, margin_right_property, margin_bottom_property, margin_left_property}
+use Rattle.value_model.specs.Table.{padding_top_property, padding_right_property, padding_bottom_property, padding_left_property}
+use Rattle.value_model.specs.Table.{border_top_width_property, border_right_width_property}
+use Rattle.value_model.specs.Table.{border_bottom_width_property, border_left_width_property}
+use Rattle.value_model.specs.Table.{border_top_style_property, border_right_style_property}
+use Rattle.value_model.specs.Table.{border_bottom_style_property, border_left_style_property}
+use Rattle.value_model.specs.Table.{border_top_color_property, border_right_color_property}
+use Rattle.value_model.specs.Table.{border_bottom_color_property, border_left_color_property}
 
 pub data Short : Type 0 where
   margin : Short
@@ -14,20 +22,25 @@ pub data Short : Type 0 where
   -- all properties but `direction` (css-cascade-5, section 3.2)
   all : Short
 
-abbrev pub direction_property : ℕ
-direction_property = 1
-
 abbrev pub all_longhands : List ℕ
 all_longhands = filter (λ property. not (property == direction_property)) (range_with_len 0 (length table))
 
 -- the properties, by their rows, in the order of the table
 abbrev pub longhands_of : Short → List ℕ
-longhands_of margin = 15 ∷ 16 ∷ 17 ∷ 18 ∷ []
-longhands_of padding = 19 ∷ 20 ∷ 21 ∷ 22 ∷ []
-longhands_of border_width = 23 ∷ 24 ∷ 25 ∷ 26 ∷ []
-longhands_of border_style = 27 ∷ 28 ∷ 29 ∷ 30 ∷ []
-longhands_of border_color = 31 ∷ 32 ∷ 33 ∷ 34 ∷ []
-longhands_of overflow = 7 ∷ 8 ∷ []
+longhands_of margin =
+    margin_top_property ∷ margin_right_property ∷ margin_bottom_property ∷ margin_left_property ∷ []
+longhands_of padding =
+    padding_top_property ∷ padding_right_property ∷ padding_bottom_property ∷ padding_left_property ∷ []
+longhands_of border_width =
+    border_top_width_property ∷ border_right_width_property
+    ∷ border_bottom_width_property ∷ border_left_width_property ∷ []
+longhands_of border_style =
+    border_top_style_property ∷ border_right_style_property
+    ∷ border_bottom_style_property ∷ border_left_style_property ∷ []
+longhands_of border_color =
+    border_top_color_property ∷ border_right_color_property
+    ∷ border_bottom_color_property ∷ border_left_color_property ∷ []
+longhands_of overflow = overflow_x_property ∷ overflow_y_property ∷ []
 longhands_of all = all_longhands
 
 abbrev pub short_names : List (Characters × Short)

@@ -1,5 +1,5 @@
 -- The table of properties, in the order in which they are printed (css-cascade-5, section 7, for what a row says).
-use Rattle.std.specs.Prelude.{ℕ, ℤ, pos, List, [], ◌∷◌, ◌++◌, map, position, Bool, true, false, Option, codes}
+use Rattle.std.specs.Prelude.{ℕ, ◌+◌, ℤ, pos, List, [], ◌∷◌, ◌++◌, map, position, Bool, true, false, Option, codes}
 use Rattle.base_model.specs.Text.{Characters, is_word}
 use Rattle.base_model.specs.Thousandths.{most}
 use Rattle.value_model.specs.Color.{black, transparent}
@@ -214,28 +214,135 @@ font_rows =
 unfoldable pub table : List PropertyRow
 table = first_rows ++ (box_rows ++ (border_rows ++ font_rows))
 
--- A property is its row, from 0. These are the properties that have a rule of their own.
+-- A property is its row, from 0: each is the one after that of the row before it.
+
 abbrev pub color_property : ℕ
 color_property = 0
 
+abbrev pub direction_property : ℕ
+direction_property = color_property + 1
+
 abbrev pub display_property : ℕ
-display_property = 2
+display_property = direction_property + 1
 
 abbrev pub position_property : ℕ
-position_property = 3
+position_property = display_property + 1
 
 abbrev pub float_property : ℕ
-float_property = 4
+float_property = position_property + 1
+
+abbrev pub clear_property : ℕ
+clear_property = float_property + 1
+
+abbrev pub visibility_property : ℕ
+visibility_property = clear_property + 1
+
+abbrev pub overflow_x_property : ℕ
+overflow_x_property = visibility_property + 1
+
+abbrev pub overflow_y_property : ℕ
+overflow_y_property = overflow_x_property + 1
+
+abbrev pub width_property : ℕ
+width_property = overflow_y_property + 1
+
+abbrev pub height_property : ℕ
+height_property = width_property + 1
+
+abbrev pub min_width_property : ℕ
+min_width_property = height_property + 1
+
+abbrev pub min_height_property : ℕ
+min_height_property = min_width_property + 1
+
+abbrev pub max_width_property : ℕ
+max_width_property = min_height_property + 1
+
+abbrev pub max_height_property : ℕ
+max_height_property = max_width_property + 1
+
+abbrev pub margin_top_property : ℕ
+margin_top_property = max_height_property + 1
+
+abbrev pub margin_right_property : ℕ
+margin_right_property = margin_top_property + 1
+
+abbrev pub margin_bottom_property : ℕ
+margin_bottom_property = margin_right_property + 1
+
+abbrev pub margin_left_property : ℕ
+margin_left_property = margin_bottom_property + 1
+
+abbrev pub padding_top_property : ℕ
+padding_top_property = margin_left_property + 1
+
+abbrev pub padding_right_property : ℕ
+padding_right_property = padding_top_property + 1
+
+abbrev pub padding_bottom_property : ℕ
+padding_bottom_property = padding_right_property + 1
+
+abbrev pub padding_left_property : ℕ
+padding_left_property = padding_bottom_property + 1
+
+abbrev pub border_top_width_property : ℕ
+border_top_width_property = padding_left_property + 1
+
+abbrev pub border_right_width_property : ℕ
+border_right_width_property = border_top_width_property + 1
+
+abbrev pub border_bottom_width_property : ℕ
+border_bottom_width_property = border_right_width_property + 1
+
+abbrev pub border_left_width_property : ℕ
+border_left_width_property = border_bottom_width_property + 1
+
+abbrev pub border_top_style_property : ℕ
+border_top_style_property = border_left_width_property + 1
+
+abbrev pub border_right_style_property : ℕ
+border_right_style_property = border_top_style_property + 1
+
+abbrev pub border_bottom_style_property : ℕ
+border_bottom_style_property = border_right_style_property + 1
+
+abbrev pub border_left_style_property : ℕ
+border_left_style_property = border_bottom_style_property + 1
+
+abbrev pub border_top_color_property : ℕ
+border_top_color_property = border_left_style_property + 1
+
+abbrev pub border_right_color_property : ℕ
+border_right_color_property = border_top_color_property + 1
+
+abbrev pub border_bottom_color_property : ℕ
+border_bottom_color_property = border_right_color_property + 1
+
+abbrev pub border_left_color_property : ℕ
+border_left_color_property = border_bottom_color_property + 1
+
+abbrev pub background_color_property : ℕ
+background_color_property = border_left_color_property + 1
 
 abbrev pub font_size_property : ℕ
-font_size_property = 36
+font_size_property = background_color_property + 1
 
 abbrev pub font_weight_property : ℕ
-font_weight_property = 37
+font_weight_property = font_size_property + 1
+
+abbrev pub font_style_property : ℕ
+font_style_property = font_weight_property + 1
+
+abbrev pub line_height_property : ℕ
+line_height_property = font_style_property + 1
 
 -- the width of the border at each side, and the style of it there
 abbrev pub border_sides : List (ℕ × ℕ)
-border_sides = (23, 27) ∷ (24, 28) ∷ (25, 29) ∷ (26, 30) ∷ []
+border_sides =
+    (border_top_width_property, border_top_style_property)
+    ∷ (border_right_width_property, border_right_style_property)
+    ∷ (border_bottom_width_property, border_bottom_style_property)
+    ∷ (border_left_width_property, border_left_style_property) ∷ []
 
 -- names ignore ASCII case
 abbrev pub property_named : Characters → Option ℕ

@@ -5,4 +5,4 @@ use Rattle.cascade_core.proofs.places.Places.none.Goals as goal
 
 pub returns : goal.returns
 unfolding table
-returns c = λ list. none_wins list _ refl refl refl refl
+returns c = λ list. none_wins list _ refl refl c.new.ensures refl

@@ -10,4 +10,4 @@ pub returns : goal.returns
 returns c = λ ds h.
     let q = property_of c.args.id in
     let within : q < length table = omega (arith, c.row-row.ensures.within, c.row-row.ensures.row, length-table) in
-    rw c.row-row.ensures.row (put_one (in_order c.args.declarations) c.args.self.now ds h q within c.args.d.now c.better.result (c.better.ensures ds h))
+    rw (c.row-row.ensures.row, c.insert.ensures) (put_one (in_order c.args.declarations) c.args.self.now ds h q within c.args.d.now c.better.result (c.better.ensures ds h))
