@@ -11,12 +11,13 @@ use stylo_base::Fixed;
 /// The greatest number, in thousandths.
 const MOST: i64 = 2_000_000_000_000;
 
-/// Hands a row for each property to a macro. A row begins with whether its property is inherited, a
-/// form of `row!`, and the property.
+/// Hands a row for each property to a macro, after what else is given to it. A row begins with whether
+/// its property is inherited, a form of `row!`, and the property.
 #[macro_export]
 macro_rules! property_rows {
-    ($to:ident) => {
+    ($to:ident $($with:tt)*) => {
         $to! {
+            $($with)*
             [inherited value Color, "color", (Color 0 0 0 255), Color, (&[ValueForm::AnyColor])]
             [inherited words Direction, "direction", Ltr Rtl]
             [own words Display, "display", Inline Block InlineBlock Flex InlineFlex None]
@@ -84,63 +85,70 @@ macro_rules! property_rows {
     };
 }
 
-/// Hands a row to a macro in one form: whether it is inherited, the property, its name, its initial
-/// value, the value that is not printed, how it is computed, and what it takes.
+/// Hands a row to a macro in one form, after a word for it: whether it is inherited, the property, its
+/// name, its initial value, the value that is not printed, how it is computed, and what it takes.
 macro_rules! row {
     // The initial value is not printed.
-    ($to:ident $flow:ident value $id:ident, $name:literal, $initial:tt, $rule:ident, $forms:tt) => {
-        $to!($flow, $id, $name, $initial, $initial, $rule, $forms)
+    ($to:ident $with:ident $flow:ident value $id:ident, $name:literal, $initial:tt, $rule:ident, $forms:tt) => {
+        $to!($with, $flow, $id, $name, $initial, $initial, $rule, $forms)
     };
     // A property that takes keywords alone, of which the first is the initial value.
-    ($to:ident $flow:ident words $id:ident, $name:literal, $initial:ident $($other:ident)*) => {
-        row!($to $flow value $id, $name, (Keyword $initial), Plain, (&[
+    ($to:ident $with:ident $flow:ident words $id:ident, $name:literal, $initial:ident $($other:ident)*) => {
+        row!($to $with $flow value $id, $name, (Keyword $initial), Plain, (&[
             ValueForm::Word(Keyword::$initial)
             $(, ValueForm::Word(Keyword::$other))*
         ]))
     };
     // The overflow on an axis.
-    ($to:ident $flow:ident overflow $id:ident, $name:literal) => {
-        row!($to $flow words $id, $name, Visible Hidden Scroll Auto)
+    ($to:ident $with:ident $flow:ident overflow $id:ident, $name:literal) => {
+        row!($to $with $flow words $id, $name, Visible Hidden Scroll Auto)
     };
     // A colour.
-    ($to:ident $flow:ident color $id:ident, $name:literal, $initial:tt) => {
-        row!($to $flow value $id, $name, $initial, Plain, (&[ValueForm::AnyColor]))
+    ($to:ident $with:ident $flow:ident color $id:ident, $name:literal, $initial:tt) => {
+        row!($to $with $flow value $id, $name, $initial, Plain, (&[ValueForm::AnyColor]))
     };
     // A size of a box, which takes a keyword, its initial value.
-    ($to:ident $flow:ident box_size $id:ident, $name:literal, $word:ident) => {
-        row!($to $flow value $id, $name, (Keyword $word), Plain, (&[
+    ($to:ident $with:ident $flow:ident box_size $id:ident, $name:literal, $word:ident) => {
+        row!($to $with $flow value $id, $name, (Keyword $word), Plain, (&[
             ValueForm::Word(Keyword::$word),
             ValueForm::Length { negative: false, zero: true },
             ValueForm::Percentage { negative: false },
         ]))
     };
-    ($to:ident $flow:ident margin $id:ident, $name:literal) => {
-        row!($to $flow value $id, $name, (Pixels 0), Plain, (&[
+    ($to:ident $with:ident $flow:ident margin $id:ident, $name:literal) => {
+        row!($to $with $flow value $id, $name, (Pixels 0), Plain, (&[
             ValueForm::Word(Keyword::Auto),
             ValueForm::Length { negative: true, zero: true },
             ValueForm::Percentage { negative: true },
         ]))
     };
-    ($to:ident $flow:ident padding $id:ident, $name:literal) => {
-        row!($to $flow value $id, $name, (Pixels 0), Plain, (&[
+    ($to:ident $with:ident $flow:ident padding $id:ident, $name:literal) => {
+        row!($to $with $flow value $id, $name, (Pixels 0), Plain, (&[
             ValueForm::Length { negative: false, zero: true },
             ValueForm::Percentage { negative: false },
         ]))
     };
     // The width of a border, of which nothing is printed where there is none.
-    ($to:ident $flow:ident border_width $id:ident, $name:literal) => {
-        $to!($flow, $id, $name, (Pixels 3_000), (Pixels 0), Plain, (&[
+    ($to:ident $with:ident $flow:ident border_width $id:ident, $name:literal) => {
+        $to!($with, $flow, $id, $name, (Pixels 3_000), (Pixels 0), Plain, (&[
             ValueForm::Named("thin", Constant::Pixels(1_000)),
             ValueForm::Named("medium", Constant::Pixels(3_000)),
             ValueForm::Named("thick", Constant::Pixels(5_000)),
             ValueForm::Length { negative: false, zero: true },
         ]))
     };
-    ($to:ident $flow:ident border_style $id:ident, $name:literal) => {
+    ($to:ident $with:ident $flow:ident border_style $id:ident, $name:literal) => {
         row!(
-            $to $flow words $id, $name,
+            $to $with $flow words $id, $name,
             None Hidden Dotted Dashed Solid Double Groove Ridge Inset Outset
         )
+    };
+}
+
+/// What a macro makes of each row.
+macro_rules! of_each {
+    ($to:ident $with:ident $([$($row:tt)*])*) => {
+        [$(row!($to $with $($row)*)),*]
     };
 }
 
@@ -200,9 +208,13 @@ macro_rules! is_inherited {
     };
 }
 
+/// The row of the table, which is this struct.
 macro_rules! table_row {
-    ($flow:ident, $id:ident, $name:literal, ($($initial:tt)*), ($($standing:tt)*), $rule:ident, ($forms:expr)) => {
-        PropertyRow {
+    (
+        $row:ident, $flow:ident, $id:ident, $name:literal,
+        ($($initial:tt)*), ($($standing:tt)*), $rule:ident, ($forms:expr)
+    ) => {
+        $row {
             id: PropId::$id,
             name: $name,
             label: concat!($name, ": "),
@@ -215,93 +227,50 @@ macro_rules! table_row {
     };
 }
 
-macro_rules! table_rows {
-    ($([$($row:tt)*])*) => {
-        &[$(row!(table_row $($row)*)),*]
+/// What a macro makes of the initial value.
+macro_rules! initial {
+    ($of:ident, $flow:ident, $id:ident, $name:literal, ($($initial:tt)*), $($others:tt)*) => {
+        $of!($($initial)*)
     };
 }
 
-macro_rules! initial_value {
-    ($flow:ident, $id:ident, $name:literal, ($($initial:tt)*), $($others:tt)*) => {
-        constant!($($initial)*)
-    };
-}
-
-macro_rules! initial_values {
-    ($([$($row:tt)*])*) => {
-        [$(row!(initial_value $($row)*)),*]
-    };
-}
-
-macro_rules! standing_value {
-    ($flow:ident, $id:ident, $name:literal, $initial:tt, ($($standing:tt)*), $($others:tt)*) => {
-        constant!($($standing)*)
-    };
-}
-
-macro_rules! standing_values {
-    ($([$($row:tt)*])*) => {
-        [$(row!(standing_value $($row)*)),*]
-    };
-}
-
-macro_rules! initial_word {
-    ($flow:ident, $id:ident, $name:literal, ($($initial:tt)*), $($others:tt)*) => {
-        word!($($initial)*)
-    };
-}
-
-macro_rules! initial_words {
-    ($([$($row:tt)*])*) => {
-        [$(row!(initial_word $($row)*)),*]
-    };
-}
-
-macro_rules! standing_amount {
-    ($flow:ident, $id:ident, $name:literal, $initial:tt, ($($standing:tt)*), $($others:tt)*) => {
-        amount!($($standing)*)
-    };
-}
-
-macro_rules! standing_amounts {
-    ($([$($row:tt)*])*) => {
-        [$(row!(standing_amount $($row)*)),*]
+/// What a macro makes of the value that is not printed.
+macro_rules! standing {
+    ($of:ident, $flow:ident, $id:ident, $name:literal, $initial:tt, ($($standing:tt)*), $($others:tt)*) => {
+        $of!($($standing)*)
     };
 }
 
 /// The properties that are inherited, of rows, behind those that were found.
 macro_rules! inherited_ids {
-    (@ [$($id:ident)*]) => {
+    ([$($id:ident)*]) => {
         &[$(PropId::$id),*]
     };
-    (@ [$($found:ident)*] [inherited $form:ident $id:ident $($row:tt)*] $($rows:tt)*) => {
-        inherited_ids!(@ [$($found)* $id] $($rows)*)
+    ([$($found:ident)*] [inherited $form:ident $id:ident $($row:tt)*] $($rows:tt)*) => {
+        inherited_ids!([$($found)* $id] $($rows)*)
     };
-    (@ [$($found:ident)*] [own $($row:tt)*] $($rows:tt)*) => {
-        inherited_ids!(@ [$($found)*] $($rows)*)
-    };
-    ($($rows:tt)*) => {
-        inherited_ids!(@ [] $($rows)*)
+    ([$($found:ident)*] [own $($row:tt)*] $($rows:tt)*) => {
+        inherited_ids!([$($found)*] $($rows)*)
     };
 }
 
 /// A row for each property.
-pub(crate) const ROWS: &[PropertyRow] = property_rows!(table_rows);
+pub(crate) const ROWS: &[PropertyRow] = &property_rows!(of_each table_row PropertyRow);
 
 /// The properties that are inherited, in the order of the table.
-pub(crate) const INHERITED: &[PropId] = property_rows!(inherited_ids);
+pub(crate) const INHERITED: &[PropId] = property_rows!(inherited_ids []);
 
 /// The initial value of each property. Contracts read it here, and in `STANDING_VALUES`.
-pub const INITIAL_VALUES: [Constant; COUNT] = property_rows!(initial_values);
+pub const INITIAL_VALUES: [Constant; COUNT] = property_rows!(of_each initial constant);
 
 /// The value of each property that is not printed.
-pub const STANDING_VALUES: [Constant; COUNT] = property_rows!(standing_values);
+pub const STANDING_VALUES: [Constant; COUNT] = property_rows!(of_each standing constant);
 
 /// The word of the initial value of each property, which is that of its standing value too.
-pub const WORDS: [u8; COUNT] = property_rows!(initial_words);
+pub const WORDS: [u8; COUNT] = property_rows!(of_each initial word);
 
 /// The amount of the standing value of each property.
-pub const STANDING: [i64; COUNT] = property_rows!(standing_amounts);
+pub const STANDING: [i64; COUNT] = property_rows!(of_each standing amount);
 
 /// Gives the property of a row its initial amount, which is 0 before.
 macro_rules! set_amount {
@@ -313,22 +282,24 @@ macro_rules! set_amount {
     };
 }
 
+macro_rules! set_initial {
+    ($amounts:ident, $flow:ident, $id:ident, $name:literal, ($($initial:tt)*), $($others:tt)*) => {
+        set_amount!($amounts $id $($initial)*)
+    };
+}
+
+macro_rules! set_amounts {
+    ($amounts:ident $([$($row:tt)*])*) => {
+        $(row!(set_initial $amounts $($row)*);)*
+    };
+}
+
 /// The amount of the initial value of each property.
 #[inline]
 pub fn initial_amounts() -> [Fixed; COUNT]
     ensures { result ≡ map value_amount initial_values }
 {
     let mut amounts = [Fixed::zero(); COUNT];
-    macro_rules! initial_amount {
-        ($flow:ident, $id:ident, $name:literal, ($($initial:tt)*), $($others:tt)*) => {
-            set_amount!(amounts $id $($initial)*)
-        };
-    }
-    macro_rules! set_amounts {
-        ($([$($row:tt)*])*) => {
-            $(row!(initial_amount $($row)*);)*
-        };
-    }
-    property_rows!(set_amounts);
+    property_rows!(set_amounts amounts);
     amounts
 }

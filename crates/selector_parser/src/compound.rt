@@ -27,7 +27,7 @@ pub(crate) fn compound(
     };
     // The proof calls the loop by this label.
     'tests: loop {
-        // What is no test is left where it is.
+        // What is no test is not consumed.
         let mut ahead = left.fork();
         let Some(test) = test(alloc, depth, &mut ahead)? else {
             tests.shrink_to_fit();

@@ -14,7 +14,7 @@ use selector_types::AnB;
 use std::alloc::Global;
 use stylo_base::{NoMemory, Text};
 
-/// A and B: an integer with a unit, an identifier, or `+` and an identifier directly after it, and what B needs more.
+/// Reads tokens as A and B. A is the integer of a dimension, or is said by an identifier, before which `+` may be.
 pub(crate) fn linear(alloc: Global, tokens: &[Token]) -> Result<Option<AnB>, NoMemory>
     ensures { IfOk result (λ found. option_map formula_of found ≡ linear_in tokens.now) }
 {
@@ -42,7 +42,7 @@ pub(crate) fn linear(alloc: Global, tokens: &[Token]) -> Result<Option<AnB>, NoM
     with_name(alloc, 1, name, &mut left)
 }
 
-/// By an identifier: A is 1, or -1 where a hyphen is first.
+/// A and B by an identifier: A is 1, or -1 where a hyphen is first.
 fn by_name(alloc: Global, name: &Text, left: &mut Cursor) -> Result<Option<AnB>, NoMemory>
     ensures { IfOk result (λ found.
         option_map formula_of found ≡ formula_from (head_of_name name.now left.old)) }
@@ -54,7 +54,7 @@ fn by_name(alloc: Global, name: &Text, left: &mut Cursor) -> Result<Option<AnB>,
     }
 }
 
-/// A, and B by the name after it.
+/// This A, and B by the name after it.
 fn with_name(alloc: Global, a: i32, name: &Text, left: &mut Cursor) -> Result<Option<AnB>, NoMemory>
     ensures { IfOk result (λ found.
         option_map formula_of found ≡ formula_from (head_of a name.now left.old)) }
@@ -63,7 +63,7 @@ fn with_name(alloc: Global, a: i32, name: &Text, left: &mut Cursor) -> Result<Op
     Ok(with_word(a, word.as_slice(), left))
 }
 
-/// A, and B by the word after it.
+/// This A, and B by the word after it.
 fn with_word(a: i32, word: &[char], left: &mut Cursor) -> Option<AnB>
     ensures { option_map formula_of result ≡ formula_from (head_of a word.now left.old) }
 {

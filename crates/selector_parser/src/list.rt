@@ -25,7 +25,7 @@ pub fn selector_list(alloc: Global, tokens: &[Token]) -> Result<Option<Vec<Selec
     Ok(Some(selectors(alloc, members)?))
 }
 
-/// The members of a list that is in no other.
+/// The members of the list. None: one is no selector.
 #[tactic(auto, unfolding(sheet_model::specs::SelectorsIn::selectors_in))]
 fn members(alloc: Global, tokens: &[Token]) -> Result<Option<Vec<Complex>>, NoMemory>
     ensures { IfOk result (λ found.
@@ -34,7 +34,7 @@ fn members(alloc: Global, tokens: &[Token]) -> Result<Option<Vec<Complex>>, NoMe
     strict(alloc, LIST_LIMIT, tokens)
 }
 
-/// What is asked of selectors most is found once.
+/// The members as selectors of a rule, each with its key and how specific it is.
 fn selectors(alloc: Global, members: Vec<Complex>) -> Result<Vec<Selector>, NoMemory>
     ensures { IfOk result (λ list. map selector_of list.items ≡ map complex_of members.items) }
 {

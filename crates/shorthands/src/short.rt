@@ -63,21 +63,18 @@ const OVERFLOW: &[PropId] = &[PropId::OverflowX, PropId::OverflowY];
 
 /// The properties of rows, but for `direction`, behind those that were found.
 macro_rules! all_but_direction {
-    (@ [$($id:ident)*]) => {
+    ([$($id:ident)*]) => {
         &[$(PropId::$id),*]
     };
-    (@ [$($found:ident)*] [$flow:ident $form:ident Direction $($row:tt)*] $($rows:tt)*) => {
-        all_but_direction!(@ [$($found)*] $($rows)*)
+    ([$($found:ident)*] [$flow:ident $form:ident Direction $($row:tt)*] $($rows:tt)*) => {
+        all_but_direction!([$($found)*] $($rows)*)
     };
-    (@ [$($found:ident)*] [$flow:ident $form:ident $id:ident $($row:tt)*] $($rows:tt)*) => {
-        all_but_direction!(@ [$($found)* $id] $($rows)*)
-    };
-    ($($rows:tt)*) => {
-        all_but_direction!(@ [] $($rows)*)
+    ([$($found:ident)*] [$flow:ident $form:ident $id:ident $($row:tt)*] $($rows:tt)*) => {
+        all_but_direction!([$($found)* $id] $($rows)*)
     };
 }
 
-const ALL: &[PropId] = property_rows!(all_but_direction);
+const ALL: &[PropId] = property_rows!(all_but_direction []);
 
 impl Short {
     /// The shorthand of that name, ignoring ASCII case.
