@@ -1,8 +1,14 @@
-use Rattle.std.proofs.Common.{◌≡◌, ℕ, ◌+◌, ◌<◌, Bool, true, eqb, ◌∷◌, ◌++◌, length, get_or, drop, sym, ap, ◌∙◌, arith, append_assoc, append-nil}
+use Rattle.std.proofs.Common.{◌≡◌, ℕ, ◌+◌, ◌<◌, Bool, true, false, eqb, ◌&&◌, List, [], ◌∷◌, ◌++◌, length, get_or, take, drop, refl, sym, ap, ◌∙◌, arith, append_assoc, append-nil}
+use Rattle.std.specs.Prelude.{encode_utf8_all}
+use Rattle.std.specs.Str.{chars, IsUtf8}
+use lib.Utf8.{encode}
+use Rattle.std.proofs.lemmas.Bool.{and_parts}
 use Rattle.std.proofs.lemmas.Bool.Decides.{nat_tests}
+use Rattle.std.proofs.lemmas.List.Folds.{list_all-append, list_all_more}
+use Rattle.std.proofs.lemmas.Str.{encodes-chars}
 use Rattle.std.proofs.lemmas.List.{drop_all, drop_more}
 use Rattle.base_model.specs.Text.{Characters}
-use Rattle.syntax_model.specs.Preprocess.{preprocessed_after, preprocessed, is_preprocessed}
+use Rattle.syntax_model.specs.Preprocess.{preprocessed_after, preprocessed, is_clean, is_preprocessed}
 use Rattle.css_tokens.specs.Input.{given_by}
 use Rattle.syntax_model.proofs.CleanTokens.{after_clean}
 
@@ -28,3 +34,29 @@ given_all cs out b n e before =
 
 pub ready_all : (cs out : Characters) → out ≡ preprocessed cs → is_preprocessed out ≡ true
 ready_all cs out e = ap is_preprocessed e ∙ after_clean _ cs
+
+-- a text that is preprocessed stays as it is
+pub ready_same : (cs : Characters) → is_preprocessed cs ≡ true → preprocessed cs ≡ cs
+ready_same [] h = refl
+ready_same (c ∷ cs) h =
+    let parts = and_parts (is_clean c) (is_preprocessed cs) h in
+    let rest : preprocessed_after false cs ≡ cs = ready_same cs parts.1 in
+    let clean : is_clean c ≡ true = parts.0 in
+    grind (arith, nat_tests)
+
+-- one byte on
+pub ready_more : (bs : List ℕ) (i d : ℕ) (before : Bool) → i < length bs → before ≡ is_preprocessed (take i bs) → (before && is_clean (get_or bs i d)) ≡ is_preprocessed (take (i + 1) bs)
+ready_more bs i d before inside is = ap (λ b. b && is_clean (get_or bs i d)) is ∙ sym (list_all_more is_clean bs i d inside)
+
+-- bytes of other characters are never CR, FF or U+0000
+bytes_of_one : (c : ℕ) → is_preprocessed (encode c) ≡ is_clean c
+unfolding encode
+bytes_of_one c = grind (arith, nat_tests)
+
+bytes_of_all : (cs : Characters) → is_preprocessed (encode_utf8_all cs) ≡ is_preprocessed cs
+bytes_of_all [] = refl
+bytes_of_all (c ∷ cs) =
+    list_all-append is_clean (encode c) (encode_utf8_all cs) ∙ (ap (λ b. b && is_preprocessed (encode_utf8_all cs)) (bytes_of_one c) ∙ ap (λ b. is_clean c && b) (bytes_of_all cs))
+
+pub by_bytes : (bs : List ℕ) → IsUtf8 bs → is_preprocessed bs ≡ is_preprocessed (chars bs)
+by_bytes bs u = sym (ap is_preprocessed (encodes-chars bs u)) ∙ bytes_of_all (chars bs)

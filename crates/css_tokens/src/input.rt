@@ -4,6 +4,7 @@ ghost use Rattle.std.specs.Prelude.{◌≡◌, ◌++◌, IfOk, IsTrue, OnOk};
 ghost use Rattle.std.specs.Str.{chars};
 ghost use Rattle.std.specs.String.{string_bytes};
 ghost use Rattle.syntax_model.specs.Preprocess.{is_preprocessed, preprocessed};
+ghost use Rattle.syntax_model.specs.Preprocess as model;
 ghost use Rattle.css_tokens.specs.Input.{given_by, replaced};
 
 use crate::characters::push_character;
@@ -12,6 +13,37 @@ use stylo_base::NoMemory;
 
 /// The text with CR LF, CR and FF as LF, and with U+FFFD for U+0000 (css-syntax-3, section 3.3).
 pub fn preprocess(alloc: Global, text: &str) -> Result<String, NoMemory>
+    ensures text { IfOk result (λ s. chars (string_bytes s) ≡ preprocessed (chars text.now)) }
+    ensures ready { IfOk result (λ s. IsTrue (is_preprocessed (chars (string_bytes s)))) }
+{
+    if is_ready(text) {
+        return Ok(String::from_str(alloc, text)?);
+    }
+    preprocess_each(alloc, text)
+}
+
+/// Whether preprocessing leaves the text as it is: CR, FF and U+0000 are no part of any other
+/// character, so its bytes tell.
+fn is_ready(text: &str) -> bool
+    ensures { result ≡ is_preprocessed (chars text.now) }
+{
+    let bytes = text.as_bytes();
+    let mut is_ready = true;
+    for byte in bytes {
+        is_ready &= is_clean(*byte);
+    }
+    is_ready
+}
+
+/// Whether preprocessing leaves the byte as it is.
+fn is_clean(byte: u8) -> bool
+    ensures { result ≡ model.is_clean byte }
+{
+    !matches!(byte, b'\r' | b'\x0c' | b'\0')
+}
+
+/// The text that preprocessing gives, character by character.
+fn preprocess_each(alloc: Global, text: &str) -> Result<String, NoMemory>
     ensures text { IfOk result (λ s. chars (string_bytes s) ≡ preprocessed (chars text.now)) }
     ensures ready { IfOk result (λ s. IsTrue (is_preprocessed (chars (string_bytes s)))) }
 {

@@ -2,7 +2,7 @@ use Rattle.std.proofs.Common.{◌≡◌, ◌++◌, length, drop}
 use Rattle.std.specs.Str.{chars}
 use Rattle.std.specs.String.{string_bytes}
 use Rattle.syntax_model.specs.Preprocess.{preprocessed, preprocessed_after}
-use Rattle.css_tokens.proofs.input.preprocess.Given as goal
+use Rattle.css_tokens.proofs.input.preprocess_each.Given as goal
 
 abbrev pub invariant-loop-c : goal.invariant-loop-c
 invariant-loop-c l =
