@@ -1,7 +1,10 @@
 -- What the code finds in a text, as the pieces of the definitions.
-use Rattle.std.specs.Prelude.{ℕ, List, [], ◌∷◌, if◌then◌else◌}
+use Rattle.std.specs.Prelude.{ℕ, ◌==◌, List, [], ◌∷◌, Bool, not, ◌||◌, if◌then◌else◌}
+use Rattle.base_model.specs.Ascii.{line_feed, asterisk, right_parenthesis}
 use Rattle.base_model.specs.Text.{Characters}
 use Rattle.syntax_model.specs.Token as model
+use Rattle.syntax_model.specs.Letters.{is_name_char}
+use Rattle.syntax_model.specs.Signs.{reverse_solidus}
 use Rattle.syntax_model.specs.TextUnits as units
 use Rattle.syntax_model.specs.Pieces as pieces
 use Rattle.css_tokens.specs.View.{kind_of}
@@ -9,6 +12,8 @@ use Rattle.css_tokens.specs.declared.scan.Scan.{Scan}
 use Rattle.css_tokens.specs.declared.text_unit.TextUnit.{TextUnit}
 use Rattle.css_tokens.specs.declared.text_unit.Grammar.{Grammar}
 use Rattle.css_tokens.specs.declared.text_unit.Grammar.TheVariants as grammar
+use Rattle.css_tokens.specs.declared.run.Said.{Said}
+use Rattle.css_tokens.specs.declared.run.Said.TheVariants as said
 use Rattle.css_tokens.specs.declared.production.Production.{Production}
 use Rattle.css_tokens.specs.declared.production.Production.TheVariants as production
 
@@ -23,6 +28,19 @@ unit_by (grammar.String quote) = units.string_unit quote
 unit_by grammar.Url = units.url_unit
 unit_by grammar.Remnants = units.remnant_unit
 unit_by grammar.Comment = units.comment_unit
+
+-- a character that is a unit alone and says itself, whatever is after it
+abbrev pub is_plain : Grammar → ℕ → Bool
+is_plain grammar.Name c = is_name_char c
+is_plain (grammar.String quote) c = not ((c == quote) || ((c == line_feed) || (c == reverse_solidus)))
+is_plain grammar.Url c = not (units.ends_url c)
+is_plain grammar.Remnants c = not ((c == right_parenthesis) || (c == reverse_solidus))
+is_plain grammar.Comment c = not (c == asterisk)
+
+-- what a run says
+abbrev pub said_in : Said → Characters
+said_in (said.Plain text) = text.now
+said_in (said.Units grammar text) = units.said_of (unit_by grammar) text.now
 
 -- the production that a `Production` is
 abbrev pub production_of : Production → pieces.Production
@@ -41,7 +59,7 @@ production_of production.Mark = pieces.mark_production
 abbrev pub piece_of : Scan → pieces.Piece
 piece_of scan = record {
   kind = kind_of scan.kind;
-  name = units.said_of (unit_by scan.grammar) scan.name.now;
+  name = said_in scan.name;
   spelling = scan.spelling.now;
   length = scan.len;
 }

@@ -12,7 +12,7 @@ use crate::TokenKind;
 use crate::letters::is_blank;
 use crate::number::number;
 use crate::production::{Production, production_at, starts_ident};
-use crate::run::run_len;
+use crate::run::{Said, run_len, scan_run};
 use crate::scan::Scan;
 use crate::text_unit::Grammar;
 use crate::url::{is_url, scan_url};
@@ -82,7 +82,8 @@ fn scan_named(kind: TokenKind, rest: &[char]) -> Scan
         ≡ model.named (kind_of kind) (model.name_in rest.now) (1 + model.name_len rest.now) }
     ensures token { result.is_comment ≡ false }
 {
-    Scan::named(kind, Grammar::Name, rest, 1 + run_len(Grammar::Name, rest))
+    let run = scan_run(Grammar::Name, rest);
+    Scan::named(kind, run.said, 1 + run.len)
 }
 
 /// A string, by what follows its first quote.
@@ -91,14 +92,13 @@ fn scan_string(quote: char, text: &[char]) -> Scan
     ensures piece { piece_of result ≡ model.string_piece quote text.now }
     ensures token { result.is_comment ≡ false }
 {
-    let grammar = Grammar::String { quote };
-    let taken = run_len(grammar, text);
-    let (_, rest) = text.split_at(taken);
+    let run = scan_run(Grammar::String { quote }, text);
+    let (_, rest) = text.split_at(run.len);
     if next_is(rest, '\n') {
-        Scan::plain(TokenKind::BadString, 1 + taken)
+        Scan::plain(TokenKind::BadString, 1 + run.len)
     } else {
-        let len = 1 + taken + usize::from(next_is(rest, quote));
-        Scan::named(TokenKind::String, grammar, text, len)
+        let len = 1 + run.len + usize::from(next_is(rest, quote));
+        Scan::named(TokenKind::String, run.said, len)
     }
 }
 
@@ -121,12 +121,20 @@ fn scan_number(text: &[char]) -> Scan
     let (spelling, rest) = text.split_at(number.len);
     let is_integer = number.is_integer;
     if next_is(rest, '%') {
-        Scan::numeric(TokenKind::Percentage, spelling, &[], number.len + 1)
+        let none = Said::Plain(&[]);
+        Scan::numeric(TokenKind::Percentage, spelling, none, number.len + 1)
     } else if starts_ident(rest) {
-        let len = number.len + run_len(Grammar::Name, rest);
-        Scan::numeric(TokenKind::Dimension { is_integer }, spelling, rest, len)
+        let unit = scan_run(Grammar::Name, rest);
+        let len = number.len + unit.len;
+        Scan::numeric(
+            TokenKind::Dimension { is_integer },
+            spelling,
+            unit.said,
+            len,
+        )
     } else {
-        Scan::numeric(TokenKind::Number { is_integer }, spelling, &[], number.len)
+        let none = Said::Plain(&[]);
+        Scan::numeric(TokenKind::Number { is_integer }, spelling, none, number.len)
     }
 }
 
@@ -135,12 +143,12 @@ fn scan_ident(text: &[char]) -> Scan
     ensures piece { piece_of result ≡ model.ident_piece text.now }
     ensures token { result.is_comment ≡ false }
 {
-    let taken = run_len(Grammar::Name, text);
-    let (_, after) = text.split_at(taken);
+    let run = scan_run(Grammar::Name, text);
+    let (_, after) = text.split_at(run.len);
     match after.split_first() {
-        Some(('(', rest)) if is_url(text, rest) => scan_url(taken + 1, rest),
-        Some(('(', _)) => Scan::named(TokenKind::Function, Grammar::Name, text, taken + 1),
-        _ => Scan::named(TokenKind::Ident, Grammar::Name, text, taken),
+        Some(('(', rest)) if is_url(text, rest) => scan_url(run.len + 1, rest),
+        Some(('(', _)) => Scan::named(TokenKind::Function, run.said, run.len + 1),
+        _ => Scan::named(TokenKind::Ident, run.said, run.len),
     }
 }
 

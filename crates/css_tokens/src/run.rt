@@ -4,12 +4,50 @@ ghost use Rattle.std.specs.Prelude.{◌≡◌, ◌≤◌, ◌++◌, IfOk, OnOk, 
 ghost use Rattle.std.specs.Str.{chars};
 ghost use Rattle.std.specs.String.{string_bytes};
 ghost use Rattle.syntax_model.specs.TextUnits.{len_of, said_of};
-ghost use Rattle.css_tokens.specs.Scanned.{unit_by};
+ghost use Rattle.css_tokens.specs.Scanned.{said_in, unit_by};
 
 use crate::characters::push_character;
 use crate::text_unit::{Grammar, TextUnit};
 use std::alloc::{AllocError, Global};
 use stylo_base::{NoMemory, Text};
+
+/// What a run says.
+#[derive(Clone, Copy, Debug)]
+pub(crate) enum Said<'a> {
+    /// These characters, each of which says itself.
+    Plain(&'a [char]),
+    /// What the units say that a text begins with.
+    Units { grammar: Grammar, text: &'a [char] },
+}
+
+/// How many characters a run has, and what it says.
+#[derive(Clone, Copy, Debug)]
+pub(crate) struct Run<'a> {
+    pub len: usize,
+    pub said: Said<'a>,
+}
+
+/// The run that a text begins with.
+pub(crate) fn scan_run(grammar: Grammar, text: &[char]) -> Run
+    ensures len { result.len ≡ len_of (unit_by grammar) text.now }
+    ensures inside { result.len ≤ length text.now }
+    ensures said { said_in result.said ≡ said_of (unit_by grammar) text.now }
+{
+    let plain = grammar.plain_len(text);
+    let (front, rest) = text.split_at(plain);
+    let more = run_len(grammar, rest);
+    if more == 0 {
+        Run {
+            len: plain,
+            said: Said::Plain(front),
+        }
+    } else {
+        Run {
+            len: plain + more,
+            said: Said::Units { grammar, text },
+        }
+    }
+}
 
 /// How many characters the run that a text begins with has.
 pub(crate) fn run_len(grammar: Grammar, text: &[char]) -> usize
@@ -19,17 +57,50 @@ pub(crate) fn run_len(grammar: Grammar, text: &[char]) -> usize
     let mut rest = text;
     let mut len = 0;
     loop {
-        let taken = grammar.unit(rest).taken;
+        let plain = grammar.plain_len(rest);
+        let (_, after) = rest.split_at(plain);
+        len += plain;
+        let taken = grammar.unit(after).taken;
         if taken == 0 {
             return len;
         }
         len += taken;
-        rest = rest.split_at(taken).1;
+        rest = after.split_at(taken).1;
     }
 }
 
-/// What the run that a text begins with says, in a text that takes memory once.
-pub(crate) fn run_text(alloc: Global, grammar: Grammar, text: &[char]) -> Result<Text, NoMemory>
+/// What a run says, in a text that takes memory once.
+pub(crate) fn text_of(alloc: Global, said: Said) -> Result<Text, NoMemory>
+    ensures { IfOk result (λ text. text ≡ said_in said.entry) }
+{
+    match said {
+        Said::Plain(text) => plain_text(alloc, text),
+        Said::Units { grammar, text } => run_text(alloc, grammar, text),
+    }
+}
+
+/// The text of these characters.
+fn plain_text(alloc: Global, text: &[char]) -> Result<Text, NoMemory>
+    ensures { IfOk result (λ said. said ≡ text.now) }
+{
+    let mut said = String::with_capacity(alloc, size_of(text))?;
+    for c in text {
+        push_character(&mut said, *c)?;
+    }
+    Ok(Text::of_string(said))
+}
+
+/// How many bytes the text of these characters has.
+fn size_of(text: &[char]) -> usize {
+    let mut size = 0_usize;
+    for c in text {
+        size = size.saturating_add(c.len_utf8());
+    }
+    size
+}
+
+/// What the run that a text begins with says.
+fn run_text(alloc: Global, grammar: Grammar, text: &[char]) -> Result<Text, NoMemory>
     ensures { IfOk result (λ said. said ≡ said_of (unit_by grammar) text.now) }
 {
     let mut said = String::with_capacity(alloc, run_size(grammar, text))?;

@@ -3,12 +3,11 @@
 
 ghost use Rattle.std.specs.Prelude.{◌≡◌, true, false};
 ghost use Rattle.syntax_model.specs.Pieces as model;
-ghost use Rattle.syntax_model.specs.TextUnits.{said_of};
-ghost use Rattle.css_tokens.specs.Scanned.{piece_of, unit_by};
+ghost use Rattle.css_tokens.specs.Scanned.{piece_of, said_in};
 ghost use Rattle.css_tokens.specs.View.{kind_of};
 
 use crate::TokenKind;
-use crate::text_unit::Grammar;
+use crate::run::Said;
 
 /// The piece that a text begins with.
 #[derive(Clone, Copy, Debug)]
@@ -16,9 +15,8 @@ pub(crate) struct Scan<'a> {
     /// A comment is no token, and of no kind.
     pub is_comment: bool,
     pub kind: TokenKind,
-    /// The run that says the name, and what it is a run of.
-    pub name: &'a [char],
-    pub grammar: Grammar,
+    /// The run that says the name.
+    pub name: Said<'a>,
     /// The text of the number.
     pub spelling: &'a [char],
     /// How many characters the piece has.
@@ -31,19 +29,18 @@ impl<'a> Scan<'a> {
         ensures piece { piece_of result ≡ model.plain (kind_of kind) len }
         ensures token { result.is_comment ≡ false }
     {
-        Scan::numeric(kind, &[], &[], len)
+        Scan::numeric(kind, &[], Said::Plain(&[]), len)
     }
 
     /// A token with a name.
-    pub(crate) fn named(kind: TokenKind, grammar: Grammar, name: &'a [char], len: usize) -> Scan<'a>
-        ensures piece { piece_of result ≡ model.named (kind_of kind) (said_of (unit_by grammar) name.now) len }
+    pub(crate) fn named(kind: TokenKind, name: Said<'a>, len: usize) -> Scan<'a>
+        ensures piece { piece_of result ≡ model.named (kind_of kind) (said_in name.entry) len }
         ensures token { result.is_comment ≡ false }
     {
         Scan {
             is_comment: false,
             kind,
             name,
-            grammar,
             spelling: &[],
             len,
         }
@@ -53,12 +50,12 @@ impl<'a> Scan<'a> {
     pub(crate) fn numeric(
         kind: TokenKind,
         spelling: &'a [char],
-        unit: &'a [char],
+        unit: Said<'a>,
         len: usize,
     ) -> Scan<'a>
         ensures piece { piece_of result ≡ record {
           kind = kind_of kind;
-          name = model.name_in unit.now;
+          name = said_in unit.entry;
           spelling = spelling.now;
           length = len;
         } }
@@ -68,7 +65,6 @@ impl<'a> Scan<'a> {
             is_comment: false,
             kind,
             name: unit,
-            grammar: Grammar::Name,
             spelling,
             len,
         }
@@ -82,8 +78,7 @@ impl<'a> Scan<'a> {
         Scan {
             is_comment: true,
             kind: TokenKind::Whitespace,
-            name: &[],
-            grammar: Grammar::Name,
+            name: Said::Plain(&[]),
             spelling: &[],
             len,
         }

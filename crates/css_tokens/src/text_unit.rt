@@ -1,8 +1,10 @@
 //! The units of which names, strings, urls and comments are made (css-syntax-3, section 4.3).
 
 ghost use Rattle.std.specs.Prelude.{◌≡◌, ◌∷◌, ◌≤◌, Some, length};
+ghost use Rattle.std.specs.List.{prefix_len};
 ghost use Rattle.syntax_model.specs.TextUnits as model;
-ghost use Rattle.css_tokens.specs.Scanned.{unit_by, unit_of};
+ghost use Rattle.css_tokens.specs.declared.text_unit.Grammar.TheVariants as variant;
+ghost use Rattle.css_tokens.specs.Scanned.{is_plain, unit_by, unit_of};
 
 use crate::escape::{escape, starts_escape};
 use crate::letters::{is_blank, is_name_char, is_non_printable, is_quote};
@@ -72,6 +74,34 @@ impl Grammar {
             Grammar::Comment => comment_unit(*first, rest),
         }
     }
+
+    /// How many characters the text begins with that are units alone, and say themselves, whatever
+    /// is after them.
+    pub(crate) fn plain_len(self, text: &[char]) -> usize
+        ensures value { result ≡ prefix_len (is_plain self) text.now }
+        ensures inside { result ≤ length text.now }
+    {
+        match self {
+            Grammar::Name => text.iter().take_while(|c| is_name_char(**c)).count(),
+            Grammar::String { quote } => plain_string_len(quote, text),
+            Grammar::Url => text.iter().take_while(|c| !ends_url(**c)).count(),
+            Grammar::Remnants => text
+                .iter()
+                .take_while(|c| !matches!(**c, ')' | '\\'))
+                .count(),
+            Grammar::Comment => text.iter().take_while(|c| **c != '*').count(),
+        }
+    }
+}
+
+/// The same in a string in these quotes.
+fn plain_string_len(quote: char, text: &[char]) -> usize
+    ensures value { result ≡ prefix_len (is_plain (variant.String quote)) text.now }
+    ensures inside { result ≤ length text.now }
+{
+    text.iter()
+        .take_while(|c| **c != quote && **c != '\n' && **c != '\\')
+        .count()
 }
 
 /// A unit of a name.

@@ -11,7 +11,7 @@ ghost use Rattle.css_tokens.specs.View as view;
 ghost use Rattle.css_tokens.specs.Scanned.{piece_of};
 ghost use Rattle.css_tokens.specs.View.{bracket_of, kind_of, span_of};
 
-use crate::run::run_text;
+use crate::run::text_of;
 use crate::scan::Scan;
 use crate::{Bracket, Separator, TokenKind};
 use std::alloc::Global;
@@ -54,7 +54,7 @@ impl Token {
     {
         Ok(Token {
             kind: scan.kind,
-            name: run_text(alloc, scan.grammar, scan.name)?,
+            name: text_of(alloc, scan.name)?,
             spelling: scan.spelling.to_vec(alloc)?,
             span: Some(Span {
                 start,

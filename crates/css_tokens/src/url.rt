@@ -9,7 +9,7 @@ ghost use Rattle.css_tokens.specs.Scanned.{piece_of};
 use crate::TokenKind;
 use crate::letters::is_quote;
 use crate::pieces::{blank_len, next_is};
-use crate::run::run_len;
+use crate::run::{run_len, scan_run};
 use crate::scan::Scan;
 use crate::text_unit::{Grammar, TextUnit};
 
@@ -70,14 +70,14 @@ pub(crate) fn scan_url(before: usize, text: &[char]) -> Scan
 {
     let blank = blank_len(text);
     let (_, body) = text.split_at(blank);
-    let taken = run_len(Grammar::Url, body);
-    let (_, after) = body.split_at(taken);
+    let run = scan_run(Grammar::Url, body);
+    let (_, after) = body.split_at(run.len);
     let white = blank_len(after);
     let (_, rest) = after.split_at(white);
-    let read = before + blank + taken + white;
+    let read = before + blank + run.len + white;
     if rest.is_empty() || next_is(rest, ')') {
         let len = read + usize::from(next_is(rest, ')'));
-        Scan::named(TokenKind::Url, Grammar::Url, body, len)
+        Scan::named(TokenKind::Url, run.said, len)
     } else {
         Scan::plain(TokenKind::BadUrl, read + bad_len(rest))
     }

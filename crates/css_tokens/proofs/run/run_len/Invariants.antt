@@ -3,8 +3,8 @@ use Rattle.css_tokens.specs.Scanned.{unit_by}
 use Rattle.css_tokens.proofs.RunLemmas.{IsReadUpTo}
 use Rattle.css_tokens.proofs.run.run_len.Given as goal
 
-abbrev pub invariant-loop-rest : goal.invariant-loop-rest
-invariant-loop-rest l = IsReadUpTo (unit_by l.grammar) l.text l.len l.rest
+abbrev pub invariant-loop-after : goal.invariant-loop-after
+invariant-loop-after l = IsReadUpTo (unit_by l.grammar) l.text l.len l.rest
 
-abbrev pub decreases-loop-rest : goal.decreases-loop-rest
-decreases-loop-rest l = length l.rest
+abbrev pub decreases-loop-after : goal.decreases-loop-after
+decreases-loop-after l = length l.rest

@@ -1,0 +1,17 @@
+use Rattle.std.proofs.Common.{ap, ◌∙◌, ◌∷◌, [], ◌++◌, sym}
+use Rattle.std.specs.Prelude.{take}
+use Rattle.std.specs.Str.{chars}
+use Rattle.std.proofs.lemmas.List.{take_all, take_more}
+use Rattle.std.proofs.lemmas.Str.{chars-nil}
+use Rattle.css_tokens.proofs.run.plain_text.Goals as goal
+
+pub loop-c-init : goal.loop-c-init
+loop-c-init c = ap chars c.in_ok-said.ensures.bytes ∙ chars-nil
+
+pub loop-c-preserved : goal.loop-c-preserved
+loop-c-preserved c =
+    c.in_ok-push_character.ensures ∙ (ap (λ cs. cs ++ c.c-item.result ∷ []) c.loop-c.invariant
+    ∙ (ap (λ d. take c.loop-c.c-index c.args.text.now ++ d ∷ []) c.c-item.is ∙ sym (take_more c.args.text.now c.loop-c.c-index c.c-item.result c.loop-c-test.true)))
+
+pub returns : goal.returns
+returns c = c.of_string.ensures ∙ (c.loop-c.invariant ∙ take_all c.loop-c.c-index c.args.text.now c.loop-c-test.false)
