@@ -2,6 +2,7 @@ pub mod CharacterLemmas
 pub mod InputLemmas
 pub mod HexLemmas
 pub mod RunLemmas
+pub mod ProductionLemmas
 pub mod UrlLemmas
 pub mod TokenizerLemmas
 pub mod DecimalLemmas

@@ -1,6 +1,7 @@
 -- What the code finds in a text, as the pieces of the definitions.
 use Rattle.std.specs.Prelude.{ℕ, ◌==◌, List, [], ◌∷◌, Bool, not, ◌||◌, if◌then◌else◌}
-use Rattle.base_model.specs.Ascii.{line_feed, asterisk, right_parenthesis}
+use Rattle.base_model.specs.Ascii.{line_feed, asterisk, comma_sign, colon_sign, semicolon_sign}
+use Rattle.base_model.specs.Ascii.{left_parenthesis, right_parenthesis, left_bracket, right_bracket, left_brace, right_brace}
 use Rattle.base_model.specs.Text.{Characters}
 use Rattle.syntax_model.specs.Token as model
 use Rattle.syntax_model.specs.Letters.{is_name_char}
@@ -41,6 +42,16 @@ is_plain grammar.Comment c = not (c == asterisk)
 abbrev pub said_in : Said → Characters
 said_in (said.Plain text) = text.now
 said_in (said.Units grammar text) = units.said_of (unit_by grammar) text.now
+
+-- a character that is a token alone, whatever is after it
+abbrev pub is_lone : ℕ → Bool
+is_lone c =
+    (c == comma_sign)
+    || ((c == colon_sign)
+    || ((c == semicolon_sign)
+    || ((c == left_parenthesis)
+    || ((c == right_parenthesis)
+    || ((c == left_bracket) || ((c == right_bracket) || ((c == left_brace) || (c == right_brace))))))))
 
 -- the production that a `Production` is
 abbrev pub production_of : Production → pieces.Production

@@ -5,7 +5,7 @@ ghost use Rattle.base_model.specs.Ascii.{hyphen};
 ghost use Rattle.syntax_model.specs.Letters.{begins, is_name_start};
 ghost use Rattle.syntax_model.specs.Pieces as model;
 ghost use Rattle.syntax_model.specs.TextUnits as units;
-ghost use Rattle.css_tokens.specs.Scanned.{production_of};
+ghost use Rattle.css_tokens.specs.Scanned.{is_lone, production_of};
 
 use crate::escape::starts_escape;
 use crate::letters::{is_blank, is_name_char, is_name_start, is_quote};
@@ -28,8 +28,32 @@ pub enum Production {
     Mark,
 }
 
-/// The production of the piece that a text begins with: the first that fits.
+/// The production of the piece that a text begins with: the first that fits. Mostly the first
+/// character tells.
 pub fn production_at(first: char, rest: &[char], text: &[char]) -> Production
+    requires { text.now ≡ first ∷ rest.now }
+    ensures { production_of result ≡ model.production_at text.now }
+{
+    if is_name_start(first) {
+        Production::Ident
+    } else if is_blank(first) {
+        Production::White
+    } else if is_lone(first) {
+        Production::Mark
+    } else {
+        first_fitting(first, rest, text)
+    }
+}
+
+/// Whether the character is a token alone, whatever is after it.
+fn is_lone(c: char) -> bool
+    ensures { result ≡ is_lone c }
+{
+    matches!(c, ',' | ':' | ';' | '(' | ')' | '[' | ']' | '{' | '}')
+}
+
+/// The same, by each test in turn.
+fn first_fitting(first: char, rest: &[char], text: &[char]) -> Production
     requires { text.now ≡ first ∷ rest.now }
     ensures { production_of result ≡ model.production_at text.now }
 {

@@ -94,7 +94,7 @@ fn plain_text(alloc: Global, text: &[char]) -> Result<Text, NoMemory>
 fn size_of(text: &[char]) -> usize {
     let mut size = 0_usize;
     for c in text {
-        size = size.saturating_add(c.len_utf8());
+        size = size.wrapping_add(c.len_utf8());
     }
     size
 }
