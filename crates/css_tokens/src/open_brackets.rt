@@ -49,6 +49,7 @@ impl OpenBrackets {
     }
 
     /// Whether no bracket is open.
+    #[inline]
     pub fn is_empty(&self) -> bool
         ensures { result ≡ is_nil self.now }
     {
@@ -63,6 +64,7 @@ impl OpenBrackets {
     }
 
     /// Goes on after a token.
+    #[inline]
     pub fn pass(&mut self, token: &Token) -> Result<(), NoMemory>
         ensures { OnOk result (self.new ≡ open_past self.old token.now) }
     {

@@ -48,6 +48,7 @@ impl OpenStack {
     }
 
     /// Whether nothing is open.
+    #[inline]
     pub(crate) fn is_empty(&self) -> bool
         ensures { result ≡ is_nil self.now }
     {
@@ -96,8 +97,21 @@ impl OpenStack {
         Ok(())
     }
 
-    /// Goes on after a token of this kind that stands for itself.
+    /// Goes on after a token of this kind that stands for itself. Most kinds are no bracket, and change nothing.
+    #[inline]
     pub(crate) fn pass(&mut self, kind: TokenKind) -> Result<(), NoMemory>
+        ensures passed { OnOk result (self.new ≡ opened.beyond self.old (kind_of kind)) }
+        ensures closed { OnErr result (self.new ≡ opened.without_bracket self.old (closed_by (kind_of kind))) }
+    {
+        if kind.is_bracket() {
+            return self.pass_bracket(kind);
+        }
+        Ok(())
+    }
+
+    /// Goes on after a bracket of this kind.
+    #[inline(never)]
+    fn pass_bracket(&mut self, kind: TokenKind) -> Result<(), NoMemory>
         ensures passed { OnOk result (self.new ≡ opened.beyond self.old (kind_of kind)) }
         ensures closed { OnErr result (self.new ≡ opened.without_bracket self.old (closed_by (kind_of kind))) }
     {

@@ -1,6 +1,6 @@
 //! The kinds of tokens.
 
-ghost use Rattle.std.specs.Prelude.{◌≡◌};
+ghost use Rattle.std.specs.Prelude.{◌≡◌, None, false};
 ghost use Rattle.std.specs.Option.{option_map};
 ghost use Rattle.syntax_model.specs.TokenKinds.{is_close_round};
 ghost use Rattle.syntax_model.specs.Brackets.{closed_by, opened_by};
@@ -64,6 +64,20 @@ impl TokenKind {
             TokenKind::CloseRound => Some(Bracket::Round),
             TokenKind::CloseCurly => Some(Bracket::Curly),
             _ => None,
+        }
+    }
+
+    /// Whether a token of the kind opens a bracket, or closes one.
+    #[inline]
+    pub(crate) fn is_bracket(self) -> bool
+        ensures opens { result ≡ false → opened_by (kind_of self) ≡ None }
+        ensures closes { result ≡ false → closed_by (kind_of self) ≡ None }
+    {
+        match self {
+            TokenKind::Function => true,
+            TokenKind::OpenSquare | TokenKind::OpenRound | TokenKind::OpenCurly => true,
+            TokenKind::CloseSquare | TokenKind::CloseRound | TokenKind::CloseCurly => true,
+            _ => false,
         }
     }
 
