@@ -1,21 +1,24 @@
 -- The tokens of a text, as the code makes them.
-use Rattle.std.proofs.Common.{◌≡◌, ℕ, ◌+◌, ◌-◌, ◌<◌, ◌≤◌, List, [], ◌∷◌, ◌++◌, length, drop, refl, sym, ap, ◌∙◌, arith, append_assoc, append-nil, length-drop}
-use Rattle.std.proofs.lemmas.List.{nil_from_length}
+use Rattle.std.proofs.Common.{◌≡◌, ℕ, ◌+◌, ◌-◌, ◌<◌, ◌≤◌, List, [], ◌∷◌, ◌++◌, length, drop, refl, sym, ap, ◌∙◌, arith, length-drop}
+use Rattle.std.proofs.lemmas.List.{drop-drop, nil_from_length}
+use Rattle.std.proofs.Math.ListN.{drop_of_length-le}
 use Rattle.base_model.specs.Text.{Characters}
 use Rattle.syntax_model.specs.Token.{Token}
-use Rattle.syntax_model.specs.TokensIn.{tokens_in}
+use Rattle.syntax_model.specs.TokensIn.{tokens_from, tokens_in}
 use Rattle.syntax_model.proofs.PieceLemmas.{first_is}
 use Rattle.syntax_model.proofs.TokensLemmas.{tokens_at, tokens_more}
+use Rattle.css_tokens.specs.Reader.{tokens_left}
 use Rattle.css_tokens.specs.Scanned.{first_len, first_tokens}
 
--- the text is read up to an offset: the tokens so far and those of the rest are its tokens
-pub record IsReadUpTo (text : Characters) (start : ℕ) (rest : Characters) (tokens : List Token) : Type 0 where
+-- the text is read from a place up to another, and no token is between them
+pub record IsReadFrom (text : Characters) (place start : ℕ) (rest : Characters) : Type 0 where
   pub offset : start + length rest ≡ length text
-  pub items : tokens ++ tokens_at start rest ≡ tokens_in text
+  pub is_rest : rest ≡ drop start text
+  pub same : tokens_left place text ≡ tokens_at start rest
 
-pub read_none : (text : Characters) → IsReadUpTo text 0 text []
-unfolding tokens_in
-read_none text = record { offset = omega arith; items = refl }
+pub read_none : (text : Characters) (place : ℕ) (rest : Characters) → place ≤ length text → rest ≡ drop place text → IsReadFrom text place place rest
+read_none text place rest inside is =
+    rw is record { offset = omega (arith, inside, length-drop place text); is_rest = refl; same = refl }
 
 -- the first piece of a text
 pub first_part : (text : Characters) → 0 < length text → (0 < first_len text) × (first_len text ≤ length text)
@@ -26,18 +29,32 @@ tokens_on : (start : ℕ) (text : Characters) → 0 < length text → tokens_at 
 tokens_on start [] some = absurd (omega (arith, some))
 tokens_on start (c ∷ cs) some = tokens_more start c cs
 
--- one piece on
-pub read_more : (text : Characters) (start : ℕ) (rest after : Characters) (tokens first all : List Token) (n : ℕ) → IsReadUpTo text start rest tokens → 0 < length rest → n ≡ first_len rest → first ≡ first_tokens start rest → after ≡ drop n rest → all ≡ tokens ++ first → IsReadUpTo text (start + n) after all
-read_more text start rest after tokens first all n up some is_n is_first is_after is_all =
-    let left : length after ≡ length rest - n = rw is_after (length-drop n rest) in
-    let inside : n ≤ length rest = rw is_n (first_part rest some).1 in
-    let more : tokens_at start rest ≡ first ++ tokens_at (start + n) after = rw (is_after, is_first, is_n) (tokens_on start rest some) in
-    rw is_all record {
-      offset = omega (arith, up.offset, inside, left);
-      items = append_assoc tokens first (tokens_at (start + n) after) ∙ (ap (λ ts. tokens ++ ts) (sym more) ∙ up.items);
+-- one piece more
+pub read_more : (text : Characters) (place start : ℕ) (rest : Characters) (first : List Token) (n : ℕ) → IsReadFrom text place start rest → 0 < length rest → n ≡ first_len rest → first ≡ first_tokens start rest
+    → tokens_left place text ≡ first ++ tokens_left (start + n) text
+read_more text place start rest first n at some is_n is_first =
+    let left : drop n rest ≡ drop (start + n) text = ap (drop n) at.is_rest ∙ drop-drop n start text in
+    let more : tokens_at start rest ≡ first ++ tokens_at (start + n) (drop n rest) = rw (is_first, is_n) (tokens_on start rest some) in
+    at.same ∙ (more ∙ ap (λ ts. first ++ tokens_at (start + n) ts) left)
+
+-- a piece that is no token
+pub read_past : (text : Characters) (place start : ℕ) (rest after : Characters) (n : ℕ) → IsReadFrom text place start rest → 0 < length rest → n ≡ first_len rest → n ≤ length rest → [] ≡ first_tokens start rest → after ≡ drop n rest → IsReadFrom text place (start + n) after
+read_past text place start rest after n at some is_n inside none is_after =
+    let left : drop n rest ≡ drop (start + n) text = ap (drop n) at.is_rest ∙ drop-drop n start text in
+    rw is_after record {
+      offset = omega (arith, at.offset, inside, length-drop n rest);
+      is_rest = left;
+      same = read_more text place start rest [] n at some is_n none ∙ ap (tokens_at (start + n)) (sym left);
     }
 
--- all is read
-pub read_all : (text : Characters) (start : ℕ) (rest : Characters) (tokens : List Token) → IsReadUpTo text start rest tokens → length rest ≡ 0 → tokens ≡ tokens_in text
-read_all text start rest tokens up empty =
-    sym (append-nil tokens) ∙ (ap (λ r. tokens ++ tokens_at start r) (sym (nil_from_length rest empty)) ∙ up.items)
+-- nothing is left
+pub read_all : (text : Characters) (place start : ℕ) (rest : Characters) → IsReadFrom text place start rest → length rest ≡ 0 → tokens_left place text ≡ []
+read_all text place start rest at empty = at.same ∙ ap (tokens_at start) (nil_from_length rest empty)
+
+-- at the end
+pub left_at_end : (text : Characters) (place : ℕ) → place ≡ length text → tokens_left place text ≡ []
+left_at_end text place end = ap (λ rest. tokens_from (length rest) place rest) (drop_of_length-le text (omega (arith, end)))
+
+pub left_at_start : (text : Characters) → tokens_left 0 text ≡ tokens_in text
+unfolding tokens_in
+left_at_start text = refl

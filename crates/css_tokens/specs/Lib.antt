@@ -11,4 +11,5 @@ pub mod Steps
 pub mod Opened
 pub mod OpenView
 pub mod Place
+pub mod Reader
 pub mod Separated

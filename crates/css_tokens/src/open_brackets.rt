@@ -1,12 +1,13 @@
 //! The brackets that are open.
 
-ghost use Rattle.std.specs.Prelude.{◌≡◌, ◌∷◌, ◌++◌, [], IfOk, OnOk, length};
+ghost use Rattle.std.specs.Prelude.{◌≡◌, ◌∷◌, ◌++◌, [], IfOk, List, MatchOption, OnOk, length};
 ghost use Rattle.base_model.specs.Lists.{is_nil};
-ghost use Rattle.css_tokens.specs.View.{bracket_of};
-ghost use Rattle.syntax_model.specs.Brackets.{closers, open_past};
+ghost use Rattle.css_tokens.specs.View.{bracket_of, kind_of};
+ghost use Rattle.syntax_model.specs.Brackets as model;
+ghost use Rattle.syntax_model.specs.Brackets.{closed_by, closers, open_past, opened_by, with_opened, without_closed};
 
 use crate::open_stack::OpenStack;
-use crate::{Bracket, Token};
+use crate::{Bracket, Token, TokenKind};
 use std::alloc::Global;
 use std::marker::Model;
 use stylo_base::NoMemory;
@@ -69,6 +70,23 @@ impl OpenBrackets {
         ensures { OnOk result (self.new ≡ open_past self.old token.now) }
     {
         self.stack.pass(token.kind())
+    }
+
+    /// Goes on after a token of this kind.
+    #[inline]
+    pub fn pass_kind(&mut self, kind: TokenKind) -> Result<(), NoMemory>
+        ensures { OnOk result
+            (self.new ≡ with_opened (opened_by (kind_of kind)) (without_closed self.old (closed_by (kind_of kind)))) }
+    {
+        self.stack.pass(kind)
+    }
+
+    /// The innermost bracket that is open.
+    pub fn innermost(&self) -> Option<Bracket>
+        ensures { MatchOption result (self.now ≡ [])
+            (λ bracket. (outer : List model.Bracket) × (self.now ≡ bracket_of bracket ∷ outer)) }
+    {
+        self.stack.innermost()
     }
 
     /// Appends the closers of what is open to the tokens.

@@ -135,6 +135,17 @@ impl OpenStack {
         }
     }
 
+    /// The innermost, if it is a bracket.
+    pub(crate) fn innermost(&self) -> Option<Bracket>
+        ensures { MatchOption result (opened.brackets_in self.now ≡ [])
+            (λ bracket. (openers : opened.Opened) × (self.now ≡ Some (bracket_of bracket) ∷ openers)) }
+    {
+        match self.parts.front() {
+            Some(OpenPart::Bracket(innermost)) => Some(*innermost),
+            _ => None,
+        }
+    }
+
     /// Takes the innermost away, if it is a bracket.
     pub(crate) fn pop_bracket(&mut self) -> Option<Bracket>
         ensures { MatchOption result (opened.brackets_in self.old ≡ [])

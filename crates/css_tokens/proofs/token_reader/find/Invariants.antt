@@ -1,8 +1,9 @@
 use Rattle.std.proofs.Common.{length}
-use Rattle.css_tokens.proofs.tokenizer.count.Given as goal
+use Rattle.css_tokens.proofs.TokenizerLemmas.{IsReadFrom}
+use Rattle.css_tokens.proofs.token_reader.find.Given as goal
 
 abbrev pub invariant-loop-rest : goal.invariant-loop-rest
-invariant-loop-rest l = Unit {0}
+invariant-loop-rest l = IsReadFrom l.text l.place l.start l.rest
 
 abbrev pub decreases-loop-rest : goal.decreases-loop-rest
 decreases-loop-rest l = length l.rest
