@@ -18,6 +18,7 @@ pub mod PlanLemmas
 pub mod Ranked
 pub mod RoomLemmas
 pub mod RulesAfter
+pub mod RulesRead
 pub mod SheetAt
 pub mod Standings
 pub mod StepKeys

@@ -6,6 +6,8 @@ use Rattle.base_model.specs.Sheet.{Sheet}
 use Rattle.base_model.specs.Text.{Characters}
 use Rattle.sheet_model.specs.StyleRules.{StyleRule, style_rules_in}
 use Rattle.sheet_model.specs.Sources.{PlacedRule, all_placed, edition_of}
+use Rattle.syntax_model.specs.Rules.{Context, StyleBlock}
+use Rattle.syntax_model.specs.Token.{Token}
 use Rattle.layer_order.specs.View.{origin_of}
 use Rattle.layer_order.specs.declared.origin.Origin.{Origin}
 use Rattle.layer_order.specs.declared.sheet_input.SheetInput.{SheetInput}
@@ -14,6 +16,10 @@ use Rattle.selector_types.specs.declared.selector.Selector.{Selector}
 use Rattle.selector_types.specs.View.{selector_of}
 use Rattle.shorthands.specs.View.{declared_of}
 use Rattle.sheet_set.specs.declared.sheet_rule.SheetRule.{SheetRule}
+
+-- a qualified rule, of its parts
+abbrev pub block_of : List Token → List Token → Context → StyleBlock
+block_of prelude block context = record { prelude = prelude; block = block; context = context }
 
 -- how many declarations of a rule are kept
 abbrev pub rule_count : Option StyleRule → ℕ

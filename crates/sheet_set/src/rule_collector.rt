@@ -1,15 +1,16 @@
 //! The rules and layers that were collected so far.
 
 ghost use Rattle.std.specs.Prelude.{◌≡◌, ◌+◌, ◌++◌, ◌∷◌, [], IfOk, OnOk, length, option_to_list};
-ghost use Rattle.css_rules.specs.View.{style_of};
+ghost use Rattle.css_rules.specs.View.{context_of};
 ghost use Rattle.layer_order.specs.View.{declarations, origin_of};
 ghost use Rattle.sheet_model.specs.Sources.{all_placed, edition_of, sheet_layers};
 ghost use Rattle.sheet_model.specs.StyleRules.{style_rule_of, style_rules_in};
-ghost use Rattle.sheet_set.specs.Rules.{rule_count, rules_with, sheet_read};
+ghost use Rattle.sheet_set.specs.Rules.{block_of, rule_count, rules_with, sheet_read};
 
 use crate::parse_block::parse_block;
 use crate::{SheetInput, SheetRule};
-use css_rules::{Context, Rule, SheetEdition, StyleBlock, edition_rules};
+use css_rules::{Context, RuleKind, RuleReader, SheetEdition};
+use css_tokens::Token;
 use layer_order::{LayerName, Origin};
 use selector_parser::selector_list;
 use selector_types::Selector;
@@ -55,10 +56,22 @@ impl RuleCollector {
         ensures paired { OnOk result (length self.new.rules.items ≡ length self.new.selectors.items) }
     {
         let mut index = 0;
-        for rule in &edition_rules(alloc, at, sheet.text.as_str())? {
-            match rule {
-                Rule::Style(style) => index = self.add_style(alloc, at, sheet, index, style)?,
-                Rule::Layer(context) => self.add_layer(sheet.origin, context)?,
+        let mut reader = RuleReader::new(alloc, at, sheet.text.as_str())?;
+        // The proof calls the loop by this label.
+        'rules: while let Some(kind) = reader.next(alloc)? {
+            match kind {
+                RuleKind::Style => {
+                    index = self.add_style(
+                        alloc,
+                        at,
+                        sheet,
+                        index,
+                        reader.prelude(),
+                        reader.block(),
+                        reader.context(),
+                    )?;
+                }
+                RuleKind::Layer => self.add_layer(sheet.origin, reader.context())?,
             }
         }
         Ok(())
@@ -72,26 +85,29 @@ impl RuleCollector {
         at: SheetEdition,
         sheet: &SheetInput,
         index: u64,
-        style: &StyleBlock,
+        prelude: &[Token],
+        block: &[Token],
+        context: &Context,
     ) -> Result<u64, NoMemory>
         requires { length self.old.rules.items ≡ length self.old.selectors.items }
         ensures adds { OnOk result (rules_with self.new.rules.items self.new.selectors.items
             ≡ rules_with self.old.rules.items self.old.selectors.items
             ++ all_placed (sheet_read at sheet.now) 0 index
-            (option_to_list (style_rule_of (style_of style.now)))) }
-        ensures next { IfOk result (λ next. next ≡ index + rule_count (style_rule_of (style_of style.now))) }
+            (option_to_list (style_rule_of (block_of prelude.now block.now (context_of context.now))))) }
+        ensures next { IfOk result (λ next. next ≡ index
+            + rule_count (style_rule_of (block_of prelude.now block.now (context_of context.now)))) }
         ensures paired { OnOk result (length self.new.rules.items ≡ length self.new.selectors.items) }
         ensures layers { self.new.layers ≡ self.old.layers }
     {
-        let Some(selectors) = selector_list(alloc, style.prelude.as_slice())? else {
+        let Some(selectors) = selector_list(alloc, prelude)? else {
             return Ok(index);
         };
-        let declarations = parse_block(alloc, style.block.as_slice())?;
+        let declarations = parse_block(alloc, block)?;
         let rule = SheetRule::new(
             alloc,
             declarations,
             sheet.origin,
-            style.context.layer.share()?,
+            context.layer.share()?,
             at.sheet,
             index,
         )?;
