@@ -8,6 +8,7 @@ use Rattle.syntax_model.specs.Brackets.{Bracket, closed, closed_by, closer, clos
 use Rattle.syntax_model.specs.Rules.{Head}
 use Rattle.syntax_model.specs.RulesIn.{in_block, pieces_in, with_block}
 use Rattle.syntax_model.proofs.OutsideLemmas.{nil_from_test}
+use Rattle.css_rules.specs.Walk.{open_past_kind}
 
 -- whether a `}` ends the block that the tokens are in
 abbrev pub is_end : Bool → List Bracket → Token → Bool
@@ -18,10 +19,7 @@ abbrev pub Fits : Bool → List Bracket → List Token → Type 0
 Fits top pending [] = pending ≡ []
 Fits top pending (token ∷ tokens) = (is_end top pending token ≡ false) × Fits top (open_past pending token) tokens
 
--- the brackets that are open past a token of a kind, and brackets in a block
-abbrev pub open_past_kind : List Bracket → TokenKind → List Bracket
-open_past_kind pending kind = with_opened (opened_by kind) (without_closed pending (closed_by kind))
-
+-- brackets in a block
 abbrev in_curly : List Bracket → List Bracket
 in_curly pending = pending ++ curly ∷ []
 

@@ -145,7 +145,7 @@ module _ {at : Place} {tokens : List Token} (known : Known at tokens) (fits : Fi
       from_dropped rule = rw opens_one (from_stage known (in_dropped rule [] curly []) fits)
 
       -- `@layer`, by the layer that it declares
-      by_layer : is_layer_name name ≡ true → (o : Option Context) → declared at prelude ≡ o → FromBlock (at_head name) prelude (entered o (reading counting (Prelude Layer) [] [] []) token)
+      by_layer : is_layer_name name ≡ true → (o : Option Context) → declared at prelude ≡ o → FromBlock (at_head name) prelude (entered o (reading counting (Prelude Layer) [] [] []) token.kind)
       by_layer named None is = from_dropped (record {
         name = name;
         prelude = prelude;
@@ -154,12 +154,12 @@ module _ {at : Place} {tokens : List Token} (known : Known at tokens) (fits : Fi
       })
       by_layer named (Some inner) is = by_level named inner is at.levels refl
 
-      by_name : (named : Bool) → is_layer_name name ≡ named → FromBlock (at_head name) prelude (opened (head_named name) (begun (at_head name) prelude) token)
+      by_name : (named : Bool) → is_layer_name name ≡ named → FromBlock (at_head name) prelude (opened (head_named name) (begun (at_head name) prelude) token.kind)
       by_name true named = rw named (by_layer named _ refl)
       by_name false other =
           rw other
           (from_dropped (record { name = name; prelude = prelude; anonymous = at.anonymous; gives_none = λ block. rw other }))
 
-  pub opens : (token : Token) → open_past [] token ≡ curly ∷ [] → (head : Head) (prelude : List Token) → FromBlock head prelude (opened (head_of head) (begun head prelude) token)
+  pub opens : (token : Token) → open_past [] token ≡ curly ∷ [] → (head : Head) (prelude : List Token) → FromBlock head prelude (opened (head_of head) (begun head prelude) token.kind)
   opens token is qualified_head prelude = rw is (from_stage known (in_kept prelude [] curly []) fits)
   opens token is (at_head name) prelude = by_name name prelude token is _ refl

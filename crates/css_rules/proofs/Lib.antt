@@ -1,9 +1,12 @@
 pub mod BlockLemmas
 pub mod BracketLemmas
+pub mod CloseLemmas
 pub mod DeclarationLemmas
 pub mod EnterLemmas
 pub mod FoundLemmas
 pub mod LayerLemmas
+pub mod LeftLemmas
 pub mod ReadLemmas
+pub mod ReaderLemmas
 pub mod RunLemmas
 pub mod WalkLemmas

@@ -9,8 +9,8 @@ use Rattle.syntax_model.specs.Rules.{Rule, Context, SheetEdition, Piece, qualifi
 use Rattle.syntax_model.specs.Rules as model
 use Rattle.syntax_model.specs.RulesIn.{is_between_rules, is_last, without_block}
 use Rattle.syntax_model.specs.SheetRules.{RulesFound, found, block_within, pieces_found, is_layer_name, statement_found}
-use Rattle.css_rules.proofs.BlockLemmas.{is_closer, open_past_kind}
-use Rattle.css_rules.specs.Walk.{Walk, ended_rules, ends_statement, head_named, kept}
+use Rattle.css_rules.proofs.BlockLemmas.{is_closer}
+use Rattle.css_rules.specs.Walk.{Walk, ended_rules, ends_statement, head_named, kept, open_past_kind}
 use Rattle.css_rules.specs.declared.rule_parser.ParserState.{ParserState}
 use Rattle.css_rules.specs.declared.rule_parser.Head.{Head}
 use Rattle.css_rules.specs.declared.rule_parser.Head.TheVariants.{Qualified, Layer, Other}

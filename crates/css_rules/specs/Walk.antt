@@ -1,11 +1,11 @@
 -- The rules of a sheet, token by token: what is known after some tokens, and one token more.
-use Rattle.std.specs.Prelude.{ℕ, List, [], ◌∷◌, ◌++◌, map, Bool, false, not, ◌&&◌, if◌then◌else◌}
+use Rattle.std.specs.Prelude.{ℕ, List, [], ◌∷◌, ◌++◌, map, Bool, true, false, not, ◌&&◌, if◌then◌else◌}
 use Rattle.std.specs.Prelude.{Option, Some, None, unwrap_or}
 use Rattle.base_model.specs.Lists.{is_nil}
 use Rattle.base_model.specs.Text.{Characters}
 use Rattle.syntax_model.specs.Token.{Token, TokenKind}
 use Rattle.syntax_model.specs.TokenKinds.{is_at_keyword, is_semicolon, is_open_curly, is_close_curly}
-use Rattle.syntax_model.specs.Brackets.{Bracket, open_past}
+use Rattle.syntax_model.specs.Brackets.{Bracket, closed_by, open_past, opened_by, with_opened, without_closed}
 use Rattle.syntax_model.specs.Rules.{Rule, layer, Context, SheetEdition}
 use Rattle.syntax_model.specs.RulesIn.{is_between_rules}
 use Rattle.syntax_model.specs.LayersIn.{layers_declared, block_layer}
@@ -91,6 +91,13 @@ out walk = out_to walk.outer walk
 abbrev pub past : ParserState → Walk → Token → Walk
 past state walk token = record walk { state = state; pending = open_past walk.pending token }
 
+-- the same by the token's kind
+abbrev pub open_past_kind : List Bracket → TokenKind → List Bracket
+open_past_kind pending kind = with_opened (opened_by kind) (without_closed pending (closed_by kind))
+
+abbrev pub past_kind : ParserState → Walk → TokenKind → Walk
+past_kind state walk kind = record walk { state = state; pending = open_past_kind walk.pending kind }
+
 abbrev pub keeping : Head → Walk → Token → Walk
 keeping head walk token = record walk { prelude = kept head walk.prelude token }
 
@@ -104,16 +111,16 @@ inside inner walk = record walk {
 }
 
 -- into the block of a layer, unless it is dropped
-abbrev pub entered : Option Context → Walk → Token → Walk
-entered None walk token = past Dropped walk token
-entered (Some inner) walk token = inside inner walk
+abbrev pub entered : Option Context → Walk → TokenKind → Walk
+entered None walk kind = past_kind Dropped walk kind
+entered (Some inner) walk kind = inside inner walk
 
-abbrev pub opened : Head → Walk → Token → Walk
-opened Qualified walk token = past Block walk token
-opened Layer walk token =
+abbrev pub opened : Head → Walk → TokenKind → Walk
+opened Qualified walk kind = past_kind Block walk kind
+opened Layer walk kind =
     entered (block_layer walk.edition walk.anonymous walk.context walk.prelude)
-    (record walk { anonymous = counted walk.anonymous walk.prelude; prelude = [] }) token
-opened Other walk token = past Dropped walk token
+    (record walk { anonymous = counted walk.anonymous walk.prelude; prelude = [] }) kind
+opened Other walk kind = past_kind Dropped walk kind
 
 abbrev pub begun : Walk → Token → Walk
 begun walk token =
@@ -127,7 +134,7 @@ abbrev pub step_in_prelude : Head → Walk → Token → Walk
 step_in_prelude head walk token =
     if is_nil walk.pending && ends_statement head token.kind then ended head walk
     else if ends_layer walk token.kind then out (ended head walk)
-    else if is_nil walk.pending && is_open_curly token.kind then opened head walk token
+    else if is_nil walk.pending && is_open_curly token.kind then opened head walk token.kind
     else keeping head (past (Prelude head) walk token) token
 
 -- the rule of the prelude and the block ends
@@ -154,6 +161,31 @@ step_at (Prelude head) = step_in_prelude head
 step_at Block = step_in_block
 step_at Dropped = step_in_dropped
 
+-- Where nothing of a rule is kept, the kind of a token says all: before the block of an at-rule that is not `@layer`,
+-- and in a block that is dropped.
+abbrev pub is_skipping : ParserState → Bool
+is_skipping (Prelude Other) = true
+is_skipping Dropped = true
+is_skipping state = false
+
+abbrev pub skipped_in_prelude : Walk → TokenKind → Walk
+skipped_in_prelude walk kind =
+    if is_nil walk.pending && is_semicolon kind then ended Other walk
+    else if ends_layer walk kind then out (ended Other walk)
+    else if is_nil walk.pending && is_open_curly kind then past_kind Dropped walk kind
+    else past_kind (Prelude Other) walk kind
+
+abbrev pub skipped_in_dropped : Walk → TokenKind → Walk
+skipped_in_dropped walk kind =
+    if is_nil (open_past_kind walk.pending kind) then past_kind Between walk kind else past_kind Dropped walk kind
+
+abbrev pub skipped_at : ParserState → Walk → TokenKind → Walk
+skipped_at (Prelude head) walk kind = skipped_in_prelude walk kind
+skipped_at state walk kind = skipped_in_dropped walk kind
+
+abbrev pub skipped : Walk → TokenKind → Walk
+skipped walk kind = skipped_at walk.state walk kind
+
 -- one token more
 abbrev pub step : Walk → Token → Walk
 step walk token = step_at walk.state walk token
@@ -161,6 +193,11 @@ step walk token = step_at walk.state walk token
 abbrev pub steps : Walk → List Token → Walk
 steps walk [] = walk
 steps walk (token ∷ tokens) = steps (step walk token) tokens
+
+-- the end of the tokens ends an at-rule without a block
+abbrev pub ended_at : ParserState → Walk → Walk
+ended_at (Prelude head) walk = ended head walk
+ended_at state walk = walk
 
 -- the rules, where the tokens end here
 abbrev pub finished_at : ParserState → Walk → List Rule

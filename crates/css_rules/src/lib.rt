@@ -5,7 +5,6 @@
 #![tactic(auto)]
 
 mod at_rule;
-mod closed;
 mod declaration;
 mod declarations;
 mod found;
@@ -13,9 +12,11 @@ mod important;
 mod layer_names;
 mod rule;
 mod rule_parser;
+mod rule_reader;
 mod shallow;
 mod sheet;
 
 pub use declarations::declaration_list;
-pub use rule::{Context, DeclValue, RawDecl, Rule, SheetEdition, StyleBlock};
+pub use rule::{Context, DeclValue, RawDecl, Rule, RuleKind, SheetEdition, StyleBlock};
+pub use rule_reader::RuleReader;
 pub use sheet::{edition_rules, sheet_rules};

@@ -50,6 +50,13 @@ pub enum Rule {
     Layer(Context),
 }
 
+/// Which kind of rule it is.
+#[derive(Clone, Copy, Debug, PartialEq, Eq)]
+pub enum RuleKind {
+    Style,
+    Layer,
+}
+
 /// Which text of a sheet it is: the number of the sheet, and an edition that is 0 until the text is replaced.
 #[derive(Clone, Copy, Debug)]
 pub struct SheetEdition {

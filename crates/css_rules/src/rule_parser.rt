@@ -1,18 +1,20 @@
 //! The rules of a sheet, token by token.
 
-ghost use Rattle.std.specs.Prelude.{◌≡◌, ◌&&◌, IfOk, OnOk};
+ghost use Rattle.std.specs.Prelude.{◌≡◌, ◌&&◌, [], true, IfOk, OnOk};
 ghost use Rattle.base_model.specs.Lists.{is_nil};
-ghost use Rattle.syntax_model.specs.TokenKinds.{is_open_curly};
+ghost use Rattle.syntax_model.specs.TokenKinds.{is_close_curly, is_open_curly, is_semicolon};
 ghost use Rattle.syntax_model.specs.RulesIn.{is_between_rules};
 ghost use Rattle.syntax_model.specs.SheetRules.{is_layer_name};
-ghost use Rattle.css_rules.specs.Parser.{walk_of};
-ghost use Rattle.css_rules.specs.View.{context_of, edition_of, rules_of};
+ghost use Rattle.css_tokens.specs.View.{kind_of};
+ghost use Rattle.css_rules.specs.Parser.{ended_of, walk_after, walk_of};
+ghost use Rattle.css_rules.specs.View.{context_of, edition_of};
 ghost use Rattle.css_rules.specs.Walk as walk;
 
-use crate::found::{append_style, counted, declare};
+use crate::found::{counted, declare};
 use crate::layer_names::block_layer;
-use crate::{Context, Rule, SheetEdition};
-use css_tokens::{OpenBrackets, Token, name_of};
+use crate::shallow::is_shallow;
+use crate::{Context, SheetEdition};
+use css_tokens::{OpenBrackets, Token, TokenKind, name_of};
 use std::alloc::Global;
 use std::collections::VecDeque;
 use std::mem;
@@ -36,13 +38,17 @@ pub(crate) enum ParserState {
     Dropped,
 }
 
-/// The rules so far and how many anonymous layers there were; what the layers whose blocks are open are in, innermost
-/// first, and what the next rule is in; and what was read of that rule: its prelude and its block, as far as they are
-/// kept, and the brackets that are open.
+/// A list that held more tokens than this gives its room back.
+const ROOM_KEPT: usize = 4096;
+
+/// The layers that were declared and are not yet given out, and how many anonymous ones there were; what the layers
+/// whose blocks are open are in, innermost first, and what the next rule is in; what was read of that rule: its prelude
+/// and its block, as far as they are kept, and the brackets that are open; and the prelude and the block of the rule
+/// that ended last.
 #[derive(Drop)]
 pub(crate) struct RuleParser {
     pub edition: SheetEdition,
-    pub rules: Vec<Rule>,
+    pub layers: VecDeque<Context>,
     pub anonymous: u32,
     pub outer: VecDeque<Context>,
     pub context: Context,
@@ -50,6 +56,8 @@ pub(crate) struct RuleParser {
     pub prelude: Vec<Token>,
     pub block: Vec<Token>,
     pub pending: OpenBrackets,
+    pub ended_prelude: Vec<Token>,
+    pub ended_block: Vec<Token>,
 }
 
 impl RuleParser {
@@ -59,7 +67,7 @@ impl RuleParser {
     {
         RuleParser {
             edition,
-            rules: Vec::new(alloc),
+            layers: VecDeque::new(alloc),
             anonymous: 0,
             outer: VecDeque::new(alloc),
             context: Context::none(),
@@ -67,18 +75,43 @@ impl RuleParser {
             prelude: Vec::new(alloc),
             block: Vec::new(alloc),
             pending: OpenBrackets::new(alloc),
+            ended_prelude: Vec::new(alloc),
+            ended_block: Vec::new(alloc),
         }
     }
 
-    /// Consumes the next token.
-    pub fn take(&mut self, alloc: Global, token: Token) -> Result<(), NoMemory>
-        ensures { OnOk result (walk_of self.new ≡ walk.step (walk_of self.old) token) }
+    /// Consumes the next token, and says whether a qualified rule that is kept ended with it.
+    pub fn take(&mut self, alloc: Global, token: Token) -> Result<bool, NoMemory>
+        requires { self.old.layers.items ≡ [] }
+        ensures { IfOk result (λ ended. walk_after ended self.new ≡ walk.step (walk_of self.old) token) }
     {
         match self.state {
-            ParserState::Between => self.begin(token),
-            ParserState::Prelude(head) => self.take_in_prelude(alloc, head, token),
-            ParserState::Block => self.take_in_block(alloc, token),
-            ParserState::Dropped => self.pass_in_dropped(&token),
+            ParserState::Between => self.begin(token)?,
+            ParserState::Prelude(head) => self.take_in_prelude(alloc, head, token)?,
+            ParserState::Block => return self.take_in_block(alloc, token),
+            ParserState::Dropped => self.skip_in_dropped(token.kind())?,
+        }
+        Ok(false)
+    }
+
+    /// Whether nothing of the next token counts but its kind.
+    pub fn is_skipping(&self) -> bool
+        ensures { result ≡ walk.is_skipping self.now.state }
+    {
+        matches!(
+            self.state,
+            ParserState::Dropped | ParserState::Prelude(Head::Other)
+        )
+    }
+
+    /// Consumes the next token, of which nothing counts but its kind.
+    pub fn skip(&mut self, alloc: Global, kind: TokenKind) -> Result<(), NoMemory>
+        requires { walk.is_skipping self.old.state ≡ true }
+        ensures { OnOk result (walk_of self.new ≡ walk.skipped (walk_of self.old) (kind_of kind)) }
+    {
+        match self.state {
+            ParserState::Prelude(_) => self.skip_in_prelude(alloc, kind),
+            _ => self.skip_in_dropped(kind),
         }
     }
 
@@ -87,11 +120,11 @@ impl RuleParser {
         requires { self.old.state ≡ ParserState.Between }
         ensures { OnOk result (walk_of self.new ≡ walk.begun (walk_of self.old) token) }
     {
-        if self.ends_layer(&token) {
+        if self.is_layer_end(&token) {
             self.leave();
             return Ok(());
         }
-        if is_between_rules(self.outer.is_empty(), &token) {
+        if is_between_rules(self.is_at_top(), &token) {
             return Ok(());
         }
         if token.is_at_keyword() {
@@ -101,9 +134,16 @@ impl RuleParser {
         if token.is_open_curly() {
             return self.pass(ParserState::Block, &token);
         }
+        self.begin_rule(token)
+    }
+
+    /// Begins a qualified rule with the first token of its prelude.
+    fn begin_rule(&mut self, token: Token) -> Result<(), NoMemory>
+        ensures { OnOk result (walk_of self.new ≡ walk.keeping Head.Qualified
+            (walk.past (ParserState.Prelude Head.Qualified) (walk_of self.old) token) token) }
+    {
         self.pass(ParserState::Prelude(Head::Qualified), &token)?;
-        self.prelude.push(token)?;
-        Ok(())
+        self.keep(Head::Qualified, token)
     }
 
     /// In the prelude of a rule.
@@ -111,40 +151,58 @@ impl RuleParser {
         requires { self.old.state ≡ ParserState.Prelude head }
         ensures { OnOk result (walk_of self.new ≡ walk.step_in_prelude head (walk_of self.old) token) }
     {
-        if self.ends_statement(head, &token) {
+        if self.ends_statement(head, token.kind()) {
             return self.end_statement(alloc, head);
         }
-        if self.ends_layer(&token) {
+        if self.ends_layer(token.kind()) {
             self.end_statement(alloc, head)?;
             self.leave();
             return Ok(());
         }
-        if self.opens_block(&token) {
-            return self.open(alloc, head, &token);
+        if self.opens_block(token.kind()) {
+            return self.open(alloc, head, token.kind());
         }
         self.pass(ParserState::Prelude(head), &token)?;
         self.keep(head, token)
     }
 
+    /// In the prelude of an at-rule that is not `@layer`.
+    fn skip_in_prelude(&mut self, alloc: Global, kind: TokenKind) -> Result<(), NoMemory>
+        ensures { OnOk result (walk_of self.new ≡ walk.skipped_in_prelude (walk_of self.old) (kind_of kind)) }
+    {
+        if self.ends_statement(Head::Other, kind) {
+            return self.end_statement(alloc, Head::Other);
+        }
+        if self.ends_layer(kind) {
+            self.end_statement(alloc, Head::Other)?;
+            self.leave();
+            return Ok(());
+        }
+        if self.opens_block(kind) {
+            return self.pass_kind(ParserState::Dropped, kind);
+        }
+        self.pass_kind(ParserState::Prelude(Head::Other), kind)
+    }
+
     /// In the block of a qualified rule.
-    fn take_in_block(&mut self, alloc: Global, token: Token) -> Result<(), NoMemory>
-        requires { self.old.state ≡ ParserState.Block }
-        ensures { OnOk result (walk_of self.new ≡ walk.step_in_block (walk_of self.old) token) }
+    fn take_in_block(&mut self, alloc: Global, token: Token) -> Result<bool, NoMemory>
+        requires state { self.old.state ≡ ParserState.Block }
+        requires layers { self.old.layers.items ≡ [] }
+        ensures { IfOk result (λ ended. walk_after ended self.new ≡ walk.step_in_block (walk_of self.old) token) }
     {
         self.pass(ParserState::Block, &token)?;
         if self.pending.is_empty() {
             return self.end_rule(alloc);
         }
         self.block.push(token)?;
-        Ok(())
+        Ok(false)
     }
 
     /// In a block that is dropped.
-    fn pass_in_dropped(&mut self, token: &Token) -> Result<(), NoMemory>
-        requires { self.old.state ≡ ParserState.Dropped }
-        ensures { OnOk result (walk_of self.new ≡ walk.step_in_dropped (walk_of self.old) token.now) }
+    fn skip_in_dropped(&mut self, kind: TokenKind) -> Result<(), NoMemory>
+        ensures { OnOk result (walk_of self.new ≡ walk.skipped_in_dropped (walk_of self.old) (kind_of kind)) }
     {
-        self.pass(ParserState::Dropped, token)?;
+        self.pass_kind(ParserState::Dropped, kind)?;
         if self.pending.is_empty() {
             self.state = ParserState::Between;
         }
@@ -153,9 +211,18 @@ impl RuleParser {
 
     /// Goes past a token into a state.
     fn pass(&mut self, state: ParserState, token: &Token) -> Result<(), NoMemory>
-        ensures { OnOk result (walk_of self.new ≡ walk.past state (walk_of self.old) token.now) }
+        ensures walk { OnOk result (walk_of self.new ≡ walk.past state (walk_of self.old) token.now) }
+        ensures layers { self.new.layers.items ≡ self.old.layers.items }
     {
-        self.pending.pass(token)?;
+        self.pass_kind(state, token.kind())
+    }
+
+    /// Goes past a token of this kind into a state.
+    fn pass_kind(&mut self, state: ParserState, kind: TokenKind) -> Result<(), NoMemory>
+        ensures walk { OnOk result (walk_of self.new ≡ walk.past_kind state (walk_of self.old) (kind_of kind)) }
+        ensures layers { self.new.layers.items ≡ self.old.layers.items }
+    {
+        self.pending.pass_kind(kind)?;
         self.state = state;
         Ok(())
     }
@@ -172,27 +239,41 @@ impl RuleParser {
     }
 
     /// Outside brackets a semicolon ends an at-rule without a block.
-    fn ends_statement(&self, head: Head, token: &Token) -> bool
-        ensures { result ≡ (is_nil self.now.pending && walk.ends_statement head token.now.kind) }
+    fn ends_statement(&self, head: Head, kind: TokenKind) -> bool
+        ensures { result ≡ (is_nil self.now.pending && walk.ends_statement head (kind_of kind)) }
     {
         match head {
             Head::Qualified => false,
-            Head::Layer | Head::Other => self.pending.is_empty() && token.is_semicolon(),
+            Head::Layer | Head::Other => self.pending.is_empty() && is_semicolon(kind),
         }
     }
 
     /// Outside the brackets of a rule a `}` ends the block of a layer.
-    fn ends_layer(&self, token: &Token) -> bool
+    fn ends_layer(&self, kind: TokenKind) -> bool
+        ensures { result ≡ walk.ends_layer (walk_of self.now) (kind_of kind) }
+    {
+        !self.outer.is_empty() && self.pending.is_empty() && is_close_curly(kind)
+    }
+
+    /// Whether no layer's block is open.
+    fn is_at_top(&self) -> bool
+        ensures { result ≡ is_nil (walk_of self.now).outer }
+    {
+        self.outer.is_empty()
+    }
+
+    /// Whether a token ends the block of a layer.
+    fn is_layer_end(&self, token: &Token) -> bool
         ensures { result ≡ walk.ends_layer (walk_of self.now) token.now.kind }
     {
-        !self.outer.is_empty() && self.pending.is_empty() && token.is_close_curly()
+        self.ends_layer(token.kind())
     }
 
     /// Outside brackets a curly bracket opens the block.
-    fn opens_block(&self, token: &Token) -> bool
-        ensures { result ≡ (is_nil self.now.pending && is_open_curly token.now.kind) }
+    fn opens_block(&self, kind: TokenKind) -> bool
+        ensures { result ≡ (is_nil self.now.pending && is_open_curly (kind_of kind)) }
     {
-        self.pending.is_empty() && token.is_open_curly()
+        self.pending.is_empty() && is_open_curly(kind)
     }
 
     /// Goes on after the block of a layer.
@@ -204,20 +285,20 @@ impl RuleParser {
         }
     }
 
-    /// Goes into the block of a rule, which the token opens.
-    fn open(&mut self, alloc: Global, head: Head, token: &Token) -> Result<(), NoMemory>
-        ensures { OnOk result (walk_of self.new ≡ walk.opened head (walk_of self.old) token.now) }
+    /// Goes into the block of a rule, which a token of this kind opens.
+    fn open(&mut self, alloc: Global, head: Head, kind: TokenKind) -> Result<(), NoMemory>
+        ensures { OnOk result (walk_of self.new ≡ walk.opened head (walk_of self.old) (kind_of kind)) }
     {
         match head {
-            Head::Qualified => self.pass(ParserState::Block, token),
-            Head::Layer => self.open_layer(alloc, token),
-            Head::Other => self.pass(ParserState::Dropped, token),
+            Head::Qualified => self.pass_kind(ParserState::Block, kind),
+            Head::Layer => self.open_layer(alloc, kind),
+            Head::Other => self.pass_kind(ParserState::Dropped, kind),
         }
     }
 
     /// Goes into the block of `@layer`.
-    fn open_layer(&mut self, alloc: Global, token: &Token) -> Result<(), NoMemory>
-        ensures { OnOk result (walk_of self.new ≡ walk.opened Head.Layer (walk_of self.old) token.now) }
+    fn open_layer(&mut self, alloc: Global, kind: TokenKind) -> Result<(), NoMemory>
+        ensures { OnOk result (walk_of self.new ≡ walk.opened Head.Layer (walk_of self.old) (kind_of kind)) }
     {
         let prelude = mem::replace(&mut self.prelude, Vec::new(alloc));
         let place = self.anonymous;
@@ -230,7 +311,7 @@ impl RuleParser {
             prelude.as_slice(),
         )? {
             Some(layer) => self.enter(layer),
-            None => self.pass(ParserState::Dropped, token),
+            None => self.pass_kind(ParserState::Dropped, kind),
         }
     }
 
@@ -238,7 +319,7 @@ impl RuleParser {
     fn enter(&mut self, layer: Context) -> Result<(), NoMemory>
         ensures { OnOk result (walk_of self.new ≡ walk.inside (context_of layer) (walk_of self.old)) }
     {
-        self.rules.push(Rule::Layer(layer.share()?))?;
+        self.layers.push_back(layer.share()?)?;
         let outer = mem::replace(&mut self.context, layer);
         self.outer.push_front(outer)?;
         self.state = ParserState::Between;
@@ -252,29 +333,56 @@ impl RuleParser {
         let prelude = mem::replace(&mut self.prelude, Vec::new(alloc));
         self.state = ParserState::Between;
         match head {
-            Head::Layer => declare(alloc, &mut self.rules, &self.context, prelude.as_slice()),
+            Head::Layer => declare(alloc, &mut self.layers, &self.context, prelude.as_slice()),
             Head::Qualified | Head::Other => Ok(()),
         }
     }
 
-    /// Ends the rule of the prelude and the block.
-    fn end_rule(&mut self, alloc: Global) -> Result<(), NoMemory>
-        ensures { OnOk result (walk_of self.new ≡ walk.rule_ended (walk_of self.old)) }
+    /// Ends the rule of the prelude and the block, and says whether it is kept.
+    fn end_rule(&mut self, alloc: Global) -> Result<bool, NoMemory>
+        requires { self.old.layers.items ≡ [] }
+        ensures { IfOk result (λ ended. walk_after ended self.new ≡ walk.rule_ended (walk_of self.old)) }
     {
-        let prelude = mem::replace(&mut self.prelude, Vec::new(alloc));
-        let block = mem::replace(&mut self.block, Vec::new(alloc));
         self.state = ParserState::Between;
-        append_style(alloc, &mut self.rules, &self.context, prelude, block)
+        if !is_shallow(alloc, self.prelude.as_slice())? {
+            empty(alloc, &mut self.prelude);
+            empty(alloc, &mut self.block);
+            return Ok(false);
+        }
+        mem::swap(&mut self.prelude, &mut self.ended_prelude);
+        mem::swap(&mut self.block, &mut self.ended_block);
+        empty(alloc, &mut self.prelude);
+        empty(alloc, &mut self.block);
+        Ok(true)
     }
 
-    /// The rules, where the tokens end here.
-    pub fn finish(mut self, alloc: Global) -> Result<Vec<Rule>, NoMemory>
-        ensures { IfOk result (λ rules. rules_of rules.items ≡ walk.finished (walk_of self)) }
+    /// Forgets the rule that ended last.
+    pub fn forget(&mut self, alloc: Global)
+        ensures { walk_of self.new ≡ walk_of self.old }
     {
-        if let ParserState::Prelude(head) = self.state {
-            self.end_statement(alloc, head)?;
+        empty(alloc, &mut self.ended_prelude);
+        empty(alloc, &mut self.ended_block);
+    }
+
+    /// The tokens end here.
+    pub fn finish(&mut self, alloc: Global) -> Result<(), NoMemory>
+        ensures { OnOk result (walk_of self.new ≡ walk.ended_at self.old.state (walk_of self.old)) }
+    {
+        match self.state {
+            ParserState::Prelude(head) => self.end_statement(alloc, head),
+            _ => Ok(()),
         }
-        Ok(self.rules)
+    }
+}
+
+/// Takes the tokens out of a list, which keeps its room unless it is large.
+fn empty(alloc: Global, list: &mut Vec<Token>)
+    ensures { list.new.items ≡ [] }
+{
+    if list.len() > ROOM_KEPT {
+        *list = Vec::new(alloc);
+    } else {
+        list.clear();
     }
 }
 
@@ -301,4 +409,25 @@ fn is_layer_name(name: &Text) -> bool
     ensures { result ≡ is_layer_name name.now }
 {
     eq_ascii_case(name.as_str(), "layer")
+}
+
+/// Whether it is the kind of `;`.
+fn is_semicolon(kind: TokenKind) -> bool
+    ensures { result ≡ is_semicolon (kind_of kind) }
+{
+    matches!(kind, TokenKind::Semicolon)
+}
+
+/// Whether it is the kind of `{`.
+fn is_open_curly(kind: TokenKind) -> bool
+    ensures { result ≡ is_open_curly (kind_of kind) }
+{
+    matches!(kind, TokenKind::OpenCurly)
+}
+
+/// Whether it is the kind of `}`.
+fn is_close_curly(kind: TokenKind) -> bool
+    ensures { result ≡ is_close_curly (kind_of kind) }
+{
+    matches!(kind, TokenKind::CloseCurly)
 }

@@ -2,15 +2,10 @@
 
 ghost use Rattle.std.specs.Prelude.{◌≡◌, IfOk};
 ghost use Rattle.std.specs.Str.{chars};
-ghost use Rattle.syntax_model.specs.Brackets.{closed};
-ghost use Rattle.syntax_model.specs.SheetRules.{rules_in, sheet_rules_in};
+ghost use Rattle.syntax_model.specs.SheetRules.{sheet_rules_in};
 ghost use Rattle.css_rules.specs.View.{edition_of, no_edition, rules_of};
-ghost use Rattle.css_rules.specs.Walk.{finished, start, steps};
 
-use crate::closed::close;
-use crate::rule_parser::RuleParser;
-use crate::{Rule, SheetEdition};
-use css_tokens::{Token, preprocess, tokens};
+use crate::{Rule, RuleReader, SheetEdition};
 use std::alloc::Global;
 use stylo_base::NoMemory;
 
@@ -36,37 +31,10 @@ pub fn edition_rules(
     ensures { IfOk result (λ rules. rules_of rules.items
         ≡ sheet_rules_in (edition_of edition) (chars text.now)) }
 {
-    let text = preprocess(alloc, text)?;
-    let list = tokens(alloc, text.as_str())?;
-    let rules = parse_rules(alloc, edition, list)?;
-    Ok(rules)
-}
-
-/// The rules of the tokens.
-fn parse_rules(
-    alloc: Global,
-    edition: SheetEdition,
-    mut list: Vec<Token>,
-) -> Result<Vec<Rule>, NoMemory>
-    ensures { IfOk result (λ rules. rules_of rules.items ≡ rules_in (edition_of edition) list.items) }
-{
-    close(alloc, &mut list)?;
-    let rules = parse_closed(alloc, edition, list)?;
-    Ok(rules)
-}
-
-/// What is found token by token.
-fn parse_closed(
-    alloc: Global,
-    edition: SheetEdition,
-    list: Vec<Token>,
-) -> Result<Vec<Rule>, NoMemory>
-    ensures { IfOk result (λ rules.
-        rules_of rules.items ≡ finished (steps (start (edition_of edition)) list.items)) }
-{
-    let mut parser = RuleParser::new(alloc, edition);
-    for token in list {
-        parser.take(alloc, token)?;
+    let mut reader = RuleReader::new(alloc, edition, text)?;
+    let mut rules = Vec::new(alloc);
+    while let Some(rule) = reader.next_rule(alloc)? {
+        rules.push(rule)?;
     }
-    parser.finish(alloc)
+    Ok(rules)
 }

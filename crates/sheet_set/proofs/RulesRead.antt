@@ -8,8 +8,8 @@ use Rattle.layer_model.specs.Name.{LayerName}
 use Rattle.syntax_model.specs.Token.{Token}
 use Rattle.syntax_model.specs.Rules.{Context, Rule, StyleBlock, style, layer}
 use Rattle.css_rules.specs.Reading.{Reading, context_in, kind_in, moved}
-use Rattle.css_rules.specs.declared.rule_reader.RuleKind.{RuleKind}
-use Rattle.css_rules.specs.declared.rule_reader.RuleKind.TheVariants.{Style, Layer}
+use Rattle.css_rules.specs.declared.rule.RuleKind.{RuleKind}
+use Rattle.css_rules.specs.declared.rule.RuleKind.TheVariants.{Style, Layer}
 use Rattle.sheet_model.specs.StyleRules.{style_rule_of}
 use Rattle.sheet_model.specs.Sources.{PlacedRule, all_placed}
 use Rattle.sheet_set.specs.Rules.{block_of, rule_count}

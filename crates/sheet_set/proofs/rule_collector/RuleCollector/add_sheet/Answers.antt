@@ -2,7 +2,7 @@ use Rattle.std.proofs.Common.{◌≡◌, ◌++◌, Some, filter_map, ap, sym, �
 use Rattle.std.specs.Prelude.{option_map}
 use Rattle.css_rules.specs.Reading.{kind_in}
 use Rattle.css_rules.specs.View.{context_of}
-use Rattle.css_rules.specs.declared.rule_reader.RuleKind.TheVariants.{Style, Layer}
+use Rattle.css_rules.specs.declared.rule.RuleKind.TheVariants.{Style, Layer}
 use Rattle.layer_order.specs.View.{declarations}
 use Rattle.syntax_model.specs.SheetRules.{sheet_rules_in}
 use Rattle.sheet_model.specs.StyleRules.{style_rules_in, layers_in}

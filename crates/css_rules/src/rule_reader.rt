@@ -1,0 +1,209 @@
+//! A reader of the rules of a sheet.
+
+ghost use Rattle.std.specs.Prelude.{◌≡◌, ◌∷◌, [], false, IfOk, List, MatchOption, None, OnOk, Some};
+ghost use Rattle.std.specs.Option.{option_map};
+ghost use Rattle.std.specs.Str.{chars};
+ghost use Rattle.syntax_model.specs.Brackets.{Bracket, closer};
+ghost use Rattle.syntax_model.specs.Rules as model;
+ghost use Rattle.syntax_model.specs.SheetRules.{sheet_rules_in};
+ghost use Rattle.syntax_model.specs.Token as token;
+ghost use Rattle.css_rules.specs.Left.{IsAtEnd, IsReadOn, rules_left};
+ghost use Rattle.css_rules.specs.Parser.{walk_after, walk_of};
+ghost use Rattle.css_rules.specs.Reading.{context_in, kind_in, moved, unread};
+ghost use Rattle.css_rules.specs.View.{context_of, edition_of, rule_of, style_of};
+ghost use Rattle.css_rules.specs.Walk.{step};
+
+use crate::rule_parser::RuleParser;
+use crate::{Context, Rule, RuleKind, SheetEdition, StyleBlock};
+use css_tokens::{Token, TokenList, TokenReader, preprocess};
+use std::alloc::Global;
+use std::marker::Model;
+use std::mem;
+use stylo_base::NoMemory;
+
+/// Reads the rules of a sheet's text one by one, and lends what each is of from lists that are used again. A qualified
+/// rule is kept where it has a block, and its prelude has brackets nested at most 64 deep; an `@layer` is dropped whole
+/// where one of its names is no name, or has more than 64 parts with those of the layers that it is in. Contracts see
+/// the rule that was read last and those that are left.
+#[derive(Drop)]
+pub struct RuleReader {
+    tokens: TokenReader,
+    parser: RuleParser,
+    kind: Option<RuleKind>,
+    layer: Context,
+}
+
+impl Model for RuleReader {
+    ghost use Rattle.css_rules.specs.Reader.{reading_of};
+    ghost use Rattle.css_rules.specs.Reading as reading;
+
+    ghost Value = { reading.Reading };
+
+    ghost view = { λ r. reading_of r.tokens r.parser r.kind r.layer };
+}
+
+impl RuleReader {
+    /// Before the first rule of a text.
+    pub fn new(alloc: Global, edition: SheetEdition, text: &str) -> Result<RuleReader, NoMemory>
+        ensures { IfOk result (λ reader. reader ≡ unread (sheet_rules_in (edition_of edition) (chars text.now))) }
+    {
+        let text = preprocess(alloc, text)?;
+        let tokens = TokenReader::new(alloc, text.as_str())?;
+        Ok(RuleReader {
+            tokens,
+            parser: RuleParser::new(alloc, edition),
+            kind: None,
+            layer: Context::none(),
+        })
+    }
+
+    /// Reads the next rule, and says which kind it is. After an error nothing is known of the rules that are left.
+    pub fn next(&mut self, alloc: Global) -> Result<Option<RuleKind>, NoMemory>
+        ensures rule { OnOk result (self.new ≡ moved self.old.left) }
+        ensures kind { IfOk result (λ kind. kind ≡ option_map kind_in self.new.current) }
+    {
+        self.parser.forget(alloc);
+        if find(alloc, &mut self.tokens, &mut self.parser)? {
+            self.kind = Some(RuleKind::Style);
+            return Ok(self.kind);
+        }
+        let Some(layer) = self.parser.layers.pop_front() else {
+            self.kind = None;
+            return Ok(None);
+        };
+        self.layer = layer;
+        self.kind = Some(RuleKind::Layer);
+        Ok(self.kind)
+    }
+
+    /// What is before the block of the qualified rule that was read last.
+    pub fn prelude(&self) -> &[Token]
+        ensures { (rule : model.StyleBlock) → self.now.current ≡ Some (model.style rule) → result.now ≡ rule.prelude }
+    {
+        self.parser.ended_prelude.as_slice()
+    }
+
+    /// What is in the block of the qualified rule that was read last, with the closers of what the text leaves open.
+    pub fn block(&self) -> &[Token]
+        ensures { (rule : model.StyleBlock) → self.now.current ≡ Some (model.style rule) → result.now ≡ rule.block }
+    {
+        self.parser.ended_block.as_slice()
+    }
+
+    /// What the rule that was read last is in; or the layer that it declares.
+    pub fn context(&self) -> &Context
+        ensures { (rule : model.Rule) → self.now.current ≡ Some rule → context_of result.now ≡ context_in rule }
+    {
+        match self.kind {
+            Some(RuleKind::Layer) => &self.layer,
+            _ => &self.parser.context,
+        }
+    }
+
+    /// Reads the next rule, and gives it away.
+    pub(crate) fn next_rule(&mut self, alloc: Global) -> Result<Option<Rule>, NoMemory>
+        ensures rule { IfOk result (λ rule. option_map rule_of rule ≡ (moved self.old.left).current) }
+        ensures left { OnOk result (self.new.left ≡ (moved self.old.left).left) }
+    {
+        match self.next(alloc)? {
+            Some(RuleKind::Style) => Ok(Some(Rule::Style(self.take_style(alloc)?))),
+            Some(RuleKind::Layer) => Ok(Some(Rule::Layer(self.context().share()?))),
+            None => Ok(None),
+        }
+    }
+
+    /// The qualified rule that was read last, with its lists.
+    fn take_style(&mut self, alloc: Global) -> Result<StyleBlock, NoMemory>
+        ensures rule { IfOk result (λ style. (rule : model.StyleBlock) →
+            self.old.current ≡ Some (model.style rule) → style_of style ≡ rule) }
+        ensures left { OnOk result (self.new.left ≡ self.old.left) }
+    {
+        let prelude = mem::replace(&mut self.parser.ended_prelude, Vec::new(alloc));
+        let block = mem::replace(&mut self.parser.ended_block, Vec::new(alloc));
+        let context = self.parser.context.share()?;
+        Ok(StyleBlock {
+            prelude: TokenList::of_vec(prelude),
+            block: TokenList::of_vec(block),
+            context,
+        })
+    }
+}
+
+/// Reads on up to a rule, and says whether it is a qualified one, which ended then. If not, layers were declared, or
+/// all was read.
+fn find(alloc: Global, tokens: &mut TokenReader, parser: &mut RuleParser) -> Result<bool, NoMemory>
+    ensures rules { IfOk result (λ ended.
+        rules_left (walk_of parser.old) tokens.old ≡ rules_left (walk_after ended parser.new) tokens.new) }
+    ensures end { IfOk result (λ ended. ended ≡ false → parser.new.layers.items ≡ [] →
+        rules_left (walk_of parser.new) tokens.new ≡ []) }
+{
+    while parser.layers.is_empty() {
+        let Some(ended) = read_on(alloc, tokens, parser)? else {
+            parser.finish(alloc)?;
+            return Ok(false);
+        };
+        if ended {
+            return Ok(true);
+        }
+    }
+    Ok(false)
+}
+
+/// Reads one token of the text, or the closer of what its end leaves open in a rule, and says whether a qualified rule
+/// ended with it. Nothing, if all was read.
+fn read_on(
+    alloc: Global,
+    tokens: &mut TokenReader,
+    parser: &mut RuleParser,
+) -> Result<Option<bool>, NoMemory>
+    requires { parser.old.layers.items ≡ [] }
+    ensures on { IfOk result (λ read. MatchOption read (IsAtEnd (walk_of parser.old) tokens.old tokens.new)
+        (λ ended. IsReadOn (walk_of parser.old) tokens.old (walk_after ended parser.new) tokens.new)) }
+    ensures end { IfOk result (λ read. read ≡ None → parser.new ≡ parser.old) }
+{
+    if let Some(ended) = read_token(alloc, tokens, parser)? {
+        return Ok(Some(ended));
+    }
+    read_closer(alloc, parser)
+}
+
+/// Reads one token of the text.
+fn read_token(
+    alloc: Global,
+    tokens: &mut TokenReader,
+    parser: &mut RuleParser,
+) -> Result<Option<bool>, NoMemory>
+    requires { parser.old.layers.items ≡ [] }
+    ensures { IfOk result (λ read. MatchOption read
+        ((tokens.old ≡ []) × (tokens.new ≡ []) × (parser.new ≡ parser.old))
+        (λ ended. (first : token.Token) × (tokens.old ≡ first ∷ tokens.new)
+        × (walk_after ended parser.new ≡ step (walk_of parser.old) first))) }
+{
+    if parser.is_skipping() {
+        let Some(kind) = tokens.pass() else {
+            return Ok(None);
+        };
+        parser.skip(alloc, kind)?;
+        return Ok(Some(false));
+    }
+    let Some(token) = tokens.next(alloc)? else {
+        return Ok(None);
+    };
+    let ended = parser.take(alloc, token)?;
+    Ok(Some(ended))
+}
+
+/// Reads the closer of the innermost bracket that is open in a rule.
+fn read_closer(alloc: Global, parser: &mut RuleParser) -> Result<Option<bool>, NoMemory>
+    requires { parser.old.layers.items ≡ [] }
+    ensures { IfOk result (λ read. MatchOption read
+        ((parser.old.pending ≡ []) × (parser.new ≡ parser.old))
+        (λ ended. (innermost : Bracket) × (outer : List Bracket) × (parser.old.pending ≡ innermost ∷ outer)
+        × (walk_after ended parser.new ≡ step (walk_of parser.old) (closer innermost)))) }
+{
+    let Some(bracket) = parser.pending.innermost() else {
+        return Ok(None);
+    };
+    let ended = parser.take(alloc, Token::closer(alloc, bracket))?;
+    Ok(Some(ended))
+}
