@@ -9,4 +9,5 @@ pub mod LeftLemmas
 pub mod ReadLemmas
 pub mod ReaderLemmas
 pub mod RunLemmas
+pub mod ShallowLemmas
 pub mod WalkLemmas
