@@ -32,7 +32,8 @@ IsSoundAt Dropped pending = is_nil pending ≡ false
 IsSoundAt state pending = Unit {0}
 
 -- brackets below others stay, if they are not closed
-without_over : (bracket : Bracket) (pending below : List Bracket) (o : Option Bracket) → without_closed (bracket ∷ (pending ++ below)) o ≡ without_closed (bracket ∷ pending) o ++ below
+without_over : (bracket : Bracket) (pending below : List Bracket) (o : Option Bracket)
+    → without_closed (bracket ∷ (pending ++ below)) o ≡ without_closed (bracket ∷ pending) o ++ below
 without_over bracket pending below None = refl
 without_over bracket pending below (Some closed) =
     ⊎_elim
@@ -40,22 +41,26 @@ without_over bracket pending below (Some closed) =
     (λ (other : same_bracket bracket closed ≡ false). rw other refl)
     (cases_Bool (same_bracket bracket closed))
 
-with_over : (o : Option Bracket) (pending below : List Bracket) → with_opened o (pending ++ below) ≡ with_opened o pending ++ below
-with_over None pending below = refl
-with_over (Some bracket) pending below = refl
+with_layers : (o : Option Bracket) (pending : List Bracket) (outer : List Context)
+    → with_opened o (pending ++ curlies outer) ≡ with_opened o pending ++ curlies outer
+with_layers None pending outer = refl
+with_layers (Some bracket) pending outer = refl
 
-past_layers : (kind : TokenKind) (below : List Bracket) → is_close_curly kind ≡ false → open_past_kind (curly ∷ below) kind ≡ open_past_kind [] kind ++ curly ∷ below
+past_layers : (kind : TokenKind) (below : List Bracket) → is_close_curly kind ≡ false
+    → open_past_kind (curly ∷ below) kind ≡ open_past_kind [] kind ++ curly ∷ below
 past_layers close_curly below test = absurd (true≢false test)
 past_layers kind below test = refl
 
 past_over : (pending : List Bracket) (outer : List Context) (kind : TokenKind) → (not (is_nil outer) && (is_nil pending && is_close_curly kind)) ≡ false
     → open_past_kind (pending ++ curlies outer) kind ≡ open_past_kind pending kind ++ curlies outer
 past_over (bracket ∷ pending) outer kind stays =
-    ap (with_opened _) (without_over bracket pending (curlies outer) _) ∙ with_over _ (without_closed (bracket ∷ pending) _) (curlies outer)
+    ap (with_opened _) (without_over bracket pending (curlies outer) _)
+    ∙ with_layers _ (without_closed (bracket ∷ pending) _) outer
 past_over [] [] kind stays = sym (append-nil (open_past_kind [] kind))
 past_over [] (context ∷ outer) kind stays = past_layers kind (curlies outer) stays
 
-past_close : (pending below : List Bracket) (kind : TokenKind) → (is_nil pending && is_close_curly kind) ≡ true → open_past_kind (pending ++ curly ∷ below) kind ≡ pending ++ below
+past_close : (pending below : List Bracket) (kind : TokenKind) → (is_nil pending && is_close_curly kind) ≡ true
+    → open_past_kind (pending ++ curly ∷ below) kind ≡ pending ++ below
 past_close [] below close_curly test = refl
 past_close [] below kind test = cc
 past_close (bracket ∷ pending) below kind test = cc
@@ -84,7 +89,8 @@ opens_some : (kind : TokenKind) (pending : List Bracket) → is_open_curly kind 
 opens_some open_curly pending test = refl
 opens_some kind pending test = cc
 
-opens_one : (kind : TokenKind) (pending below : List Bracket) → is_nil pending ≡ true → is_open_curly kind ≡ true → open_past_kind (pending ++ below) kind ≡ pending ++ curly ∷ below
+opens_one : (kind : TokenKind) (pending below : List Bracket) → is_nil pending ≡ true → is_open_curly kind ≡ true
+    → open_past_kind (pending ++ below) kind ≡ pending ++ curly ∷ below
 opens_one open_curly [] below none test = refl
 opens_one kind (bracket ∷ pending) below none test = cc
 opens_one kind [] below none test = cc
@@ -105,19 +111,23 @@ leaves : (walk : Walk) (outer : List Context) (kind : TokenKind) → (not (is_ni
 leaves walk [] kind test = cc
 leaves walk (context ∷ outer) kind test = record { seen = past_close walk.pending (curlies outer) kind test; sound = tt }
 
-by_test : (walk : Walk) (kind : TokenKind) (b : Bool) (x y : Walk) → (b ≡ true → Keeps walk kind x) → (b ≡ false → Keeps walk kind y) → Keeps walk kind (if b then x else y)
+by_test : (walk : Walk) (kind : TokenKind) (b : Bool) (x y : Walk) → (b ≡ true → Keeps walk kind x) → (b ≡ false → Keeps walk kind y)
+    → Keeps walk kind (if b then x else y)
 by_test walk kind true x y first second = first refl
 by_test walk kind false x y first second = second refl
 
-goes : (walk : Walk) (kind : TokenKind) (state : ParserState) → ends_layer walk kind ≡ false → IsSoundAt state (open_past_kind walk.pending kind) → Keeps walk kind (past_kind state walk kind)
+goes : (walk : Walk) (kind : TokenKind) (state : ParserState) → ends_layer walk kind ≡ false
+    → IsSoundAt state (open_past_kind walk.pending kind) → Keeps walk kind (past_kind state walk kind)
 goes walk kind state stays sound = record { seen = past_over walk.pending walk.outer kind stays; sound = sound }
 
-enters : (walk : Walk) (kind : TokenKind) (o : Option Context) → ends_layer walk kind ≡ false → is_nil walk.pending ≡ true → is_open_curly kind ≡ true → Keeps walk kind (entered o walk kind)
+enters : (walk : Walk) (kind : TokenKind) (o : Option Context) → ends_layer walk kind ≡ false
+    → is_nil walk.pending ≡ true → is_open_curly kind ≡ true → Keeps walk kind (entered o walk kind)
 enters walk kind None stays none test = goes walk kind Dropped stays (opens_some kind walk.pending test)
 enters walk kind (Some inner) stays none test =
     record { seen = opens_one kind walk.pending (curlies walk.outer) none test; sound = tt }
 
-opens_block : (walk : Walk) (kind : TokenKind) (head : Head) → ends_layer walk kind ≡ false → is_nil walk.pending ≡ true → is_open_curly kind ≡ true → Keeps walk kind (opened head walk kind)
+opens_block : (walk : Walk) (kind : TokenKind) (head : Head) → ends_layer walk kind ≡ false
+    → is_nil walk.pending ≡ true → is_open_curly kind ≡ true → Keeps walk kind (opened head walk kind)
 opens_block walk kind Qualified stays none test = goes walk kind Block stays (opens_some kind walk.pending test)
 opens_block walk kind Layer stays none test =
     let layer : Option Context = block_layer walk.edition walk.anonymous walk.context walk.prelude in
@@ -125,12 +135,14 @@ opens_block walk kind Layer stays none test =
 opens_block walk kind Other stays none test = goes walk kind Dropped stays (opens_some kind walk.pending test)
 
 -- what is in a block ends no layer
-stays_inside : (outer : List Context) (pending : List Bracket) (kind : TokenKind) → is_nil pending ≡ false → (not (is_nil outer) && (is_nil pending && is_close_curly kind)) ≡ false
+stays_inside : (outer : List Context) (pending : List Bracket) (kind : TokenKind) → is_nil pending ≡ false
+    → (not (is_nil outer) && (is_nil pending && is_close_curly kind)) ≡ false
 stays_inside outer [] kind some = cc
 stays_inside [] (bracket ∷ pending) kind some = refl
 stays_inside (context ∷ outer) (bracket ∷ pending) kind some = refl
 
-kept_at : (state : ParserState) (walk : Walk) (token : Token) → IsSoundAt state walk.pending → Keeps walk token.kind (step_at state (record walk { state = state }) token)
+kept_at : (state : ParserState) (walk : Walk) (token : Token) → IsSoundAt state walk.pending
+    → Keeps walk token.kind (step_at state (record walk { state = state }) token)
 kept_at Between walk token sound =
     let kind : TokenKind = token.kind in
     by_test walk kind (ends_layer walk kind) _ _
@@ -186,7 +198,8 @@ pub record IsPopped (outer : List Context) (pending : List Bracket) (next : Walk
   pub pending_is : next.pending ≡ pending
   pub outer_is : next.outer ≡ outer
 
-pops_at : (state : ParserState) (walk : Walk) (bracket : Bracket) (pending : List Bracket) (outer : List Context) → IsPopped outer pending (step_at state (record walk { pending = bracket ∷ pending; outer = outer }) (closer bracket))
+pops_at : (state : ParserState) (walk : Walk) (bracket : Bracket) (pending : List Bracket) (outer : List Context)
+    → IsPopped outer pending (step_at state (record walk { pending = bracket ∷ pending; outer = outer }) (closer bracket))
 pops_at Between walk square pending [] = record { pending_is = refl; outer_is = refl }
 pops_at Between walk round pending [] = record { pending_is = refl; outer_is = refl }
 pops_at Between walk curly pending [] = record { pending_is = refl; outer_is = refl }
@@ -212,7 +225,8 @@ pops_at Dropped walk square (next ∷ pending) outer = record { pending_is = ref
 pops_at Dropped walk round (next ∷ pending) outer = record { pending_is = refl; outer_is = refl }
 pops_at Dropped walk curly (next ∷ pending) outer = record { pending_is = refl; outer_is = refl }
 
-pub pops : (walk : Walk) (bracket : Bracket) (pending : List Bracket) → walk.pending ≡ bracket ∷ pending → IsPopped walk.outer pending (step walk (closer bracket))
+pub pops : (walk : Walk) (bracket : Bracket) (pending : List Bracket) → walk.pending ≡ bracket ∷ pending
+    → IsPopped walk.outer pending (step walk (closer bracket))
 pops walk bracket pending is =
     let same : record walk { pending = bracket ∷ pending } ≡ walk = ap (λ opens. record walk { pending = opens }) (sym is) in
     subst (λ w. IsPopped walk.outer pending (step w (closer bracket))) same (pops_at walk.state walk bracket pending walk.outer)

@@ -39,7 +39,8 @@ token_read walk next first left rest is_left is_next =
     rw (is_left, is_next) record { rules = refl; fewer = omega arith }
 
 -- a closer was read
-pub closer_read : (walk next : Walk) (bracket : Bracket) (outer : List Bracket) (left rest : List Token) → left ≡ [] → rest ≡ [] → walk.pending ≡ bracket ∷ outer → next ≡ step walk (closer bracket) → IsReadOn walk left next rest
+pub closer_read : (walk next : Walk) (bracket : Bracket) (outer : List Bracket) (left rest : List Token) → left ≡ []
+    → rest ≡ [] → walk.pending ≡ bracket ∷ outer → next ≡ step walk (closer bracket) → IsReadOn walk left next rest
 closer_read walk next bracket outer left rest none none_after is is_next =
     let popped = pops walk bracket outer is in
     let same : finished (steps walk (closers walk.pending)) ≡ finished (steps next (closers next.pending)) =
@@ -51,7 +52,8 @@ closer_read walk next bracket outer left rest none none_after is is_next =
     rw (none, none_after) record { rules = same; fewer = omega (arith, fewer) }
 
 -- no rule ended
-pub goes_on : (ended : Bool) (parser : RuleParser) (walk : Walk) (left rest : List Token) → IsReadOn walk left (walk_after ended parser) rest → ended ≡ false → IsReadOn walk left (walk_of parser) rest
+pub goes_on : (ended : Bool) (parser : RuleParser) (walk : Walk) (left rest : List Token)
+    → IsReadOn walk left (walk_after ended parser) rest → ended ≡ false → IsReadOn walk left (walk_of parser) rest
 goes_on true parser walk left rest read test = cc
 goes_on false parser walk left rest read test = read
 
@@ -68,7 +70,8 @@ pending_ended (Prelude head) walk = refl
 pending_ended Block walk = refl
 pending_ended Dropped walk = refl
 
-rules_ended : (state : ParserState) (walk : Walk) → finished (ended_at state (record walk { state = state })) ≡ (ended_at state (record walk { state = state })).rules
+rules_ended : (state : ParserState) (walk : Walk)
+    → finished (ended_at state (record walk { state = state })) ≡ (ended_at state (record walk { state = state })).rules
 rules_ended Between walk = refl
 rules_ended (Prelude head) walk = refl
 rules_ended Block walk = refl
@@ -93,7 +96,8 @@ none_left walk next none is empty =
     ∙ (ap (λ (w : Walk). w.rules) (sym is) ∙ empty)))
 
 -- the reading after a qualified rule, after a layer, and at the end
-pub to_style : (parser : RuleParser) (tokens : List Token) (rules : List Rule) (ended : Bool) → ended ≡ true → rules ≡ rules_left (walk_after ended parser) tokens
+pub to_style : (parser : RuleParser) (tokens : List Token) (rules : List Rule) (ended : Bool) → ended ≡ true
+    → rules ≡ rules_left (walk_after ended parser) tokens
     → moved rules ≡ record { current = Some (ended_of parser); left = rules_left (walk_of parser) tokens }
 to_style parser tokens rules true test is = ap moved (is ∙ left_after (ended_of parser ∷ []) (walk_of parser) tokens)
 to_style parser tokens rules false test is = cc
@@ -101,7 +105,8 @@ to_style parser tokens rules false test is = cc
 abbrev with_layers : List Context → RuleParser → Walk
 with_layers layers parser = record (walk_of parser) { rules = layers_of layers }
 
-pub to_layer : (parser : RuleParser) (layers : List Context) (declared : Context) (tokens : List Token) (rules : List Rule) (ended : Bool) → ended ≡ false → parser.layers.items ≡ declared ∷ layers → rules ≡ rules_left (walk_after ended parser) tokens
+pub to_layer : (parser : RuleParser) (layers : List Context) (declared : Context) (tokens : List Token) (rules : List Rule) (ended : Bool)
+    → ended ≡ false → parser.layers.items ≡ declared ∷ layers → rules ≡ rules_left (walk_after ended parser) tokens
     → moved rules ≡ record { current = Some (layer (context_of declared)); left = rules_left (with_layers layers parser) tokens }
 to_layer parser layers declared tokens rules true test first is = cc
 to_layer parser layers declared tokens rules false test first is =
@@ -110,7 +115,8 @@ to_layer parser layers declared tokens rules false test first is =
     ∙ (ap (λ items. rules_left (with_layers items parser) tokens) first
     ∙ left_after (layer (context_of declared) ∷ []) (with_layers layers parser) tokens))
 
-pub to_end : (parser : RuleParser) (layers : List Context) (tokens : List Token) (rules : List Rule) (ended : Bool) → ended ≡ false → parser.layers.items ≡ [] → layers ≡ [] → rules ≡ rules_left (walk_after ended parser) tokens
+pub to_end : (parser : RuleParser) (layers : List Context) (tokens : List Token) (rules : List Rule) (ended : Bool)
+    → ended ≡ false → parser.layers.items ≡ [] → layers ≡ [] → rules ≡ rules_left (walk_after ended parser) tokens
     → (ended ≡ false → parser.layers.items ≡ [] → rules_left (walk_of parser) tokens ≡ [])
     → moved rules ≡ record { current = None; left = rules_left (with_layers layers parser) tokens }
 to_end parser layers tokens rules true test empty none is end = cc
@@ -121,24 +127,29 @@ to_end parser layers tokens rules false test empty none is end =
     ∙ ap (λ items. record { current = None; left = rules_left (with_layers items parser) tokens }) (empty ∙ sym none))
 
 -- what the rule that was read last is
-pub style_is : (kind : Option RuleKind) (parser : RuleParser) (declared : Context) (rule : StyleBlock) → current_of kind parser declared ≡ Some (style rule) → ended_of parser ≡ style rule
+pub style_is : (kind : Option RuleKind) (parser : RuleParser) (declared : Context) (rule : StyleBlock)
+    → current_of kind parser declared ≡ Some (style rule) → ended_of parser ≡ style rule
 style_is None parser declared rule is = cc
 style_is (Some variant.Style) parser declared rule is = cc
 style_is (Some variant.Layer) parser declared rule is = cc
 
 -- a layer, by its kind
-pub is_layer : (current : Option Rule) (context : model.Context) → option_map kind_in current ≡ Some variant.Layer → ((rule : Rule) → current ≡ Some rule → context ≡ context_in rule) → Some (layer context) ≡ current
+pub is_layer : (current : Option Rule) (context : model.Context) → option_map kind_in current ≡ Some variant.Layer
+    → ((rule : Rule) → current ≡ Some rule → context ≡ context_in rule) → Some (layer context) ≡ current
 is_layer None context kind is = cc
 is_layer (Some (style rule)) context kind is = cc
 is_layer (Some (layer declared)) context kind is = ap (λ found. Some (layer found)) (is (layer declared) refl)
 
 -- where no rule is left, those that were found are all
-pub none_more : (rule : Option code.Rule) (found left rules : List Rule) → rule ≡ None → option_map rule_of rule ≡ (moved left).current → found ++ left ≡ rules → found ≡ rules
+pub none_more : (rule : Option code.Rule) (found left rules : List Rule) → rule ≡ None
+    → option_map rule_of rule ≡ (moved left).current → found ++ left ≡ rules → found ≡ rules
 none_more None found [] rules none is all = sym (append-nil found) ∙ all
 none_more None found (next ∷ left) rules none is all = cc
 none_more (Some rule) found left rules none is all = cc
 
 -- a token that begins a qualified rule
-pub begins_rule : (walk : Walk) (token : Token) → ends_layer walk token.kind ≡ false → is_between_rules (is_nil walk.outer) token.kind ≡ false → is_at_keyword token.kind ≡ false → is_open_curly token.kind ≡ false
+pub begins_rule : (walk : Walk) (token : Token) → ends_layer walk token.kind ≡ false
+    → is_between_rules (is_nil walk.outer) token.kind ≡ false → is_at_keyword token.kind ≡ false
+    → is_open_curly token.kind ≡ false
     → keeping Qualified (past (Prelude Qualified) walk token) token ≡ begun walk token
 begins_rule walk token a b c d = rw (a, b, c, d) refl

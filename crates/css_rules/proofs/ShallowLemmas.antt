@@ -1,5 +1,5 @@
 -- Few tokens open few brackets.
-use Rattle.std.proofs.Common.{◌≡◌, ℕ, suc, ◌+◌, ◌≤◌, List, [], ◌∷◌, length, Bool, true, false, Option, Some, None}
+use Rattle.std.proofs.Common.{◌≡◌, suc, ◌+◌, ◌≤◌, List, [], ◌∷◌, length, true, false, Option, Some, None}
 use Rattle.std.proofs.Common.{refl, arith}
 use Rattle.std.specs.Prelude.{if◌then◌else◌}
 use Rattle.std.proofs.lemmas.Bool.{le-leb}
@@ -13,7 +13,7 @@ no_more_closed pending None = omega arith
 no_more_closed [] (Some bracket) = omega arith
 no_more_closed (innermost ∷ pending) (Some bracket) =
     elim (same_bracket innermost bracket)
-        as (λ same. length (if same then pending else innermost ∷ pending) ≤ suc (length pending)) [
+    as (λ same. length (if same then pending else innermost ∷ pending) ≤ suc (length pending)) [
       | true ↦ omega arith
       | false ↦ omega arith
     ]
@@ -39,4 +39,4 @@ shallow_within pending (token ∷ tokens) few =
 
 -- no more tokens than the limit are shallow
 pub few_are_shallow : (tokens : List Token) → length tokens ≤ nesting_limit → is_shallow tokens ≡ true
-few_are_shallow tokens few = shallow_within [] tokens few
+few_are_shallow tokens few = shallow_within [] tokens (omega arith)

@@ -1,4 +1,6 @@
-use css_rules::{Rule, SheetEdition, declaration_list, edition_rules, sheet_rules};
+use css_rules::{
+    Rule, RuleKind, RuleReader, SheetEdition, declaration_list, edition_rules, sheet_rules,
+};
 use css_tokens::{Token, name_of, preprocess, tokens};
 use std::alloc::Global;
 use std::test::Fail;
@@ -54,6 +56,39 @@ fn two_layers(rt: HostRuntime) -> Result<(), Fail> {
     let rules = edition_rules(rt.alloc(), edition, "@layer a.b,c;@layer c{p{}}q{}")?;
     let text = shown(rt.alloc(), rules.as_slice())?;
     assert_eq!(rt; text.as_str(), "@2 @1 @1 1 p;< > 0 q;< > ");
+    Ok(())
+}
+
+/// What a reader says of a text with three rules and layers.
+fn one_by_one(alloc: Global, text: &str) -> Result<String, NoMemory> {
+    let edition = SheetEdition {
+        sheet: 1,
+        edition: 0,
+    };
+    let mut reader = RuleReader::new(alloc, edition, text)?;
+    let mut out = String::new(alloc);
+    for _ in 0..4 {
+        match reader.next(alloc)? {
+            Some(RuleKind::Style) => {
+                push_shown(&mut out, reader.prelude())?;
+                out.push_str("< ")?;
+                push_shown(&mut out, reader.block())?;
+                out.push_str("> ")?;
+            }
+            Some(RuleKind::Layer) => write!(out, "@{} ", reader.context().layer.len())?,
+            None => out.push_str("end")?,
+        }
+    }
+    Ok(out)
+}
+
+#[test]
+fn rules_one_by_one(rt: HostRuntime) -> Result<(), Fail> {
+    let text = one_by_one(rt.alloc(), "p{a}@media{q{}}@layer a.b;q{(c")?;
+    assert_eq!(rt;
+        text.as_str(),
+        "p;< a;> @2 q;< OpenRound;c;CloseRound;> end"
+    );
     Ok(())
 }
 

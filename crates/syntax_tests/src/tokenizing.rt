@@ -1,4 +1,4 @@
-use css_tokens::{Token, TokenList, name_of, preprocess, tokens, value_of};
+use css_tokens::{Token, TokenKind, TokenList, TokenReader, name_of, preprocess, tokens, value_of};
 use std::alloc::Global;
 use std::test::Fail;
 use stylo_base::NoMemory;
@@ -51,5 +51,24 @@ fn tokens_of(alloc: Global, text: &str) -> Result<Vec<Token>, NoMemory> {
 fn copies(rt: HostRuntime) -> Result<(), Fail> {
     let same = copies_are_same(rt.alloc(), "p.a #b1")?;
     assert!(rt; same);
+    Ok(())
+}
+
+/// Whether a reader passes `:`, reads `b` and is at its end then.
+fn reads_after_a_colon(alloc: Global) -> Result<bool, NoMemory> {
+    let text = preprocess(alloc, ":/**/b")?;
+    let mut reader = TokenReader::new(alloc, text.as_str())?;
+    let is_colon = reader.pass() == Some(TokenKind::Colon);
+    let Some(token) = reader.next(alloc)? else {
+        return Ok(false);
+    };
+    let is_b = name_of(&token).as_str() == "b";
+    Ok(is_colon && is_b && reader.pass().is_none())
+}
+
+#[test]
+fn tokens_one_by_one(rt: HostRuntime) -> Result<(), Fail> {
+    let reads = reads_after_a_colon(rt.alloc())?;
+    assert!(rt; reads);
     Ok(())
 }
