@@ -1,8 +1,9 @@
-use Rattle.std.proofs.Common.{◌≡◌, ℕ, zero, suc, true, List, [], ◌∷◌, ◌++◌, encode_utf8, encode_utf8_all, refl, sym, ap, ◌∙◌, arith, append-nil}
+use Rattle.std.proofs.Common.{◌≡◌, ℕ, zero, suc, true, List, [], ◌∷◌, ◌++◌, encode_utf8, encode_utf8_all, refl, sym, ap, ◌∙◌, subst, arith, append-nil}
 use Rattle.std.specs.Char.{IsScalar}
 use Rattle.std.proofs.lemmas.Bool.{and_from}
 use Rattle.std.specs.Str.{chars, bytes_eq, IsUtf8, IsAscii}
-use Rattle.std.proofs.lemmas.Str.{chars-IsAscii, chars-append, chars-encodes, encodes-chars}
+use Rattle.std.proofs.lemmas.Grind.{merely}
+use Rattle.std.proofs.lemmas.Str.{IsUtf8-append, IsUtf8-encode, IsUtf8-had, IsUtf8-nil, chars-IsAscii, chars-append, chars-encodes, chars-nil, encodes-chars}
 use Rattle.std.proofs.lemmas.Bool.Decides.{nat_tests, same_from_decides}
 use Rattle.std.proofs.lemmas.Slice.Eq.{bytes_eq-Decides}
 use Rattle.stylo_base.specs.Ascii.{is_all_ascii}
@@ -39,3 +40,27 @@ same_test a b u v =
 pub chars_push_one : (old new now : List ℕ) (c : ℕ) → IsScalar c → IsUtf8 old → new ≡ old ++ encode_utf8 c → chars old ≡ now → chars new ≡ now ++ c ∷ []
 chars_push_one old new now c scalar u e v =
     chars_push old new (encode_utf8 c) now u e v ∙ ap (λ cs. now ++ cs) (ap chars (sym (append-nil (encode_utf8 c))) ∙ chars-encodes (c ∷ []) (and_from _ true scalar refl))
+
+-- no bytes have no characters
+pub chars_none : (bytes : List ℕ) → bytes ≡ [] → chars bytes ≡ []
+chars_none bytes e = ap chars e ∙ chars-nil
+
+-- no bytes are UTF-8
+pub utf8_none : (bytes : List ℕ) → bytes ≡ [] → ∥ IsUtf8 bytes ∥₁
+utf8_none bytes e = merely (subst IsUtf8 (sym e) IsUtf8-nil)
+
+-- and so are the bytes of a text
+pub utf8_copied : (bytes text : List ℕ) → bytes ≡ text → IsUtf8 text → ∥ IsUtf8 bytes ∥₁
+utf8_copied bytes text e u = merely (subst IsUtf8 (sym e) u)
+
+-- a text that stays
+pub utf8_same : (old new : List ℕ) → ∥ IsUtf8 old ∥₁ → new ≡ old → ∥ IsUtf8 new ∥₁
+utf8_same old new u e = merely (subst IsUtf8 (sym e) (IsUtf8-had old u))
+
+-- two texts in a row
+pub utf8_push : (old new text : List ℕ) → ∥ IsUtf8 old ∥₁ → IsUtf8 text → new ≡ old ++ text → ∥ IsUtf8 new ∥₁
+utf8_push old new text u v e = merely (subst IsUtf8 (sym e) (IsUtf8-append old text (IsUtf8-had old u) v))
+
+-- a text and a character
+pub utf8_push_one : (old new : List ℕ) (c : ℕ) → ∥ IsUtf8 old ∥₁ → IsScalar c → new ≡ old ++ encode_utf8 c → ∥ IsUtf8 new ∥₁
+utf8_push_one old new c u scalar e = utf8_push old new (encode_utf8 c) u (IsUtf8-encode c scalar) e

@@ -4,3 +4,4 @@ pub mod KindName
 pub mod NameKey
 pub mod NameList
 pub mod StateView
+pub mod TextForm

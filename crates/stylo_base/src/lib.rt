@@ -17,6 +17,7 @@ mod refusal;
 mod specificity;
 mod state;
 mod text;
+mod text_form;
 
 pub use ascii_case::eq_ascii_case;
 pub use atom::Atom;

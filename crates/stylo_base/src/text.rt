@@ -1,4 +1,5 @@
-//! A text that contracts see as the list of its characters.
+//! A text that contracts see as the list of its characters. A short one is in the value itself, and takes
+//! no memory.
 
 ghost use Rattle.std.specs.Prelude.{◌≡◌, ◌++◌, ◌↔◌, ◌∷◌, [], IfOk, IsTrue, OnErr, OnOk, length, encode_utf8_all, decimal, true};
 ghost use Rattle.std.specs.Str.{chars};
@@ -6,6 +7,7 @@ ghost use Rattle.std.specs.String.{string_bytes};
 ghost use Rattle.stylo_base.specs.Ascii.{is_all_ascii};
 
 use crate::NoMemory;
+use crate::text_form::TextForm;
 use itoa::Buffer;
 use std::alloc::Global;
 use std::marker::Model;
@@ -13,27 +15,38 @@ use std::marker::Model;
 /// A text. Contracts see the list of its characters, each by its number.
 #[derive(Debug, Drop)]
 pub struct Text {
-    inner: String,
+    form: TextForm,
 }
 
 impl Model for Text {
     ghost use Rattle.std.specs.Prelude.{List, ℕ};
-    ghost use Rattle.std.specs.Str.{chars};
-    ghost use Rattle.std.specs.String.{string_bytes};
+    ghost use Rattle.std.specs.Str.{IsUtf8, chars};
+    ghost use Rattle.stylo_base.specs.TextForm.{form_bytes};
 
     ghost Value = { List ℕ };
 
-    ghost view = { λ t. chars (string_bytes t.inner) };
+    ghost view = { λ t. chars (form_bytes t.form) };
+
+    ghost invariant = { λ t. ∥ IsUtf8 (form_bytes t.form) ∥₁ };
 }
 
 impl Text {
-    /// The empty text.
+    /// The empty text. It takes no memory.
     pub fn new(alloc: Global) -> Text
         ensures { result ≡ [] }
     {
         Text {
-            inner: String::new(alloc),
+            form: TextForm::new(alloc),
         }
+    }
+
+    /// The empty text, with room for `bytes` bytes of UTF-8.
+    pub fn with_capacity(alloc: Global, bytes: usize) -> Result<Text, NoMemory>
+        ensures { IfOk result (λ t. t ≡ []) }
+    {
+        Ok(Text {
+            form: TextForm::with_capacity(alloc, bytes)?,
+        })
     }
 
     /// A copy of `text`.
@@ -41,30 +54,34 @@ impl Text {
         ensures ok { IfOk result (λ t. t ≡ chars text.now) }
         ensures ascii { is_all_ascii text.now ≡ true → IfOk result (λ t. t ≡ text.now) }
     {
-        let inner = String::from_str(alloc, text)?;
-        Ok(Text { inner })
+        Ok(Text {
+            form: TextForm::of_str(alloc, text)?,
+        })
     }
 
     /// The text that `text` holds. It takes no memory.
     pub fn of_string(text: String) -> Text
         ensures { result ≡ chars (string_bytes text) }
     {
-        Text { inner: text }
+        Text {
+            form: TextForm::Long(text),
+        }
     }
 
     /// The text as UTF-8.
+    #[inline]
     pub fn as_str(&self) -> &str
         ensures characters { chars result.now ≡ self.now }
         ensures bytes { result.now ≡ encode_utf8_all self.now }
     {
-        self.inner.as_str()
+        self.form.as_str()
     }
 
     /// Makes the text empty, and keeps its room for what is appended next.
     pub fn clear(&mut self)
         ensures { self.new ≡ [] }
     {
-        self.inner.clear();
+        self.form.clear();
     }
 
     /// Appends `text`.
@@ -73,7 +90,7 @@ impl Text {
         ensures ascii { is_all_ascii text.now ≡ true → OnOk result (self.new ≡ self.old ++ text.now) }
         ensures err { OnErr result (self.new ≡ self.old) }
     {
-        self.inner.push_str(text)?;
+        self.form.push_str(text)?;
         Ok(())
     }
 
@@ -81,7 +98,7 @@ impl Text {
     pub fn push_char(&mut self, c: char) -> Result<(), NoMemory>
         ensures { OnOk result (self.new ≡ self.old ++ c ∷ []) }
     {
-        self.inner.push(c)?;
+        self.form.push_char(c)?;
         Ok(())
     }
 

@@ -1,7 +1,8 @@
-use Rattle.std.proofs.Common.{ap, ◌∙◌}
-use Rattle.std.specs.Str.{chars}
-use Rattle.std.proofs.lemmas.Str.{chars-nil}
+use Rattle.stylo_base.proofs.TextLemmas.{chars_none, utf8_none}
 use Rattle.stylo_base.proofs.text.Text.clear.Goals as goal
 
 pub returns : goal.returns
-returns c = ap chars c.clear.ensures.bytes ∙ chars-nil
+returns c = chars_none _ c.clear.ensures
+
+pub invariant_of-self : goal.invariant_of-self
+invariant_of-self c = utf8_none _ c.clear.ensures

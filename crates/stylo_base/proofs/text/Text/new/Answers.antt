@@ -1,7 +1,8 @@
-use Rattle.std.proofs.Common.{ap, ◌∙◌}
-use Rattle.std.specs.Str.{chars}
-use Rattle.std.proofs.lemmas.Str.{chars-nil}
+use Rattle.stylo_base.proofs.TextLemmas.{chars_none, utf8_none}
 use Rattle.stylo_base.proofs.text.Text.new.Goals as goal
 
 pub returns : goal.returns
-returns c = ap chars c.new.ensures.bytes ∙ chars-nil
+returns c = chars_none _ c.new.ensures
+
+pub invariant_of-result : goal.invariant_of-result
+invariant_of-result c = utf8_none _ c.new.ensures
