@@ -13,3 +13,4 @@ pub mod OpenView
 pub mod Place
 pub mod Reader
 pub mod Separated
+pub mod Spelled

@@ -20,6 +20,7 @@ mod production;
 mod run;
 mod scan;
 mod separator;
+mod spelling;
 mod text_unit;
 mod token;
 mod token_kind;

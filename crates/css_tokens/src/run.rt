@@ -1,15 +1,17 @@
 //! Runs of units: names, and the texts of strings, urls and comments.
 
-ghost use Rattle.std.specs.Prelude.{◌≡◌, ◌≤◌, ◌++◌, IfOk, OnOk, length, option_to_list};
-ghost use Rattle.std.specs.Str.{chars};
-ghost use Rattle.std.specs.String.{string_bytes};
+ghost use Rattle.std.specs.Prelude.{◌≡◌, ◌≤◌, ◌++◌, IfOk, IfSome, IsSome, OnOk, length, option_to_list, take, true};
+ghost use Rattle.stylo_base.specs.Ascii.{is_all_ascii};
 ghost use Rattle.syntax_model.specs.TextUnits.{len_of, said_of};
 ghost use Rattle.css_tokens.specs.Scanned.{said_in, unit_by};
 
-use crate::characters::push_character;
 use crate::text_unit::{Grammar, TextUnit};
-use std::alloc::{AllocError, Global};
+use std::alloc::Global;
+use std::str;
 use stylo_base::{NoMemory, Text};
+
+/// So many characters of ASCII are copied byte by byte.
+const SHORT_LEN: usize = 16;
 
 /// What a run says.
 #[derive(Clone, Copy, Debug)]
@@ -83,11 +85,43 @@ pub(crate) fn text_of(alloc: Global, said: Said) -> Result<Text, NoMemory>
 fn plain_text(alloc: Global, text: &[char]) -> Result<Text, NoMemory>
     ensures { IfOk result (λ said. said ≡ text.now) }
 {
-    let mut said = String::with_capacity(alloc, size_of(text))?;
-    for c in text {
-        push_character(&mut said, *c)?;
+    let Some(bytes) = short_ascii(text) else {
+        return wide_text(alloc, text);
+    };
+    match str::from_utf8(&bytes[..text.len()]) {
+        Ok(ascii) => Text::of_str(alloc, ascii),
+        Err(_) => wide_text(alloc, text),
     }
-    Ok(Text::of_string(said))
+}
+
+/// The bytes of these characters, where they are few and all in ASCII.
+fn short_ascii(text: &[char]) -> Option<[u8; SHORT_LEN]>
+    ensures short { IsSome result → length text.now ≤ 16 }
+    ensures ascii { IsSome result → is_all_ascii text.now ≡ true }
+    ensures bytes { IfSome result (λ bytes. take (length text.now) bytes ≡ text.now) }
+{
+    if text.len() > SHORT_LEN {
+        return None;
+    }
+    let mut bytes = [0; SHORT_LEN];
+    for at in 0..text.len() {
+        if !text[at].is_ascii() {
+            return None;
+        }
+        bytes[at] = text[at] as u8;
+    }
+    Some(bytes)
+}
+
+/// The text of these characters, one by one.
+fn wide_text(alloc: Global, text: &[char]) -> Result<Text, NoMemory>
+    ensures { IfOk result (λ said. said ≡ text.now) }
+{
+    let mut said = Text::with_capacity(alloc, size_of(text))?;
+    for c in text {
+        said.push_char(*c)?;
+    }
+    Ok(said)
 }
 
 /// How many bytes the text of these characters has.
@@ -103,12 +137,12 @@ fn size_of(text: &[char]) -> usize {
 fn run_text(alloc: Global, grammar: Grammar, text: &[char]) -> Result<Text, NoMemory>
     ensures { IfOk result (λ said. said ≡ said_of (unit_by grammar) text.now) }
 {
-    let mut said = String::with_capacity(alloc, run_size(grammar, text))?;
+    let mut said = Text::with_capacity(alloc, run_size(grammar, text))?;
     let mut rest = text;
     loop {
         let TextUnit { taken, said: one } = grammar.unit(rest);
         if taken == 0 {
-            return Ok(Text::of_string(said));
+            return Ok(said);
         }
         push_said(&mut said, one)?;
         rest = rest.split_at(taken).1;
@@ -116,12 +150,11 @@ fn run_text(alloc: Global, grammar: Grammar, text: &[char]) -> Result<Text, NoMe
 }
 
 /// Appends what a unit says.
-fn push_said(text: &mut String, said: Option<char>) -> Result<(), AllocError>
-    ensures { OnOk result
-        (chars (string_bytes text.new) ≡ chars (string_bytes text.old) ++ option_to_list said) }
+fn push_said(text: &mut Text, said: Option<char>) -> Result<(), NoMemory>
+    ensures { OnOk result (text.new ≡ text.old ++ option_to_list said) }
 {
     match said {
-        Some(c) => push_character(text, c),
+        Some(c) => text.push_char(c),
         None => Ok(()),
     }
 }

@@ -13,6 +13,7 @@ ghost use Rattle.css_tokens.specs.View.{bracket_of, kind_of, span_of};
 
 use crate::run::text_of;
 use crate::scan::Scan;
+use crate::spelling::Spelling;
 use crate::{Bracket, Separator, TokenKind};
 use std::alloc::Global;
 use std::marker::Model;
@@ -31,19 +32,20 @@ pub struct Span {
 pub struct Token {
     kind: TokenKind,
     name: Text,
-    spelling: Vec<char>,
+    spelling: Spelling,
     span: Option<Span>,
 }
 
 impl Model for Token {
     ghost use Rattle.syntax_model.specs.Token as model;
     ghost use Rattle.std.specs.Option.{option_map};
+    ghost use Rattle.css_tokens.specs.Spelled.{spelled};
     ghost use Rattle.css_tokens.specs.View.{kind_of};
     ghost use Rattle.css_tokens.specs.View.{span_of, token_seen};
 
     ghost Value = { model.Token };
 
-    ghost view = { λ t. token_seen (kind_of t.kind) t.name t.spelling.items (option_map span_of t.span) };
+    ghost view = { λ t. token_seen (kind_of t.kind) t.name (spelled t.spelling) (option_map span_of t.span) };
 }
 
 impl Token {
@@ -55,7 +57,7 @@ impl Token {
         Ok(Token {
             kind: scan.kind,
             name: text_of(alloc, scan.name)?,
-            spelling: scan.spelling.to_vec(alloc)?,
+            spelling: Spelling::of_slice(alloc, scan.spelling)?,
             span: Some(Span {
                 start,
                 end: start + scan.len,
@@ -70,7 +72,7 @@ impl Token {
         Token {
             kind: bracket.closer(),
             name: Text::new(alloc),
-            spelling: Vec::new(alloc),
+            spelling: Spelling::empty(),
             span: None,
         }
     }
@@ -196,7 +198,7 @@ impl Token {
         Ok(Token {
             kind: self.kind,
             name: self.name.copy(alloc)?,
-            spelling: self.spelling.to_vec(alloc)?,
+            spelling: self.spelling.copy(alloc)?,
             span: self.span,
         })
     }
@@ -208,7 +210,7 @@ impl Token {
         Ok(Token {
             kind: self.kind,
             name: self.name.copy(alloc)?,
-            spelling: self.spelling.to_vec(alloc)?,
+            spelling: self.spelling.copy(alloc)?,
             span: None,
         })
     }
@@ -220,7 +222,7 @@ impl Token {
         Token {
             kind: TokenKind::Whitespace,
             name: Text::new(alloc),
-            spelling: Vec::new(alloc),
+            spelling: Spelling::empty(),
             span: None,
         }
     }
@@ -229,7 +231,9 @@ impl Token {
     pub fn says_same(&self, other: &Token) -> bool
         ensures { IsTrue result ↔ (said self.now ≡ said other.now) }
     {
-        self.kind == other.kind && self.name.is_same(&other.name) && self.spelling == other.spelling
+        self.kind == other.kind
+            && self.name.is_same(&other.name)
+            && self.spelling.as_slice() == other.spelling.as_slice()
     }
 
     /// Whether it is an at-keyword.

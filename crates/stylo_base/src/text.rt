@@ -123,7 +123,9 @@ impl Text {
     pub fn copy(&self, alloc: Global) -> Result<Text, NoMemory>
         ensures { IfOk result (λ t. t ≡ self.now) }
     {
-        Text::of_str(alloc, self.as_str())
+        Ok(Text {
+            form: self.form.copy(alloc)?,
+        })
     }
 
     /// Whether the two texts have the same characters.

@@ -57,6 +57,16 @@ impl TextForm {
         }
     }
 
+    /// Another one of the same bytes.
+    pub(crate) fn copy(&self, alloc: Global) -> Result<TextForm, NoMemory>
+        ensures { IfOk result (λ form. form_bytes form ≡ form_bytes self.now) }
+    {
+        match self {
+            TextForm::Short { text, .. } => Ok(TextForm::Short { text: *text, alloc }),
+            TextForm::Long(text) => TextForm::of_str(alloc, text.as_str()),
+        }
+    }
+
     /// The bytes as text.
     #[inline]
     pub(crate) fn as_str(&self) -> &str

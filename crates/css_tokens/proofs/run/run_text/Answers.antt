@@ -1,6 +1,4 @@
-use Rattle.std.proofs.Common.{ap, ◌++◌, ◌∙◌, arith}
-use Rattle.std.specs.Str.{chars}
-use Rattle.std.proofs.lemmas.Str.{chars-nil}
+use Rattle.std.proofs.Common.{ap, ◌++◌, arith}
 use Rattle.syntax_model.specs.TextUnits.{said_of}
 use Rattle.css_tokens.specs.Scanned.{unit_by}
 use Rattle.css_tokens.proofs.RunLemmas.{said_on}
@@ -8,7 +6,7 @@ use Rattle.css_tokens.proofs.run.run_text.Goals as goal
 
 pub loop-rest-init : goal.loop-rest-init
 loop-rest-init c =
-    ap (λ cs. cs ++ said_of (unit_by c.args.grammar) c.args.text.now) (ap chars c.in_ok-said.ensures.bytes ∙ chars-nil)
+    ap (λ cs. cs ++ said_of (unit_by c.args.grammar) c.args.text.now) c.in_ok-said.ensures
 
 pub loop-rest-preserved : goal.loop-rest-preserved
 loop-rest-preserved c =
