@@ -124,12 +124,12 @@ impl TextForm {
     }
 }
 
-/// `front` and `back` in one, with room for as much again.
+/// `front` and `back` in one, with room for at least twice what a short text has room for.
 fn joined(alloc: Global, front: &str, back: &str) -> Result<String, NoMemory>
     ensures { IfOk result (λ text. string_bytes text ≡ front.now ++ back.now) }
 {
     let len = front.len().saturating_add(back.len());
-    let mut text = String::with_capacity(alloc, len.saturating_mul(2))?;
+    let mut text = String::with_capacity(alloc, len.max(2 * INLINE_BYTES))?;
     text.push_str(front)?;
     text.push_str(back)?;
     Ok(text)
