@@ -10,7 +10,7 @@ use std::alloc::Global;
 use std::str;
 use stylo_base::{NoMemory, Text};
 
-/// So many characters of ASCII are copied byte by byte.
+/// Up to so many characters of ASCII are copied byte by byte.
 const SHORT_LEN: usize = 16;
 
 /// What a run says.
@@ -86,11 +86,11 @@ fn plain_text(alloc: Global, text: &[char]) -> Result<Text, NoMemory>
     ensures { IfOk result (λ said. said ≡ text.now) }
 {
     let Some(bytes) = short_ascii(text) else {
-        return wide_text(alloc, text);
+        return text_by_blocks(alloc, text);
     };
     match str::from_utf8(&bytes[..text.len()]) {
         Ok(ascii) => Text::of_str(alloc, ascii),
-        Err(_) => wide_text(alloc, text),
+        Err(_) => text_by_blocks(alloc, text),
     }
 }
 
@@ -113,15 +113,41 @@ fn short_ascii(text: &[char]) -> Option<[u8; SHORT_LEN]>
     Some(bytes)
 }
 
-/// The text of these characters, one by one.
-fn wide_text(alloc: Global, text: &[char]) -> Result<Text, NoMemory>
+/// The text of these characters, block by block.
+fn text_by_blocks(alloc: Global, text: &[char]) -> Result<Text, NoMemory>
     ensures { IfOk result (λ said. said ≡ text.now) }
 {
     let mut said = Text::with_capacity(alloc, size_of(text))?;
-    for c in text {
-        said.push_char(*c)?;
+    let mut rest = text;
+    while !rest.is_empty() {
+        let (block, after) = rest.split_at(rest.len().min(SHORT_LEN));
+        push_block(&mut said, block)?;
+        rest = after;
     }
     Ok(said)
+}
+
+/// Appends these characters.
+fn push_block(said: &mut Text, block: &[char]) -> Result<(), NoMemory>
+    ensures { OnOk result (said.new ≡ said.old ++ block.now) }
+{
+    let Some(bytes) = short_ascii(block) else {
+        return push_each(said, block);
+    };
+    match str::from_utf8(&bytes[..block.len()]) {
+        Ok(ascii) => said.push_str(ascii),
+        Err(_) => push_each(said, block),
+    }
+}
+
+/// Appends these characters, one by one.
+fn push_each(said: &mut Text, characters: &[char]) -> Result<(), NoMemory>
+    ensures { OnOk result (said.new ≡ said.old ++ characters.now) }
+{
+    for c in characters {
+        said.push_char(*c)?;
+    }
+    Ok(())
 }
 
 /// How many bytes the text of these characters has.
