@@ -1,9 +1,10 @@
 -- What a parser of rules knows.
-use Rattle.std.specs.Prelude.{List, [], ◌∷◌, map, Bool, true, false}
+use Rattle.std.specs.Prelude.{◌≡◌, List, [], ◌∷◌, map, Bool, true, false, Option, Some, None}
+use Rattle.syntax_model.specs.Token.{Token}
 use Rattle.syntax_model.specs.Rules as model
 use Rattle.css_rules.specs.Left.{with_rules}
 use Rattle.css_rules.specs.View.{context_of, contexts_of, edition_of}
-use Rattle.css_rules.specs.Walk.{Walk}
+use Rattle.css_rules.specs.Walk.{Walk, step}
 use Rattle.css_rules.specs.declared.rule.Context.{Context}
 use Rattle.css_rules.specs.declared.rule_parser.RuleParser.{RuleParser}
 
@@ -37,3 +38,9 @@ ended_of parser = model.style (record {
 abbrev pub walk_after : Bool → RuleParser → Walk
 walk_after false parser = walk_of parser
 walk_after true parser = with_rules (ended_of parser ∷ []) (walk_of parser)
+
+-- one token was read, and a qualified rule ended with it or not; or there is none
+abbrev pub IsTokenRead : Option Bool → RuleParser → List Token → RuleParser → List Token → Type 0
+IsTokenRead None old left new rest = (left ≡ []) × (rest ≡ []) × (new ≡ old)
+IsTokenRead (Some ended) old left new rest =
+    (first : Token) × (left ≡ first ∷ rest) × (walk_after ended new ≡ step (walk_of old) first)

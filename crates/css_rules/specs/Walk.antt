@@ -101,6 +101,13 @@ past_kind state walk kind = record walk { state = state; pending = open_past_kin
 abbrev pub keeping : Head → Walk → Token → Walk
 keeping head walk token = record walk { prelude = kept head walk.prelude token }
 
+-- with other tokens as its prelude, or as its block
+abbrev pub with_prelude : List Token → Walk → Walk
+with_prelude tokens walk = record walk { prelude = tokens }
+
+abbrev pub with_block : List Token → Walk → Walk
+with_block tokens walk = record walk { block = tokens }
+
 -- a layer is declared, and its block begins
 abbrev pub inside : Context → Walk → Walk
 inside inner walk = record walk {

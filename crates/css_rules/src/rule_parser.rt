@@ -1,7 +1,8 @@
 //! The rules of a sheet, token by token.
 
-ghost use Rattle.std.specs.Prelude.{◌≡◌, ◌&&◌, [], true, IfOk, OnOk};
+ghost use Rattle.std.specs.Prelude.{◌≡◌, ◌&&◌, ◌++◌, ◌∷◌, [], false, true, IfOk, List, OnOk};
 ghost use Rattle.base_model.specs.Lists.{is_nil};
+ghost use Rattle.syntax_model.specs.Token as model;
 ghost use Rattle.syntax_model.specs.TokenKinds.{is_close_curly, is_open_curly, is_semicolon};
 ghost use Rattle.syntax_model.specs.RulesIn.{is_between_rules};
 ghost use Rattle.syntax_model.specs.SheetRules.{is_layer_name};
@@ -85,23 +86,21 @@ impl RuleParser {
         requires { self.old.layers.items ≡ [] }
         ensures { IfOk result (λ ended. walk_after ended self.new ≡ walk.step (walk_of self.old) token) }
     {
+        let kind = token.kind();
         match self.state {
             ParserState::Between => self.begin(token)?,
-            ParserState::Prelude(head) => self.take_in_prelude(alloc, head, token)?,
-            ParserState::Block => return self.take_in_block(alloc, token),
-            ParserState::Dropped => self.skip_in_dropped(token.kind())?,
+            ParserState::Prelude(Head::Other) => self.skip_in_prelude(alloc, kind)?,
+            ParserState::Prelude(head) => {
+                self.prelude.push(token)?;
+                self.go_on_in_prelude(alloc, head, kind)?;
+            }
+            ParserState::Block => {
+                self.block.push(token)?;
+                return self.go_on_in_block(alloc, kind);
+            }
+            ParserState::Dropped => self.skip_in_dropped(kind)?,
         }
         Ok(false)
-    }
-
-    /// Whether nothing of the next token counts but its kind.
-    pub fn is_skipping(&self) -> bool
-        ensures { result ≡ walk.is_skipping self.now.state }
-    {
-        matches!(
-            self.state,
-            ParserState::Dropped | ParserState::Prelude(Head::Other)
-        )
     }
 
     /// Consumes the next token, of which nothing counts but its kind.
@@ -116,7 +115,7 @@ impl RuleParser {
     }
 
     /// Between rules: leaves the block of a layer, skips the token, or begins a rule with it.
-    fn begin(&mut self, token: Token) -> Result<(), NoMemory>
+    pub fn begin(&mut self, token: Token) -> Result<(), NoMemory>
         requires { self.old.state ≡ ParserState.Between }
         ensures { OnOk result (walk_of self.new ≡ walk.begun (walk_of self.old) token) }
     {
@@ -143,27 +142,38 @@ impl RuleParser {
             (walk.past (ParserState.Prelude Head.Qualified) (walk_of self.old) token) token) }
     {
         self.pass(ParserState::Prelude(Head::Qualified), &token)?;
-        self.keep(Head::Qualified, token)
+        self.prelude.push(token)?;
+        Ok(())
     }
 
-    /// In the prelude of a rule.
-    fn take_in_prelude(&mut self, alloc: Global, head: Head, token: Token) -> Result<(), NoMemory>
-        requires { self.old.state ≡ ParserState.Prelude head }
-        ensures { OnOk result (walk_of self.new ≡ walk.step_in_prelude head (walk_of self.old) token) }
+    /// Goes on after a token of this kind, which was appended to the prelude of the rule. It stays there unless it ends
+    /// the prelude.
+    pub fn go_on_in_prelude(
+        &mut self,
+        alloc: Global,
+        head: Head,
+        kind: TokenKind,
+    ) -> Result<(), NoMemory>
+        requires { walk.is_skipping (ParserState.Prelude head) ≡ false }
+        ensures { (read : List model.Token) (token : model.Token) → self.old.prelude.items ≡ read ++ token ∷ []
+            → kind_of kind ≡ token.kind → OnOk result
+            (walk_of self.new ≡ walk.step_in_prelude head (walk.with_prelude read (walk_of self.old)) token) }
     {
-        if self.ends_statement(head, token.kind()) {
+        if self.ends_statement(head, kind) {
+            self.prelude.pop();
             return self.end_statement(alloc, head);
         }
-        if self.ends_layer(token.kind()) {
+        if self.ends_layer(kind) {
+            self.prelude.pop();
             self.end_statement(alloc, head)?;
             self.leave();
             return Ok(());
         }
-        if self.opens_block(token.kind()) {
-            return self.open(alloc, head, token.kind());
+        if self.opens_block(kind) {
+            self.prelude.pop();
+            return self.open(alloc, head, kind);
         }
-        self.pass(ParserState::Prelude(head), &token)?;
-        self.keep(head, token)
+        self.pass_kind(ParserState::Prelude(head), kind)
     }
 
     /// In the prelude of an at-rule that is not `@layer`.
@@ -184,17 +194,33 @@ impl RuleParser {
         self.pass_kind(ParserState::Prelude(Head::Other), kind)
     }
 
-    /// In the block of a qualified rule.
-    fn take_in_block(&mut self, alloc: Global, token: Token) -> Result<bool, NoMemory>
+    /// Goes on after a token of this kind, which was appended to the block of a qualified rule, and says whether a rule
+    /// that is kept ended with it. It stays there unless it ends the block.
+    pub fn go_on_in_block(&mut self, alloc: Global, kind: TokenKind) -> Result<bool, NoMemory>
         requires state { self.old.state ≡ ParserState.Block }
         requires layers { self.old.layers.items ≡ [] }
-        ensures { IfOk result (λ ended. walk_after ended self.new ≡ walk.step_in_block (walk_of self.old) token) }
+        ensures { (read : List model.Token) (token : model.Token) → self.old.block.items ≡ read ++ token ∷ []
+            → kind_of kind ≡ token.kind → IfOk result
+            (λ ended. walk_after ended self.new ≡ walk.step_in_block (walk.with_block read (walk_of self.old)) token) }
     {
-        self.pass(ParserState::Block, &token)?;
+        if kind.is_bracket() || self.pending.is_empty() {
+            return self.pass_in_block(alloc, kind);
+        }
+        Ok(false)
+    }
+
+    /// The same, where the token may end the block.
+    fn pass_in_block(&mut self, alloc: Global, kind: TokenKind) -> Result<bool, NoMemory>
+        requires { self.old.layers.items ≡ [] }
+        ensures { (read : List model.Token) (token : model.Token) → self.old.block.items ≡ read ++ token ∷ []
+            → kind_of kind ≡ token.kind → IfOk result
+            (λ ended. walk_after ended self.new ≡ walk.step_in_block (walk.with_block read (walk_of self.old)) token) }
+    {
+        self.pass_kind(ParserState::Block, kind)?;
         if self.pending.is_empty() {
+            self.block.pop();
             return self.end_rule(alloc);
         }
-        self.block.push(token)?;
         Ok(false)
     }
 
@@ -224,17 +250,6 @@ impl RuleParser {
     {
         self.pending.pass_kind(kind)?;
         self.state = state;
-        Ok(())
-    }
-
-    /// Keeps a token of a prelude, unless nothing of the rule is kept.
-    fn keep(&mut self, head: Head, token: Token) -> Result<(), NoMemory>
-        ensures { OnOk result (walk_of self.new ≡ walk.keeping head (walk_of self.old) token) }
-    {
-        match head {
-            Head::Other => {}
-            Head::Qualified | Head::Layer => self.prelude.push(token)?,
-        }
         Ok(())
     }
 

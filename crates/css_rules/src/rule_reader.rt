@@ -1,6 +1,6 @@
 //! A reader of the rules of a sheet.
 
-ghost use Rattle.std.specs.Prelude.{◌≡◌, ◌∷◌, [], false, IfOk, List, MatchOption, None, OnOk, Some};
+ghost use Rattle.std.specs.Prelude.{◌≡◌, ◌∷◌, [], false, true, IfOk, List, MatchOption, None, OnOk, Some};
 ghost use Rattle.std.specs.Option.{option_map};
 ghost use Rattle.std.specs.Str.{chars};
 ghost use Rattle.syntax_model.specs.Brackets.{Bracket, closer};
@@ -8,12 +8,12 @@ ghost use Rattle.syntax_model.specs.Rules as model;
 ghost use Rattle.syntax_model.specs.SheetRules.{sheet_rules_in};
 ghost use Rattle.syntax_model.specs.Token as token;
 ghost use Rattle.css_rules.specs.Left.{IsAtEnd, IsReadOn, rules_left};
-ghost use Rattle.css_rules.specs.Parser.{walk_after, walk_of};
+ghost use Rattle.css_rules.specs.Parser.{IsTokenRead, walk_after, walk_of};
 ghost use Rattle.css_rules.specs.Reading.{context_in, kind_in, moved, unread};
 ghost use Rattle.css_rules.specs.View.{context_of, edition_of, rule_of, style_of};
-ghost use Rattle.css_rules.specs.Walk.{step};
+ghost use Rattle.css_rules.specs.Walk.{is_skipping, step};
 
-use crate::rule_parser::RuleParser;
+use crate::rule_parser::{Head, ParserState, RuleParser};
 use crate::{Context, Rule, RuleKind, SheetEdition, StyleBlock};
 use css_tokens::{Token, TokenList, TokenReader, preprocess};
 use std::alloc::Global;
@@ -174,22 +174,82 @@ fn read_token(
     parser: &mut RuleParser,
 ) -> Result<Option<bool>, NoMemory>
     requires { parser.old.layers.items ≡ [] }
-    ensures { IfOk result (λ read. MatchOption read
-        ((tokens.old ≡ []) × (tokens.new ≡ []) × (parser.new ≡ parser.old))
-        (λ ended. (first : token.Token) × (tokens.old ≡ first ∷ tokens.new)
-        × (walk_after ended parser.new ≡ step (walk_of parser.old) first))) }
+    ensures { IfOk result (λ read. IsTokenRead read parser.old tokens.old parser.new tokens.new) }
 {
-    if parser.is_skipping() {
-        let Some(kind) = tokens.pass() else {
-            return Ok(None);
-        };
-        parser.skip(alloc, kind)?;
-        return Ok(Some(false));
+    match parser.state {
+        ParserState::Between => read_between(alloc, tokens, parser),
+        ParserState::Dropped | ParserState::Prelude(Head::Other) => read_past(
+            alloc, tokens, parser,
+        ),
+        ParserState::Prelude(head) => read_in_prelude(alloc, head, tokens, parser),
+        ParserState::Block => read_in_block(alloc, tokens, parser),
     }
+}
+
+/// Between rules.
+fn read_between(
+    alloc: Global,
+    tokens: &mut TokenReader,
+    parser: &mut RuleParser,
+) -> Result<Option<bool>, NoMemory>
+    requires { parser.old.state ≡ ParserState.Between }
+    ensures { IfOk result (λ read. IsTokenRead read parser.old tokens.old parser.new tokens.new) }
+{
     let Some(token) = tokens.next(alloc)? else {
         return Ok(None);
     };
-    let ended = parser.take(alloc, token)?;
+    parser.begin(token)?;
+    Ok(Some(false))
+}
+
+/// Where nothing of a token counts but its kind.
+fn read_past(
+    alloc: Global,
+    tokens: &mut TokenReader,
+    parser: &mut RuleParser,
+) -> Result<Option<bool>, NoMemory>
+    requires { is_skipping parser.old.state ≡ true }
+    ensures { IfOk result (λ read. IsTokenRead read parser.old tokens.old parser.new tokens.new) }
+{
+    let Some(kind) = tokens.pass() else {
+        return Ok(None);
+    };
+    parser.skip(alloc, kind)?;
+    Ok(Some(false))
+}
+
+/// In a prelude that is kept.
+fn read_in_prelude(
+    alloc: Global,
+    head: Head,
+    tokens: &mut TokenReader,
+    parser: &mut RuleParser,
+) -> Result<Option<bool>, NoMemory>
+    requires state { parser.old.state ≡ ParserState.Prelude head }
+    requires kept { is_skipping parser.old.state ≡ false }
+    ensures { IfOk result (λ read. IsTokenRead read parser.old tokens.old parser.new tokens.new) }
+{
+    let Some(kind) = tokens.append(alloc, &mut parser.prelude)? else {
+        return Ok(None);
+    };
+    parser.go_on_in_prelude(alloc, head, kind)?;
+    Ok(Some(false))
+}
+
+/// In the block of a qualified rule.
+fn read_in_block(
+    alloc: Global,
+    tokens: &mut TokenReader,
+    parser: &mut RuleParser,
+) -> Result<Option<bool>, NoMemory>
+    requires state { parser.old.state ≡ ParserState.Block }
+    requires layers { parser.old.layers.items ≡ [] }
+    ensures { IfOk result (λ read. IsTokenRead read parser.old tokens.old parser.new tokens.new) }
+{
+    let Some(kind) = tokens.append(alloc, &mut parser.block)? else {
+        return Ok(None);
+    };
+    let ended = parser.go_on_in_block(alloc, kind)?;
     Ok(Some(ended))
 }
 

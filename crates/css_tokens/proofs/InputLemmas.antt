@@ -1,10 +1,12 @@
-use Rattle.std.proofs.Common.{◌≡◌, ℕ, ◌+◌, ◌<◌, Bool, true, false, eqb, ◌&&◌, List, [], ◌∷◌, ◌++◌, length, get_or, take, drop, refl, sym, ap, ◌∙◌, arith, append_assoc, append-nil}
-use Rattle.std.specs.Prelude.{encode_utf8_all}
+use Rattle.std.proofs.Common.{◌≡◌, ℕ, ◌+◌, ◌<◌, Bool, true, false, eqb, ◌&&◌, List, [], ◌∷◌, ◌++◌, length, get_or, drop, refl, sym, ap, ◌∙◌, arith, append_assoc, append-nil}
+use Rattle.std.specs.Prelude.{encode_utf8_all, max, not}
+use mir.Val.{bool_byte}
 use Rattle.std.specs.Str.{chars, IsUtf8}
 use lib.Utf8.{encode}
-use Rattle.std.proofs.lemmas.Bool.{and_parts}
+use Rattle.std.proofs.lemmas.Bool.{and_parts, ne_eqb}
+use Rattle.std.proofs.Math.Bool.{and-false, and-true}
 use Rattle.std.proofs.lemmas.Bool.Decides.{nat_tests}
-use Rattle.std.proofs.lemmas.List.Folds.{list_all-append, list_all_more}
+use Rattle.std.proofs.lemmas.List.Folds.{list_all-append}
 use Rattle.std.proofs.lemmas.Str.{encodes-chars}
 use Rattle.std.proofs.lemmas.List.{drop_all, drop_more}
 use Rattle.base_model.specs.Text.{Characters}
@@ -44,9 +46,10 @@ ready_same (c ∷ cs) h =
     let clean : is_clean c ≡ true = parts.0 in
     grind (arith, nat_tests)
 
--- one byte on
-pub ready_more : (bs : List ℕ) (i d : ℕ) (before : Bool) → i < length bs → before ≡ is_preprocessed (take i bs) → (before && is_clean (get_or bs i d)) ≡ is_preprocessed (take (i + 1) bs)
-ready_more bs i d before inside is = ap (λ b. b && is_clean (get_or bs i d)) is ∙ sym (list_all_more is_clean bs i d inside)
+-- one byte on: the highest of some numbers is 0 where all are, and below a limit where all are
+pub clean_more : (a : ℕ) (clean : Bool) → eqb (max a (bool_byte (not clean))) 0 ≡ (eqb a 0 && clean)
+clean_more a true = let same : max a 0 ≡ a = omega arith in ap (λ k. eqb k 0) same ∙ sym (and-true (eqb a 0))
+clean_more a false = ne_eqb (max a 1) 0 (λ e. absurd (omega (arith, e))) ∙ sym (and-false (eqb a 0))
 
 -- bytes of other characters are never CR, FF or U+0000
 bytes_of_one : (c : ℕ) → is_preprocessed (encode c) ≡ is_clean c

@@ -3,6 +3,7 @@ pub mod InputLemmas
 pub mod HexLemmas
 pub mod RunLemmas
 pub mod ProductionLemmas
+pub mod QuickLemmas
 pub mod UrlLemmas
 pub mod TokenizerLemmas
 pub mod DecimalLemmas

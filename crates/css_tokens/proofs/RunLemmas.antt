@@ -1,14 +1,15 @@
 -- Runs of units, as the code goes through them.
-use Rattle.std.proofs.Common.{◌≡◌, ℕ, zero, suc, ◌+◌, ◌-◌, ◌<◌, ◌≤◌, true, false, eqb, ◌||◌, [], ◌∷◌, ◌++◌, length, take, drop, refl, sym, ap, ◌∙◌, arith, append-nil, append_assoc, length-drop}
+use Rattle.std.proofs.Common.{◌≡◌, ℕ, zero, suc, ◌+◌, ◌-◌, ◌<◌, ◌≤◌, Bool, true, false, eqb, ◌||◌, [], ◌∷◌, ◌++◌, length, take, drop, refl, sym, ap, ◌∙◌, arith, append-nil, append_assoc, length-drop}
 use Rattle.std.specs.Prelude.{Option, option_to_list}
 use Rattle.std.specs.List.{prefix_len}
-use Rattle.std.proofs.lemmas.Bool.{and_left, cond_both, cond-false, cond-true, not-true, or_from, or_parts}
+use Rattle.std.proofs.lemmas.Bool.{and_left, cond_both, cond-false, cond-true, false≢true, not-false, not-true, or_from, or_parts}
 use Rattle.std.proofs.lemmas.Bool.Decides.{nat_tests}
 use Rattle.std.proofs.lemmas.List.Sums.{prefix_len-le-length}
 use Rattle.base_model.specs.Text.{Characters}
+use Rattle.syntax_model.specs.Letters.{begins}
 use Rattle.syntax_model.specs.TextUnits.{Run, TextUnit, ends_url, itself, len_of, run_of, said_of, starts_escape, then_run}
 use Rattle.syntax_model.proofs.TextUnitLemmas.{Fits, comment_fits, name_fits, remnant_fits, run_any, run_of_more, run_of_none, string_fits, url_fits}
-use Rattle.css_tokens.specs.Scanned.{is_plain, unit_by}
+use Rattle.css_tokens.specs.Scanned.{is_plain, may_go_on, unit_by}
 use Rattle.css_tokens.specs.declared.text_unit.Grammar.{Grammar}
 use Rattle.css_tokens.specs.declared.text_unit.Grammar.TheVariants as grammar
 
@@ -78,6 +79,37 @@ pub plain_len : (g : Grammar) (text rest : Characters) (n more : ℕ) → n ≡ 
 plain_len g text rest n more is_n is_rest is_more =
     let taken : len_of (unit_by g) text ≡ n + len_of (unit_by g) rest = rw is_rest (plain_front g n text (omega (arith, is_n))).taken in
     omega (arith, taken, is_more)
+
+-- what is after the characters that pass begins with none
+pub stops : (p : ℕ → Bool) (cs : Characters) → begins p (drop (prefix_len p cs) cs) ≡ false
+stops p [] = refl
+stops p (c ∷ cs) =
+    let one : 1 + prefix_len p cs ≡ suc (prefix_len p cs) = omega arith in
+    cond_both (p c) (1 + prefix_len p cs) 0 (λ k. begins p (drop k (c ∷ cs)) ≡ false) (λ _. ap (λ k. begins p (drop k (c ∷ cs))) one ∙ stops p cs) (λ fails. fails)
+
+-- no unit is there
+no_more : (g : Grammar) (text : Characters) → begins (is_plain g) text ≡ false → may_go_on g text ≡ false → (unit_by g text).taken ≡ 0
+no_more grammar.Name [] h k = refl
+no_more grammar.Name (c ∷ cs) h k = ap (λ (u : TextUnit). u.taken) (cond-false _ _ _ h ∙ cond-false _ _ _ (and_left _ _ k))
+no_more (grammar.String quote) [] h k = refl
+no_more (grammar.String quote) (c ∷ cs) h k = ap (λ (u : TextUnit). u.taken) (cond-true _ _ _ (ends c h k))
+  where
+    ends : (c : ℕ) → is_plain (grammar.String quote) c ≡ false → eqb c 92 ≡ false → (eqb c quote || eqb c 10) ≡ true
+    ends c h k = grind (arith, nat_tests)
+no_more grammar.Url [] h k = refl
+no_more grammar.Url (c ∷ cs) h k = ap (λ (u : TextUnit). u.taken) (cond-false _ _ _ (and_left _ _ k) ∙ cond-true _ _ _ (not-false _ h))
+no_more grammar.Remnants [] h k = refl
+no_more grammar.Remnants (c ∷ cs) h k = ap (λ (u : TextUnit). u.taken) (cond-false _ _ _ (and_left _ _ k) ∙ cond-true _ _ _ (ends c h k))
+  where
+    ends : (c : ℕ) → is_plain grammar.Remnants c ≡ false → eqb c 92 ≡ false → eqb c 41 ≡ true
+    ends c h k = grind (arith, nat_tests)
+no_more grammar.Comment [] h k = refl
+no_more grammar.Comment (c ∷ cs) h k = absurd (false≢true (sym k ∙ not-false _ h))
+
+pub ends_there : (g : Grammar) (text rest : Characters) (n : ℕ) → n ≡ prefix_len (is_plain g) text → rest ≡ drop n text → may_go_on g rest ≡ false → len_of (unit_by g) rest ≡ 0
+ends_there g text rest n is_n is_rest none =
+    let stop : begins (is_plain g) rest ≡ false = rw (is_rest, is_n) (stops (is_plain g) text) in
+    ap (λ (r : Run). r.taken) (run_of_none (unit_by g) rest (no_more g rest stop none))
 
 -- so many characters of a run are read, and the others are left
 pub record IsReadUpTo (unit : Characters → TextUnit) (text : Characters) (len : ℕ) (rest : Characters) : Type 0 where

@@ -1,10 +1,10 @@
 -- What the code finds in a text, as the pieces of the definitions.
-use Rattle.std.specs.Prelude.{ℕ, ◌==◌, List, [], ◌∷◌, Bool, not, ◌||◌, if◌then◌else◌}
-use Rattle.base_model.specs.Ascii.{line_feed, asterisk, comma_sign, colon_sign, semicolon_sign}
+use Rattle.std.specs.Prelude.{◌≡◌, ℕ, ◌==◌, List, [], ◌∷◌, Bool, true, not, ◌&&◌, ◌||◌, if◌then◌else◌}
+use Rattle.base_model.specs.Ascii.{line_feed, full_stop, asterisk, comma_sign, colon_sign, semicolon_sign}
 use Rattle.base_model.specs.Ascii.{left_parenthesis, right_parenthesis, left_bracket, right_bracket, left_brace, right_brace}
 use Rattle.base_model.specs.Text.{Characters}
 use Rattle.syntax_model.specs.Token as model
-use Rattle.syntax_model.specs.Letters.{is_name_char}
+use Rattle.syntax_model.specs.Letters.{begins, is_digit, is_name_char}
 use Rattle.syntax_model.specs.Signs.{reverse_solidus}
 use Rattle.syntax_model.specs.TextUnits as units
 use Rattle.syntax_model.specs.Pieces as pieces
@@ -37,6 +37,11 @@ is_plain (grammar.String quote) c = not ((c == quote) || ((c == line_feed) || (c
 is_plain grammar.Url c = not (units.ends_url c)
 is_plain grammar.Remnants c = not ((c == right_parenthesis) || (c == reverse_solidus))
 is_plain grammar.Comment c = not (c == asterisk)
+
+-- a text that begins with no such character may still begin with a unit
+abbrev pub may_go_on : Grammar → Characters → Bool
+may_go_on grammar.Comment text = begins (λ c. c == asterisk) text
+may_go_on g text = begins (λ c. c == reverse_solidus) text
 
 -- what a run says
 abbrev pub said_in : Said → Characters
@@ -87,3 +92,17 @@ first_tokens start (c ∷ cs) = pieces.production_tokens (pieces.production_at (
 -- the same of what was found
 abbrev pub found_tokens : ℕ → Scan → List model.Token
 found_tokens start scan = if scan.is_comment then [] else pieces.token_of start (piece_of scan) ∷ []
+
+-- this is the first piece of a text, and a token
+pub record IsFirst (piece : pieces.Piece) (text : Characters) : Type 0 where
+  pub len : piece.length ≡ first_len text
+  pub tokens : (start : ℕ) → pieces.token_of start piece ∷ [] ≡ first_tokens start text
+
+-- a point that begins no number
+abbrev pub is_lone_point : ℕ → Characters → Bool
+is_lone_point c cs = (c == full_stop) && not (begins is_digit cs)
+
+-- a text begins with a mark of this kind
+pub record IsMark (kind : model.TokenKind) (c : ℕ) (cs : Characters) : Type 0 where
+  pub alone : (is_lone c || is_lone_point c cs) ≡ true
+  pub same_kind : kind ≡ pieces.mark_kind c

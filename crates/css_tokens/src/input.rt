@@ -27,19 +27,25 @@ pub fn preprocess(alloc: Global, text: &str) -> Result<String, NoMemory>
 fn is_ready(text: &str) -> bool
     ensures { result ≡ is_preprocessed (chars text.now) }
 {
-    let bytes = text.as_bytes();
-    let mut is_ready = true;
+    are_clean(text.as_bytes())
+}
+
+/// Whether preprocessing leaves each byte as it is. It goes over all of them, so that many are looked at at once.
+fn are_clean(bytes: &[u8]) -> bool
+    ensures { result ≡ is_preprocessed bytes.now }
+{
+    let mut unclean = 0_u8;
     for byte in bytes {
-        is_ready &= is_clean(*byte);
+        unclean = unclean.max(u8::from(!is_clean(*byte)));
     }
-    is_ready
+    unclean == 0
 }
 
 /// Whether preprocessing leaves the byte as it is.
 fn is_clean(byte: u8) -> bool
     ensures { result ≡ model.is_clean byte }
 {
-    !matches!(byte, b'\r' | b'\x0c' | b'\0')
+    (byte != b'\r') & (byte != b'\x0c') & (byte != b'\0')
 }
 
 /// The text that preprocessing gives, character by character.

@@ -17,6 +17,7 @@ mod open_brackets;
 mod open_stack;
 mod pieces;
 mod production;
+mod quick;
 mod run;
 mod scan;
 mod separator;

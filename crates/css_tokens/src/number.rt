@@ -61,7 +61,7 @@ pub(crate) fn digits_len(text: &[char]) -> usize
 }
 
 /// Whether a digit is next.
-fn begins_digit(text: &[char]) -> bool
+pub(crate) fn begins_digit(text: &[char]) -> bool
     ensures { result ≡ letters.begins letters.is_digit text.now }
 {
     match text {

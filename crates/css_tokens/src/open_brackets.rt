@@ -69,16 +69,19 @@ impl OpenBrackets {
     pub fn pass(&mut self, token: &Token) -> Result<(), NoMemory>
         ensures { OnOk result (self.new ≡ open_past self.old token.now) }
     {
-        self.stack.pass(token.kind())
+        self.pass_kind(token.kind())
     }
 
-    /// Goes on after a token of this kind.
+    /// Goes on after a token of this kind. Most kinds are no bracket, and change nothing.
     #[inline]
     pub fn pass_kind(&mut self, kind: TokenKind) -> Result<(), NoMemory>
         ensures { OnOk result
             (self.new ≡ with_opened (opened_by (kind_of kind)) (without_closed self.old (closed_by (kind_of kind)))) }
     {
-        self.stack.pass(kind)
+        if kind.is_bracket() {
+            return self.stack.pass(kind);
+        }
+        Ok(())
     }
 
     /// The innermost bracket that is open.

@@ -97,21 +97,8 @@ impl OpenStack {
         Ok(())
     }
 
-    /// Goes on after a token of this kind that stands for itself. Most kinds are no bracket, and change nothing.
-    #[inline]
+    /// Goes on after a token of this kind that stands for itself.
     pub(crate) fn pass(&mut self, kind: TokenKind) -> Result<(), NoMemory>
-        ensures passed { OnOk result (self.new ≡ opened.beyond self.old (kind_of kind)) }
-        ensures closed { OnErr result (self.new ≡ opened.without_bracket self.old (closed_by (kind_of kind))) }
-    {
-        if kind.is_bracket() {
-            return self.pass_bracket(kind);
-        }
-        Ok(())
-    }
-
-    /// Goes on after a bracket of this kind.
-    #[inline(never)]
-    fn pass_bracket(&mut self, kind: TokenKind) -> Result<(), NoMemory>
         ensures passed { OnOk result (self.new ≡ opened.beyond self.old (kind_of kind)) }
         ensures closed { OnErr result (self.new ≡ opened.without_bracket self.old (closed_by (kind_of kind))) }
     {

@@ -81,7 +81,7 @@ fn first_fitting(first: char, rest: &[char], text: &[char]) -> Production
 }
 
 /// Whether `/*` is next.
-fn starts_comment(text: &[char]) -> bool
+pub(crate) fn starts_comment(text: &[char]) -> bool
     ensures { result ≡ model.starts_comment text.now }
 {
     matches!(text, ['/', '*', ..])

@@ -37,17 +37,15 @@ pub(crate) fn scan_run(grammar: Grammar, text: &[char]) -> Run
 {
     let plain = grammar.plain_len(text);
     let (front, rest) = text.split_at(plain);
-    let more = run_len(grammar, rest);
-    if more == 0 {
-        Run {
+    if !grammar.may_go_on(rest) {
+        return Run {
             len: plain,
             said: Said::Plain(front),
-        }
-    } else {
-        Run {
-            len: plain + more,
-            said: Said::Units { grammar, text },
-        }
+        };
+    }
+    Run {
+        len: plain + run_len(grammar, rest),
+        said: Said::Units { grammar, text },
     }
 }
 
@@ -82,7 +80,7 @@ pub(crate) fn text_of(alloc: Global, said: Said) -> Result<Text, NoMemory>
 }
 
 /// The text of these characters.
-fn plain_text(alloc: Global, text: &[char]) -> Result<Text, NoMemory>
+pub(crate) fn plain_text(alloc: Global, text: &[char]) -> Result<Text, NoMemory>
     ensures { IfOk result (λ said. said ≡ text.now) }
 {
     let Some(bytes) = short_ascii(text) else {

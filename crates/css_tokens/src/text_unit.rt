@@ -4,7 +4,7 @@ ghost use Rattle.std.specs.Prelude.{◌≡◌, ◌∷◌, ◌≤◌, Some, lengt
 ghost use Rattle.std.specs.List.{prefix_len};
 ghost use Rattle.syntax_model.specs.TextUnits as model;
 ghost use Rattle.css_tokens.specs.declared.text_unit.Grammar.TheVariants as variant;
-ghost use Rattle.css_tokens.specs.Scanned.{is_plain, unit_by, unit_of};
+ghost use Rattle.css_tokens.specs.Scanned.{is_plain, may_go_on, unit_by, unit_of};
 
 use crate::escape::{escape, starts_escape};
 use crate::letters::{is_blank, is_name_char, is_non_printable, is_quote};
@@ -72,6 +72,16 @@ impl Grammar {
             Grammar::Url => url_unit(*first, rest, text),
             Grammar::Remnants => remnant_unit(*first, rest, text),
             Grammar::Comment => comment_unit(*first, rest),
+        }
+    }
+
+    /// Whether the text may begin with a unit, though it begins with no character that is one alone.
+    pub(crate) fn may_go_on(self, text: &[char]) -> bool
+        ensures { result ≡ may_go_on self text.now }
+    {
+        match self {
+            Grammar::Comment => matches!(text, ['*', ..]),
+            _ => matches!(text, ['\\', ..]),
         }
     }
 

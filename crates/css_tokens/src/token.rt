@@ -1,17 +1,17 @@
 //! Tokens.
 
-ghost use Rattle.std.specs.Prelude.{◌≡◌, ◌↔◌, ◌+◌, ◌^◌, ◌<◌, IfOk, IsTrue};
+ghost use Rattle.std.specs.Prelude.{◌≡◌, ◌↔◌, ◌+◌, ◌^◌, ◌<◌, IfOk, IsTrue, length};
 ghost use Rattle.std.specs.Option.{option_map};
 ghost use Rattle.syntax_model.specs.Brackets.{closer};
 ghost use Rattle.syntax_model.specs.TokenKinds as kinds;
-ghost use Rattle.syntax_model.specs.Pieces.{token_of};
-ghost use Rattle.syntax_model.specs.Token.{said};
+ghost use Rattle.syntax_model.specs.Pieces.{named, plain, token_of};
+ghost use Rattle.syntax_model.specs.Token.{ident, said};
 ghost use Rattle.custom_model.specs.Value.{unplaced, white_space};
 ghost use Rattle.css_tokens.specs.View as view;
 ghost use Rattle.css_tokens.specs.Scanned.{piece_of};
 ghost use Rattle.css_tokens.specs.View.{bracket_of, kind_of, span_of};
 
-use crate::run::text_of;
+use crate::run::{plain_text, text_of};
 use crate::scan::Scan;
 use crate::spelling::Spelling;
 use crate::{Bracket, Separator, TokenKind};
@@ -61,6 +61,39 @@ impl Token {
             span: Some(Span {
                 start,
                 end: start + scan.len,
+            }),
+        })
+    }
+
+    /// A token that has neither name nor number. It takes no memory.
+    #[inline]
+    pub(crate) fn simple(alloc: Global, kind: TokenKind, start: usize, len: usize) -> Token
+        requires fits { start + len < 2 ^ 64 }
+        ensures { result ≡ token_of start (plain (kind_of kind) len) }
+    {
+        Token {
+            kind,
+            name: Text::new(alloc),
+            spelling: Spelling::empty(),
+            span: Some(Span {
+                start,
+                end: start + len,
+            }),
+        }
+    }
+
+    /// The identifier of this name, which stands at an offset as it is.
+    pub(crate) fn ident(alloc: Global, start: usize, name: &[char]) -> Result<Token, NoMemory>
+        requires fits { start + length name.now < 2 ^ 64 }
+        ensures { IfOk result (λ t. t ≡ token_of start (named ident name.now (length name.now))) }
+    {
+        Ok(Token {
+            kind: TokenKind::Ident,
+            name: plain_text(alloc, name)?,
+            spelling: Spelling::empty(),
+            span: Some(Span {
+                start,
+                end: start + name.len(),
             }),
         })
     }

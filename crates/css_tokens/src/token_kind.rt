@@ -1,6 +1,6 @@
 //! The kinds of tokens.
 
-ghost use Rattle.std.specs.Prelude.{◌≡◌, None, false};
+ghost use Rattle.std.specs.Prelude.{◌≡◌, ◌||◌, is_some};
 ghost use Rattle.std.specs.Option.{option_map};
 ghost use Rattle.syntax_model.specs.TokenKinds.{is_close_round};
 ghost use Rattle.syntax_model.specs.Brackets.{closed_by, opened_by};
@@ -68,10 +68,8 @@ impl TokenKind {
     }
 
     /// Whether a token of the kind opens a bracket, or closes one.
-    #[inline]
-    pub(crate) fn is_bracket(self) -> bool
-        ensures opens { result ≡ false → opened_by (kind_of self) ≡ None }
-        ensures closes { result ≡ false → closed_by (kind_of self) ≡ None }
+    pub fn is_bracket(self) -> bool
+        ensures { result ≡ (is_some (opened_by (kind_of self)) || is_some (closed_by (kind_of self))) }
     {
         match self {
             TokenKind::Function => true,

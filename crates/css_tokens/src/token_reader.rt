@@ -1,17 +1,17 @@
 //! A reader of the tokens of a text.
 
-ghost use Rattle.std.specs.Prelude.{◌≡◌, ◌≤◌, ◌+◌, ◌∷◌, [], IfOk, IsTrue, MatchOption, OnOk, drop, length};
+ghost use Rattle.std.specs.Prelude.{◌≡◌, ◌≤◌, ◌++◌, ◌∷◌, [], IfOk, IsTrue, MatchOption, OnOk, drop, false, length};
 ghost use Rattle.std.specs.Str.{chars};
-ghost use Rattle.syntax_model.specs.Pieces.{token_of};
+ghost use Rattle.syntax_model.specs.Pieces.{starts_comment};
 ghost use Rattle.syntax_model.specs.Preprocess.{is_preprocessed};
 ghost use Rattle.syntax_model.specs.TokensIn.{tokens_in};
-ghost use Rattle.css_tokens.specs.Reader.{IsPassed, tokens_left};
-ghost use Rattle.css_tokens.specs.Scanned.{piece_of};
+ghost use Rattle.css_tokens.specs.Reader.{IsAppended, IsPassed, tokens_left};
 ghost use Rattle.css_tokens.specs.View.{kind_of};
 
 use crate::characters::characters_of;
 use crate::pieces::scan;
-use crate::scan::Scan;
+use crate::production::starts_comment;
+use crate::quick::{Simple, plain_ident, simple_token};
 use crate::{Token, TokenKind};
 use std::alloc::Global;
 use std::marker::Model;
@@ -52,13 +52,63 @@ impl TokenReader {
             (λ token. self.old ≡ token ∷ self.new)) }
         ensures rest { OnOk result (self.new ≡ drop 1 self.old) }
     {
-        let Some(found) = find(self.text.as_slice(), self.place) else {
-            self.place = self.text.len();
+        let all = self.text.as_slice();
+        let start = past_comments(all, self.place);
+        let text = all.split_at(start).1;
+        if text.is_empty() {
+            self.place = start;
+            return Ok(None);
+        }
+        let scan = scan(text);
+        let token = Token::of_scan(alloc, start, &scan)?;
+        self.place = start + scan.len;
+        Ok(Some(token))
+    }
+
+    /// Reads the next token, appends it to a list, and says of which kind it is. After an error nothing is known of the
+    /// tokens that are left.
+    pub fn append(
+        &mut self,
+        alloc: Global,
+        list: &mut Vec<Token>,
+    ) -> Result<Option<TokenKind>, NoMemory>
+        ensures first { IfOk result (λ first. MatchOption first
+            ((self.old ≡ []) × (list.new ≡ list.old))
+            (λ kind. IsAppended (kind_of kind) self.old self.new list.old.items list.new.items)) }
+        ensures rest { OnOk result (self.new ≡ drop 1 self.old) }
+    {
+        let text = self.text.as_slice().split_at(self.place).1;
+        if let Some(Simple { kind, len }) = simple_token(text) {
+            list.push(Token::simple(alloc, kind, self.place, len))?;
+            self.place += len;
+            return Ok(Some(kind));
+        }
+        if let Some(name) = plain_ident(text) {
+            let len = name.len();
+            list.push(Token::ident(alloc, self.place, name)?)?;
+            self.place += len;
+            return Ok(Some(TokenKind::Ident));
+        }
+        self.append_found(alloc, list)
+    }
+
+    /// The same, by all productions.
+    fn append_found(
+        &mut self,
+        alloc: Global,
+        list: &mut Vec<Token>,
+    ) -> Result<Option<TokenKind>, NoMemory>
+        ensures first { IfOk result (λ first. MatchOption first
+            ((self.old ≡ []) × (list.new ≡ list.old))
+            (λ kind. IsAppended (kind_of kind) self.old self.new list.old.items list.new.items)) }
+        ensures rest { OnOk result (self.new ≡ drop 1 self.old) }
+    {
+        let Some(token) = self.next(alloc)? else {
             return Ok(None);
         };
-        let token = Token::of_scan(alloc, found.start, &found.scan)?;
-        self.place = found.start + found.scan.len;
-        Ok(Some(token))
+        let kind = token.kind();
+        list.push(token)?;
+        Ok(Some(kind))
     }
 
     /// Passes the next token, and says of which kind it is. It takes no memory.
@@ -67,41 +117,32 @@ impl TokenReader {
             (λ kind. IsPassed (kind_of kind) self.old self.new) }
         ensures rest { self.new ≡ drop 1 self.old }
     {
-        let Some(found) = find(self.text.as_slice(), self.place) else {
-            self.place = self.text.len();
+        let all = self.text.as_slice();
+        let start = past_comments(all, self.place);
+        let text = all.split_at(start).1;
+        if text.is_empty() {
+            self.place = start;
             return None;
-        };
-        let kind = found.scan.kind;
-        self.place = found.start + found.scan.len;
-        Some(kind)
+        }
+        let scan = scan(text);
+        self.place = start + scan.len;
+        Some(scan.kind)
     }
 }
 
-/// The piece of a token, and where it begins.
-#[derive(Clone, Copy, Debug)]
-struct Found<'a> {
-    start: usize,
-    scan: Scan<'a>,
-}
-
-/// The first token from a place on. A comment is none.
-fn find(text: &[char], place: usize) -> Option<Found>
+/// The place after the comments that begin at a place.
+fn past_comments(text: &[char], place: usize) -> usize
     requires { place ≤ length text.now }
-    ensures first { MatchOption result (tokens_left place text.now ≡ [])
-        (λ found. tokens_left place text.now ≡ token_of found.start (piece_of found.scan)
-        ∷ tokens_left (found.start + found.scan.len) text.now) }
-    ensures inside { MatchOption result (tokens_left place text.now ≡ [])
-        (λ found. found.start + found.scan.len ≤ length text.now) }
+    ensures same { tokens_left place text.now ≡ tokens_left result text.now }
+    ensures inside { result ≤ length text.now }
+    ensures past { starts_comment (drop result text.now) ≡ false }
 {
     let mut start = place;
     let mut rest = text.split_at(place).1;
-    while !rest.is_empty() {
-        let scan = scan(rest);
-        if !scan.is_comment {
-            return Some(Found { start, scan });
-        }
-        start += scan.len;
-        rest = rest.split_at(scan.len).1;
+    while starts_comment(rest) {
+        let len = scan(rest).len;
+        start += len;
+        rest = rest.split_at(len).1;
     }
-    None
+    start
 }

@@ -16,8 +16,6 @@ pub fn tokens(alloc: Global, text: &str) -> Result<Vec<Token>, NoMemory>
 {
     let mut reader = TokenReader::new(alloc, text)?;
     let mut list = Vec::new(alloc);
-    while let Some(token) = reader.next(alloc)? {
-        list.push(token)?;
-    }
+    while reader.append(alloc, &mut list)?.is_some() {}
     Ok(list)
 }

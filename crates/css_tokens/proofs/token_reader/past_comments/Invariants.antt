@@ -1,6 +1,6 @@
 use Rattle.std.proofs.Common.{length}
 use Rattle.css_tokens.proofs.TokenizerLemmas.{IsReadFrom}
-use Rattle.css_tokens.proofs.token_reader.find.Given as goal
+use Rattle.css_tokens.proofs.token_reader.past_comments.Given as goal
 
 abbrev pub invariant-loop-rest : goal.invariant-loop-rest
 invariant-loop-rest l = IsReadFrom l.text l.place l.start l.rest
