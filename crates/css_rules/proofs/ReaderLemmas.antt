@@ -1,19 +1,16 @@
 -- Reading on: the rules that are left stay the same.
 use Rattle.std.proofs.Common.{◌≡◌, ◌<◌, Bool, true, false, List, [], ◌∷◌, ◌++◌, length, Option, Some, None, option_map, refl, sym, ap, ◌∙◌, arith, append-nil}
 use Rattle.syntax_model.specs.Token.{Token}
-use Rattle.syntax_model.specs.TokenKinds.{is_at_keyword, is_open_curly}
 use Rattle.syntax_model.specs.Brackets.{Bracket, closer, closers}
-use Rattle.syntax_model.specs.RulesIn.{is_between_rules}
-use Rattle.base_model.specs.Lists.{is_nil}
 use Rattle.syntax_model.specs.Rules.{Rule, StyleBlock, style, layer}
 use Rattle.syntax_model.specs.Rules as model
-use Rattle.css_rules.specs.Left.{IsReadOn, rules_left}
+use Rattle.css_rules.specs.Left.{IsReadOn, IsReadTo, rules_left}
 use Rattle.css_rules.specs.Parser.{ended_of, layers_of, walk_after, walk_of}
 use Rattle.css_rules.specs.Reader.{current_of}
 use Rattle.css_rules.specs.Reading.{context_in, kind_in, moved}
 use Rattle.css_rules.specs.View.{context_of, rule_of}
 use Rattle.css_rules.specs.declared.rule.Rule as code
-use Rattle.css_rules.specs.Walk.{Walk, begun, ended_at, ends_layer, finished, is_skipping, keeping, past, skipped_at, step, step_at, steps}
+use Rattle.css_rules.specs.Walk.{Walk, ended_at, finished, is_skipping, skipped_at, step, step_at, steps}
 use Rattle.css_rules.specs.declared.rule.Context.{Context}
 use Rattle.css_rules.specs.declared.rule.RuleKind.{RuleKind}
 use Rattle.css_rules.specs.declared.rule.RuleKind.TheVariants as variant
@@ -37,6 +34,14 @@ skips Dropped walk token test = refl
 pub token_read : (walk next : Walk) (first : Token) (left rest : List Token) → left ≡ first ∷ rest → next ≡ step walk first → IsReadOn walk left next rest
 token_read walk next first left rest is_left is_next =
     rw (is_left, is_next) record { rules = refl; fewer = omega arith }
+
+-- more was read after some tokens
+module _ (walk mid next : Walk) (left between rest : List Token) (read : IsReadTo walk left mid between) where
+  pub read_on_after : IsReadOn mid between next rest → IsReadOn walk left next rest
+  read_on_after on = record { rules = read.rules ∙ on.rules; fewer = omega (arith, read.no_more, on.fewer) }
+
+  pub read_to_after : IsReadOn mid between next rest → IsReadTo walk left next rest
+  read_to_after on = record { rules = read.rules ∙ on.rules; no_more = omega (arith, read.no_more, on.fewer) }
 
 -- a closer was read
 pub closer_read : (walk next : Walk) (bracket : Bracket) (outer : List Bracket) (left rest : List Token) → left ≡ []
@@ -146,10 +151,3 @@ pub none_more : (rule : Option code.Rule) (found left rules : List Rule) → rul
 none_more None found [] rules none is all = sym (append-nil found) ∙ all
 none_more None found (next ∷ left) rules none is all = cc
 none_more (Some rule) found left rules none is all = cc
-
--- a token that begins a qualified rule
-pub begins_rule : (walk : Walk) (token : Token) → ends_layer walk token.kind ≡ false
-    → is_between_rules (is_nil walk.outer) token.kind ≡ false → is_at_keyword token.kind ≡ false
-    → is_open_curly token.kind ≡ false
-    → keeping Qualified (past (Prelude Qualified) walk token) token ≡ begun walk token
-begins_rule walk token a b c d = rw (a, b, c, d) refl

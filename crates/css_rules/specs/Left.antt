@@ -1,5 +1,5 @@
 -- The rules that are left of a sheet, from a place in its text on.
-use Rattle.std.specs.Prelude.{◌≡◌, ℕ, ◌+◌, ◌<◌, List, [], ◌++◌, length}
+use Rattle.std.specs.Prelude.{◌≡◌, ℕ, ◌+◌, ◌≤◌, ◌<◌, List, [], ◌++◌, length}
 use Rattle.syntax_model.specs.Token.{Token}
 use Rattle.syntax_model.specs.Brackets.{closers}
 use Rattle.syntax_model.specs.Rules.{Rule}
@@ -21,13 +21,18 @@ rules_left walk left = rules_at_end (steps walk left)
 abbrev pub to_read : Walk → List Token → ℕ
 to_read walk left = length left + length (steps walk left).pending
 
--- one token was read, and the rules stay the same
+-- one token or more were read, and the rules stay the same
 pub record IsReadOn (walk : Walk) (left : List Token) (after : Walk) (rest : List Token) : Type 0 where
   pub rules : rules_left walk left ≡ rules_left after rest
   pub fewer : to_read after rest < to_read walk left
 
+-- tokens were read, or none, and the rules stay the same
+pub record IsReadTo (walk : Walk) (left : List Token) (after : Walk) (rest : List Token) : Type 0 where
+  pub rules : rules_left walk left ≡ rules_left after rest
+  pub no_more : to_read after rest ≤ to_read walk left
+
 -- nothing is left to be read
-pub record IsAtEnd (walk : Walk) (left rest : List Token) : Type 0 where
-  pub none : left ≡ []
+pub record IsAtEnd (walk : Walk) (left : List Token) (after : Walk) (rest : List Token) : Type 0 where
+  pub read : IsReadTo walk left after rest
   pub none_after : rest ≡ []
-  pub none_open : walk.pending ≡ []
+  pub none_open : after.pending ≡ []

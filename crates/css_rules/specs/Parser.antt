@@ -2,9 +2,9 @@
 use Rattle.std.specs.Prelude.{◌≡◌, List, [], ◌∷◌, map, Bool, true, false, Option, Some, None}
 use Rattle.syntax_model.specs.Token.{Token}
 use Rattle.syntax_model.specs.Rules as model
-use Rattle.css_rules.specs.Left.{with_rules}
+use Rattle.css_rules.specs.Left.{IsReadOn, IsReadTo, with_rules}
 use Rattle.css_rules.specs.View.{context_of, contexts_of, edition_of}
-use Rattle.css_rules.specs.Walk.{Walk, step}
+use Rattle.css_rules.specs.Walk.{Walk}
 use Rattle.css_rules.specs.declared.rule.Context.{Context}
 use Rattle.css_rules.specs.declared.rule_parser.RuleParser.{RuleParser}
 
@@ -39,8 +39,8 @@ abbrev pub walk_after : Bool → RuleParser → Walk
 walk_after false parser = walk_of parser
 walk_after true parser = with_rules (ended_of parser ∷ []) (walk_of parser)
 
--- one token was read, and a qualified rule ended with it or not; or there is none
-abbrev pub IsTokenRead : Option Bool → RuleParser → List Token → RuleParser → List Token → Type 0
-IsTokenRead None old left new rest = (left ≡ []) × (rest ≡ []) × (new ≡ old)
-IsTokenRead (Some ended) old left new rest =
-    (first : Token) × (left ≡ first ∷ rest) × (walk_after ended new ≡ step (walk_of old) first)
+-- tokens were read, up to one with which a qualified rule ended or not; or all that were left
+abbrev pub IsRead : Option Bool → RuleParser → List Token → RuleParser → List Token → Type 0
+IsRead None old left new rest =
+    IsReadTo (walk_of old) left (walk_of new) rest × (rest ≡ []) × (new.layers.items ≡ [])
+IsRead (Some ended) old left new rest = IsReadOn (walk_of old) left (walk_after ended new) rest

@@ -129,11 +129,14 @@ opened Layer walk kind =
     (record walk { anonymous = counted walk.anonymous walk.prelude; prelude = [] }) kind
 opened Other walk kind = past_kind Dropped walk kind
 
+abbrev pub at_rule_begun : Walk → Token → Walk
+at_rule_begun walk token = record walk { state = Prelude (head_named token.name) }
+
 abbrev pub begun : Walk → Token → Walk
 begun walk token =
     if ends_layer walk token.kind then out walk
     else if is_between_rules (is_nil walk.outer) token.kind then walk
-    else if is_at_keyword token.kind then record walk { state = Prelude (head_named token.name) }
+    else if is_at_keyword token.kind then at_rule_begun walk token
     else if is_open_curly token.kind then past Block walk token
     else keeping Qualified (past (Prelude Qualified) walk token) token
 

@@ -3,7 +3,7 @@
 ghost use Rattle.std.specs.Prelude.{◌≡◌, ◌&&◌, ◌++◌, ◌∷◌, [], false, true, IfOk, List, OnOk};
 ghost use Rattle.base_model.specs.Lists.{is_nil};
 ghost use Rattle.syntax_model.specs.Token as model;
-ghost use Rattle.syntax_model.specs.TokenKinds.{is_close_curly, is_open_curly, is_semicolon};
+ghost use Rattle.syntax_model.specs.TokenKinds.{is_at_keyword, is_close_curly, is_open_curly, is_semicolon};
 ghost use Rattle.syntax_model.specs.RulesIn.{is_between_rules};
 ghost use Rattle.syntax_model.specs.SheetRules.{is_layer_name};
 ghost use Rattle.css_tokens.specs.View.{kind_of};
@@ -88,7 +88,10 @@ impl RuleParser {
     {
         let kind = token.kind();
         match self.state {
-            ParserState::Between => self.begin(token)?,
+            ParserState::Between => {
+                self.prelude.push(token)?;
+                self.begin(kind)?;
+            }
             ParserState::Prelude(Head::Other) => self.skip_in_prelude(alloc, kind)?,
             ParserState::Prelude(head) => {
                 self.prelude.push(token)?;
@@ -114,36 +117,42 @@ impl RuleParser {
         }
     }
 
-    /// Between rules: leaves the block of a layer, skips the token, or begins a rule with it.
-    pub fn begin(&mut self, token: Token) -> Result<(), NoMemory>
+    /// Goes on between rules, after a token of this kind, which was appended to the prelude: leaves the block of a
+    /// layer, skips the token, or begins a rule with it. It stays there where it begins a qualified one.
+    pub fn begin(&mut self, kind: TokenKind) -> Result<(), NoMemory>
         requires { self.old.state ≡ ParserState.Between }
-        ensures { OnOk result (walk_of self.new ≡ walk.begun (walk_of self.old) token) }
+        ensures { (read : List model.Token) (token : model.Token) → self.old.prelude.items ≡ read ++ token ∷ []
+            → kind_of kind ≡ token.kind → OnOk result
+            (walk_of self.new ≡ walk.begun (walk.with_prelude read (walk_of self.old)) token) }
     {
-        if self.is_layer_end(&token) {
+        if self.ends_layer(kind) {
+            self.prelude.pop();
             self.leave();
             return Ok(());
         }
-        if is_between_rules(self.is_at_top(), &token) {
+        if is_between_rules(self.is_at_top(), kind) {
+            self.prelude.pop();
             return Ok(());
         }
-        if token.is_at_keyword() {
-            self.state = ParserState::Prelude(head_named(name_of(&token)));
+        if is_at_keyword(kind) {
+            self.begin_at_rule();
             return Ok(());
         }
-        if token.is_open_curly() {
-            return self.pass(ParserState::Block, &token);
+        if is_open_curly(kind) {
+            self.prelude.pop();
+            return self.pass_kind(ParserState::Block, kind);
         }
-        self.begin_rule(token)
+        self.pass_kind(ParserState::Prelude(Head::Qualified), kind)
     }
 
-    /// Begins a qualified rule with the first token of its prelude.
-    fn begin_rule(&mut self, token: Token) -> Result<(), NoMemory>
-        ensures { OnOk result (walk_of self.new ≡ walk.keeping Head.Qualified
-            (walk.past (ParserState.Prelude Head.Qualified) (walk_of self.old) token) token) }
+    /// Begins an at-rule, whose keyword was appended to the prelude.
+    fn begin_at_rule(&mut self)
+        ensures { (read : List model.Token) (token : model.Token) → self.old.prelude.items ≡ read ++ token ∷ []
+            → walk_of self.new ≡ walk.at_rule_begun (walk.with_prelude read (walk_of self.old)) token }
     {
-        self.pass(ParserState::Prelude(Head::Qualified), &token)?;
-        self.prelude.push(token)?;
-        Ok(())
+        if let Some(keyword) = self.prelude.pop() {
+            self.state = ParserState::Prelude(head_named(name_of(&keyword)));
+        }
     }
 
     /// Goes on after a token of this kind, which was appended to the prelude of the rule. It stays there unless it ends
@@ -210,7 +219,7 @@ impl RuleParser {
     }
 
     /// The same, where the token may end the block.
-    fn pass_in_block(&mut self, alloc: Global, kind: TokenKind) -> Result<bool, NoMemory>
+    pub fn pass_in_block(&mut self, alloc: Global, kind: TokenKind) -> Result<bool, NoMemory>
         requires { self.old.layers.items ≡ [] }
         ensures { (read : List model.Token) (token : model.Token) → self.old.block.items ≡ read ++ token ∷ []
             → kind_of kind ≡ token.kind → IfOk result
@@ -233,14 +242,6 @@ impl RuleParser {
             self.state = ParserState::Between;
         }
         Ok(())
-    }
-
-    /// Goes past a token into a state.
-    fn pass(&mut self, state: ParserState, token: &Token) -> Result<(), NoMemory>
-        ensures walk { OnOk result (walk_of self.new ≡ walk.past state (walk_of self.old) token.now) }
-        ensures layers { self.new.layers.items ≡ self.old.layers.items }
-    {
-        self.pass_kind(state, token.kind())
     }
 
     /// Goes past a token of this kind into a state.
@@ -275,13 +276,6 @@ impl RuleParser {
         ensures { result ≡ is_nil (walk_of self.now).outer }
     {
         self.outer.is_empty()
-    }
-
-    /// Whether a token ends the block of a layer.
-    fn is_layer_end(&self, token: &Token) -> bool
-        ensures { result ≡ walk.ends_layer (walk_of self.now) token.now.kind }
-    {
-        self.ends_layer(token.kind())
     }
 
     /// Outside brackets a curly bracket opens the block.
@@ -401,11 +395,22 @@ fn empty(alloc: Global, list: &mut Vec<Token>)
     }
 }
 
-/// Whether a token is skipped between rules.
-fn is_between_rules(top: bool, token: &Token) -> bool
-    ensures { result ≡ is_between_rules top token.now.kind }
+/// Whether a token of this kind is skipped between rules.
+fn is_between_rules(top: bool, kind: TokenKind) -> bool
+    ensures { result ≡ is_between_rules top (kind_of kind) }
 {
-    token.is_white() || top && (token.is_cdo() || token.is_cdc())
+    match kind {
+        TokenKind::Whitespace => true,
+        TokenKind::Cdo | TokenKind::Cdc => top,
+        _ => false,
+    }
+}
+
+/// Whether it is the kind of an at-keyword.
+fn is_at_keyword(kind: TokenKind) -> bool
+    ensures { result ≡ is_at_keyword (kind_of kind) }
+{
+    matches!(kind, TokenKind::AtKeyword)
 }
 
 /// What an at-keyword of this name begins.
@@ -427,7 +432,7 @@ fn is_layer_name(name: &Text) -> bool
 }
 
 /// Whether it is the kind of `;`.
-fn is_semicolon(kind: TokenKind) -> bool
+pub(crate) fn is_semicolon(kind: TokenKind) -> bool
     ensures { result ≡ is_semicolon (kind_of kind) }
 {
     matches!(kind, TokenKind::Semicolon)

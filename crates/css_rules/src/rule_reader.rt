@@ -8,12 +8,12 @@ ghost use Rattle.syntax_model.specs.Rules as model;
 ghost use Rattle.syntax_model.specs.SheetRules.{sheet_rules_in};
 ghost use Rattle.syntax_model.specs.Token as token;
 ghost use Rattle.css_rules.specs.Left.{IsAtEnd, IsReadOn, rules_left};
-ghost use Rattle.css_rules.specs.Parser.{IsTokenRead, walk_after, walk_of};
+ghost use Rattle.css_rules.specs.Parser.{IsRead, walk_after, walk_of};
 ghost use Rattle.css_rules.specs.Reading.{context_in, kind_in, moved, unread};
 ghost use Rattle.css_rules.specs.View.{context_of, edition_of, rule_of, style_of};
 ghost use Rattle.css_rules.specs.Walk.{is_skipping, step};
 
-use crate::rule_parser::{Head, ParserState, RuleParser};
+use crate::rule_parser::{Head, ParserState, RuleParser, is_semicolon};
 use crate::{Context, Rule, RuleKind, SheetEdition, StyleBlock};
 use css_tokens::{Token, TokenList, TokenReader, preprocess};
 use std::alloc::Global;
@@ -149,32 +149,32 @@ fn find(alloc: Global, tokens: &mut TokenReader, parser: &mut RuleParser) -> Res
     Ok(false)
 }
 
-/// Reads one token of the text, or the closer of what its end leaves open in a rule, and says whether a qualified rule
-/// ended with it. Nothing, if all was read.
+/// Reads on in the text, or the closer of what its end leaves open in a rule, and says whether a qualified rule ended.
+/// Nothing, if all was read.
 fn read_on(
     alloc: Global,
     tokens: &mut TokenReader,
     parser: &mut RuleParser,
 ) -> Result<Option<bool>, NoMemory>
     requires { parser.old.layers.items ≡ [] }
-    ensures on { IfOk result (λ read. MatchOption read (IsAtEnd (walk_of parser.old) tokens.old tokens.new)
+    ensures { IfOk result (λ read. MatchOption read
+        (IsAtEnd (walk_of parser.old) tokens.old (walk_of parser.new) tokens.new)
         (λ ended. IsReadOn (walk_of parser.old) tokens.old (walk_after ended parser.new) tokens.new)) }
-    ensures end { IfOk result (λ read. read ≡ None → parser.new ≡ parser.old) }
 {
-    if let Some(ended) = read_token(alloc, tokens, parser)? {
+    if let Some(ended) = read_tokens(alloc, tokens, parser)? {
         return Ok(Some(ended));
     }
     read_closer(alloc, parser)
 }
 
-/// Reads one token of the text.
-fn read_token(
+/// Reads tokens of the text, up to one with which a qualified rule may end.
+fn read_tokens(
     alloc: Global,
     tokens: &mut TokenReader,
     parser: &mut RuleParser,
 ) -> Result<Option<bool>, NoMemory>
     requires { parser.old.layers.items ≡ [] }
-    ensures { IfOk result (λ read. IsTokenRead read parser.old tokens.old parser.new tokens.new) }
+    ensures { IfOk result (λ read. IsRead read parser.old tokens.old parser.new tokens.new) }
 {
     match parser.state {
         ParserState::Between => read_between(alloc, tokens, parser),
@@ -192,13 +192,14 @@ fn read_between(
     tokens: &mut TokenReader,
     parser: &mut RuleParser,
 ) -> Result<Option<bool>, NoMemory>
-    requires { parser.old.state ≡ ParserState.Between }
-    ensures { IfOk result (λ read. IsTokenRead read parser.old tokens.old parser.new tokens.new) }
+    requires state { parser.old.state ≡ ParserState.Between }
+    requires layers { parser.old.layers.items ≡ [] }
+    ensures { IfOk result (λ read. IsRead read parser.old tokens.old parser.new tokens.new) }
 {
-    let Some(token) = tokens.next(alloc)? else {
+    let Some(kind) = tokens.append(alloc, &mut parser.prelude)? else {
         return Ok(None);
     };
-    parser.begin(token)?;
+    parser.begin(kind)?;
     Ok(Some(false))
 }
 
@@ -208,8 +209,9 @@ fn read_past(
     tokens: &mut TokenReader,
     parser: &mut RuleParser,
 ) -> Result<Option<bool>, NoMemory>
-    requires { is_skipping parser.old.state ≡ true }
-    ensures { IfOk result (λ read. IsTokenRead read parser.old tokens.old parser.new tokens.new) }
+    requires state { is_skipping parser.old.state ≡ true }
+    requires layers { parser.old.layers.items ≡ [] }
+    ensures { IfOk result (λ read. IsRead read parser.old tokens.old parser.new tokens.new) }
 {
     let Some(kind) = tokens.pass() else {
         return Ok(None);
@@ -218,7 +220,7 @@ fn read_past(
     Ok(Some(false))
 }
 
-/// In a prelude that is kept.
+/// In a prelude that is kept, up to a token that may end it.
 fn read_in_prelude(
     alloc: Global,
     head: Head,
@@ -227,16 +229,19 @@ fn read_in_prelude(
 ) -> Result<Option<bool>, NoMemory>
     requires state { parser.old.state ≡ ParserState.Prelude head }
     requires kept { is_skipping parser.old.state ≡ false }
-    ensures { IfOk result (λ read. IsTokenRead read parser.old tokens.old parser.new tokens.new) }
+    requires layers { parser.old.layers.items ≡ [] }
+    ensures { IfOk result (λ read. IsRead read parser.old tokens.old parser.new tokens.new) }
 {
-    let Some(kind) = tokens.append(alloc, &mut parser.prelude)? else {
-        return Ok(None);
-    };
-    parser.go_on_in_prelude(alloc, head, kind)?;
-    Ok(Some(false))
+    while let Some(kind) = tokens.append(alloc, &mut parser.prelude)? {
+        if kind.is_bracket() || is_semicolon(kind) {
+            parser.go_on_in_prelude(alloc, head, kind)?;
+            return Ok(Some(false));
+        }
+    }
+    Ok(None)
 }
 
-/// In the block of a qualified rule.
+/// In the block of a qualified rule, up to a token that may end it.
 fn read_in_block(
     alloc: Global,
     tokens: &mut TokenReader,
@@ -244,13 +249,15 @@ fn read_in_block(
 ) -> Result<Option<bool>, NoMemory>
     requires state { parser.old.state ≡ ParserState.Block }
     requires layers { parser.old.layers.items ≡ [] }
-    ensures { IfOk result (λ read. IsTokenRead read parser.old tokens.old parser.new tokens.new) }
+    ensures { IfOk result (λ read. IsRead read parser.old tokens.old parser.new tokens.new) }
 {
-    let Some(kind) = tokens.append(alloc, &mut parser.block)? else {
-        return Ok(None);
-    };
-    let ended = parser.go_on_in_block(alloc, kind)?;
-    Ok(Some(ended))
+    while let Some(kind) = tokens.append(alloc, &mut parser.block)? {
+        if kind.is_bracket() || parser.pending.is_empty() {
+            let ended = parser.pass_in_block(alloc, kind)?;
+            return Ok(Some(ended));
+        }
+    }
+    Ok(None)
 }
 
 /// Reads the closer of the innermost bracket that is open in a rule.
