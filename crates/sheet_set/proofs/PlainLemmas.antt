@@ -1,21 +1,21 @@
--- A value without a function refers to no custom property.
-use Rattle.std.proofs.Common.{◌≡◌, ℕ, zero, suc, List, [], ◌∷◌, Bool, true, false, ◌&&◌, ◌||◌, if◌then◌else◌, not, map, length, Some, None, option_map, refl, ap, ◌∙◌}
-use Rattle.std.specs.Prelude.{codes, option_and_then}
+-- A value without `var(` refers to no custom property.
+use Rattle.std.proofs.Common.{◌≡◌, ℕ, zero, suc, List, [], ◌∷◌, Bool, true, false, ◌||◌, ◌&&◌, if◌then◌else◌, not, map, length, Some, None, option_map, refl, ap, ◌∙◌}
+use Rattle.std.specs.Prelude.{option_and_then}
 use Rattle.std.specs.List.{list_any}
 use Rattle.std.specs.Option.{option_map_or}
 use Rattle.std.proofs.lemmas.Bool.{or_parts}
 use Rattle.base_model.specs.Lists.{is_nil}
-use Rattle.base_model.specs.Text.{Characters, is_word}
+use Rattle.base_model.specs.Text.{Characters}
 use Rattle.syntax_model.specs.Token.{Token, Said, said}
-use Rattle.syntax_model.specs.TokenKinds.{is_white, is_function, is_close_round}
+use Rattle.syntax_model.specs.TokenKinds.{is_white, is_close_round}
 use Rattle.syntax_model.specs.Brackets.{Bracket}
 use Rattle.custom_model.specs.Value.{CustomValue, normal, spaced, white_space}
 use Rattle.custom_model.specs.Parts.{Parts, Reading, plain, after, is_unfit, is_var, open_beyond, parts, parts_within, references, references_in, refers, referring_value_in, kept_where_valid, is_valid}
-use Rattle.sheet_set.specs.Parts.{has_function}
+use Rattle.sheet_set.specs.Parts.{has_var}
 
--- whether some token is a function
+-- whether `var(` is one of the tokens
 abbrev calls : List Said → Bool
-calls tokens = list_any (λ token. is_function token.kind) tokens
+calls tokens = list_any is_var tokens
 
 abbrev found : Reading → List Characters
 found reading = option_map_or (λ r. references r.0) reading []
@@ -38,18 +38,17 @@ parts_plain : (most : ℕ) (within : Bool) (pending : List Bracket) (tokens : Li
 parts_plain zero within pending tokens h = refl
 parts_plain (suc most) within pending [] h = at_end (within || not (is_nil pending))
 parts_plain (suc most) within pending (token ∷ tokens) h =
-    let none = or_parts (is_function token.kind) (calls tokens) h in
-    let not_var : is_var token ≡ false = ap (λ b. b && is_word (codes "var") token.name) none.0 in
-    in_cases (within && (is_nil pending && is_close_round token.kind)) (is_unfit pending token.kind) (is_var token) tokens token _ _ not_var (parts_plain most within (open_beyond pending token.kind) tokens none.1)
+    let none = or_parts (is_var token) (calls tokens) h in
+    in_cases (within && (is_nil pending && is_close_round token.kind)) (is_unfit pending token.kind) (is_var token) tokens token _ _ none.0 (parts_plain most within (open_beyond pending token.kind) tokens none.1)
 
--- dropped whitespace takes no function away, and adds none
+-- dropped whitespace takes no `var(` away, and adds none
 spaced_calls : (pending : Bool) (tokens : List Said) → calls tokens ≡ false → calls (spaced pending tokens) ≡ false
 spaced_calls pending [] h = refl
 spaced_calls pending (token ∷ tokens) h =
-    let none = or_parts (is_function token.kind) (calls tokens) h in
+    let none = or_parts (is_var token) (calls tokens) h in
     by_white (is_white token.kind) pending none.0 (spaced_calls true tokens none.1) (spaced_calls false tokens none.1)
   where
-    by_white : (white pending : Bool) → is_function token.kind ≡ false → calls (spaced true tokens) ≡ false → calls (spaced false tokens) ≡ false → calls (if white then spaced true tokens else if pending then white_space ∷ token ∷ spaced false tokens else token ∷ spaced false tokens) ≡ false
+    by_white : (white pending : Bool) → is_var token ≡ false → calls (spaced true tokens) ≡ false → calls (spaced false tokens) ≡ false → calls (if white then spaced true tokens else if pending then white_space ∷ token ∷ spaced false tokens else token ∷ spaced false tokens) ≡ false
     by_white true pending e f g = f
     by_white false true e f g = ap (λ b. b || calls (spaced false tokens)) e ∙ g
     by_white false false e f g = ap (λ b. b || calls (spaced false tokens)) e ∙ g
@@ -57,10 +56,10 @@ spaced_calls pending (token ∷ tokens) h =
 normal_calls : (tokens : List Said) → calls tokens ≡ false → calls (normal tokens) ≡ false
 normal_calls [] h = refl
 normal_calls (token ∷ tokens) h =
-    let none = or_parts (is_function token.kind) (calls tokens) h in
+    let none = or_parts (is_var token) (calls tokens) h in
     by_white (is_white token.kind) none.0 (normal_calls tokens none.1) (spaced_calls false tokens none.1)
   where
-    by_white : (white : Bool) → is_function token.kind ≡ false → calls (normal tokens) ≡ false → calls (spaced false tokens) ≡ false → calls (if white then normal tokens else token ∷ spaced false tokens) ≡ false
+    by_white : (white : Bool) → is_var token ≡ false → calls (normal tokens) ≡ false → calls (spaced false tokens) ≡ false → calls (if white then normal tokens else token ∷ spaced false tokens) ≡ false
     by_white true e f g = f
     by_white false e f g = ap (λ b. b || calls (spaced false tokens)) e ∙ g
 
@@ -68,7 +67,7 @@ names_in : (read : Reading) → option_map_or references (option_map (λ r. r.0)
 names_in None = refl
 names_in (Some r) = refl
 
--- a value without a function refers to nothing
+-- a value without `var(` refers to nothing
 no_names : (value : CustomValue) → calls value ≡ false → references_in value ≡ []
 unfolding parts
 no_names value h =
@@ -81,12 +80,12 @@ kept_none value true false h e f =
 kept_none value false refers_to h e f =
     ap (λ b. option_and_then (λ v. if refers v then Some v else None) (if b then Some value else None)) e
 
-said_calls : (tokens : List Token) → calls (map said tokens) ≡ has_function tokens
+said_calls : (tokens : List Token) → calls (map said tokens) ≡ has_var tokens
 said_calls [] = refl
-said_calls (token ∷ tokens) = ap (λ b. is_function token.kind || b) (said_calls tokens)
+said_calls (token ∷ tokens) = ap (λ b. is_var (said token) || b) (said_calls tokens)
 
 -- so tokens without one are no value that refers to something
-pub refers_to_none : (tokens : List Token) → has_function tokens ≡ false → referring_value_in tokens ≡ None
+pub refers_to_none : (tokens : List Token) → has_var tokens ≡ false → referring_value_in tokens ≡ None
 refers_to_none tokens h =
     let value = normal (map said tokens) in
     let none : calls value ≡ false = normal_calls (map said tokens) (said_calls tokens ∙ h) in

@@ -3,18 +3,17 @@ use Rattle.std.specs.Prelude.{ℕ, List, [], flat_map, map, zip, Bool, Option, o
 use Rattle.std.specs.List.{list_any}
 use Rattle.std.specs.Option.{option_or}
 use Rattle.base_model.specs.Lists.{every}
-use Rattle.syntax_model.specs.Token.{Token}
+use Rattle.syntax_model.specs.Token.{Token, said}
 use Rattle.syntax_model.specs.Rules.{Declaration}
-use Rattle.custom_model.specs.Parts.{referring_value_in}
-use Rattle.syntax_model.specs.TokenKinds.{is_function}
+use Rattle.custom_model.specs.Parts.{is_var, referring_value_in}
 use Rattle.value_model.specs.Value.{Value}
 use Rattle.sheet_model.specs.ValueIn.{value_in}
 use Rattle.sheet_model.specs.Shorthands.{PropertyName, values_in}
 use Rattle.sheet_model.specs.Declared.{Given, wide, exactly, referring, longhand, Declared, wide_in, givens_in, declared_each, declared_with}
 
--- whether some token is a function
-abbrev pub has_function : List Token → Bool
-has_function tokens = list_any (λ token. is_function token.kind) tokens
+-- whether `var(` is one of the tokens
+abbrev pub has_var : List Token → Bool
+has_var tokens = list_any (λ token. is_var (said token)) tokens
 
 -- what tokens give any property that a name names: a CSS-wide keyword, or a value that refers to custom properties
 abbrev pub common_given_in : PropertyName → List Token → Option Given

@@ -1,30 +1,37 @@
 //! Values that refer to custom properties (css-variables-1, section 3).
 
 ghost use Rattle.std.specs.Prelude.{◌≡◌, IfOk};
-ghost use Rattle.custom_model.specs.Parts.{referring_value_in};
-ghost use Rattle.sheet_set.specs.Parts.{has_function};
+ghost use Rattle.syntax_model.specs.Token.{said};
+ghost use Rattle.custom_model.specs.Parts.{is_var, referring_value_in};
+ghost use Rattle.sheet_set.specs.Parts.{has_var};
 
-use css_tokens::{CustomValue, Token};
+use css_tokens::{CustomValue, Token, name_of};
 use std::alloc::Global;
-use stylo_base::NoMemory;
+use stylo_base::{NoMemory, eq_ascii_case};
 
-/// What is kept of tokens that refer to custom properties. Tokens without a function refer to none,
-/// and are not copied.
+/// What is kept of tokens that refer to custom properties. Tokens without `var(` refer to none, and are not copied.
 pub(crate) fn referring_value(
     alloc: Global,
     tokens: &[Token],
 ) -> Result<Option<CustomValue>, NoMemory>
     ensures { IfOk result (λ value. value ≡ referring_value_in tokens.now) }
 {
-    if !has_function(tokens) {
+    if !has_var(tokens) {
         return Ok(None);
     }
     CustomValue::read_referring(alloc, tokens)
 }
 
-/// Whether some token is a function.
-fn has_function(tokens: &[Token]) -> bool
-    ensures { result ≡ has_function tokens.now }
+/// Whether `var(` is one of the tokens.
+fn has_var(tokens: &[Token]) -> bool
+    ensures { result ≡ has_var tokens.now }
 {
-    tokens.iter().any(|token| token.is_function())
+    tokens.iter().any(is_var)
+}
+
+/// Whether it is `var(`, ignoring ASCII case.
+fn is_var(token: &Token) -> bool
+    ensures { result ≡ is_var (said token.now) }
+{
+    token.is_function() && eq_ascii_case(name_of(token).as_str(), "var")
 }
