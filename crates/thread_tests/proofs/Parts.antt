@@ -4,6 +4,7 @@ use denote.Param.Send.{IsSend, IsSync, sendable, view_send}
 use denote.Param.SendFields.{FieldsHave, as_row_send, declared_send}
 use Rattle.std.proofs.Crossing.{crosses}
 use Rattle.std.proofs.MapsCrossing.{crosses as maps}
+use Rattle.stylo_base.specs.contracts.text.Text as Text
 use Rattle.layer_order.specs.contracts.layers.Layers as Layers
 use Rattle.layer_order.specs.contracts.name.LayerName as LayerName
 use Rattle.layer_order.proofs.name.LayerName.TheLaws.TheKnot as name
@@ -31,6 +32,9 @@ use Rattle.style_session.specs.contracts.session.Session as Session
 use Rattle.style_session.specs.contracts.session.Session.TheInside as Inside
 use Rattle.style_session.specs.contracts.style_cache.StyleCache as StyleCache
 use Rattle.style_session.proofs.style_cache.StyleCache.TheSendSync as cache
+
+pub text_send : IsSend Text.the_row
+text_send = search (sendable, crosses) depth 40 fits 20000
 
 -- a selector holds selectors
 
@@ -129,7 +133,7 @@ pub marker_send : IsSend Marker.the_row
 marker_send = search (set_send, sendable, crosses) depth 40 fits 20000
 
 pub marking_send : IsSend Marking.the_row
-marking_send = search (marker_send, sendable, crosses) depth 40 fits 20000
+marking_send = search (text_send, marker_send, sendable, crosses) depth 60 fits 20000
 
 pub fresh_send : IsSend Fresh.the_row
 fresh_send = search (set_send, sendable, crosses) depth 40 fits 20000
