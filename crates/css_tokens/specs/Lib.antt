@@ -3,6 +3,7 @@ pub mod Input
 pub mod Scanned
 pub mod Taken
 pub mod View
+pub mod Extents
 pub mod KeptTokens
 pub mod Validity
 pub mod CustomView

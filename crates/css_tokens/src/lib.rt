@@ -8,6 +8,7 @@ mod comma_separated;
 mod cursor;
 mod custom;
 mod escape;
+mod extent;
 mod input;
 pub mod laws;
 pub mod letters;

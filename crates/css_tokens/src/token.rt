@@ -11,12 +11,14 @@ ghost use Rattle.css_tokens.specs.View as view;
 ghost use Rattle.css_tokens.specs.Scanned.{piece_of};
 ghost use Rattle.css_tokens.specs.View.{bracket_of, kind_of, span_of};
 
+use crate::extent::Extent;
 use crate::run::{plain_text, text_of};
 use crate::scan::Scan;
 use crate::spelling::Spelling;
 use crate::{Bracket, Separator, TokenKind};
 use std::alloc::Global;
 use std::marker::Model;
+use std::mem::size_of;
 use stylo_base::{NoMemory, Text};
 
 /// Where the text of a token is, in characters of the preprocessed text, without the one at `end`.
@@ -33,19 +35,21 @@ pub struct Token {
     kind: TokenKind,
     name: Text,
     spelling: Spelling,
-    span: Option<Span>,
+    extent: Extent,
 }
+
+const _: () = prove!(size_of::<Token>() == 88);
 
 impl Model for Token {
     ghost use Rattle.syntax_model.specs.Token as model;
-    ghost use Rattle.std.specs.Option.{option_map};
+    ghost use Rattle.css_tokens.specs.Extents.{extent_of};
     ghost use Rattle.css_tokens.specs.Spelled.{spelled};
     ghost use Rattle.css_tokens.specs.View.{kind_of};
-    ghost use Rattle.css_tokens.specs.View.{span_of, token_seen};
+    ghost use Rattle.css_tokens.specs.View.{token_seen};
 
     ghost Value = { model.Token };
 
-    ghost view = { λ t. token_seen (kind_of t.kind) t.name (spelled t.spelling) (option_map span_of t.span) };
+    ghost view = { λ t. token_seen (kind_of t.kind) t.name (spelled t.spelling) (extent_of t.extent) };
 }
 
 impl Token {
@@ -58,10 +62,7 @@ impl Token {
             kind: scan.kind,
             name: text_of(alloc, scan.name)?,
             spelling: Spelling::of_slice(alloc, scan.spelling)?,
-            span: Some(Span {
-                start,
-                end: start + scan.len,
-            }),
+            extent: Extent::new(start, scan.len),
         })
     }
 
@@ -75,10 +76,7 @@ impl Token {
             kind,
             name: Text::new(alloc),
             spelling: Spelling::empty(),
-            span: Some(Span {
-                start,
-                end: start + len,
-            }),
+            extent: Extent::new(start, len),
         }
     }
 
@@ -91,10 +89,7 @@ impl Token {
             kind: TokenKind::Ident,
             name: plain_text(alloc, name)?,
             spelling: Spelling::empty(),
-            span: Some(Span {
-                start,
-                end: start + name.len(),
-            }),
+            extent: Extent::new(start, name.len()),
         })
     }
 
@@ -106,7 +101,7 @@ impl Token {
             kind: bracket.closer(),
             name: Text::new(alloc),
             spelling: Spelling::empty(),
-            span: None,
+            extent: Extent::nowhere(),
         }
     }
 
@@ -121,7 +116,7 @@ impl Token {
     pub fn span(&self) -> Option<Span>
         ensures { option_map span_of result ≡ self.now.span }
     {
-        self.span
+        self.extent.get()
     }
 
     /// Whether it is whitespace.
@@ -232,7 +227,7 @@ impl Token {
             kind: self.kind,
             name: self.name.copy(alloc)?,
             spelling: self.spelling.copy(alloc)?,
-            span: self.span,
+            extent: self.extent,
         })
     }
 
@@ -244,7 +239,7 @@ impl Token {
             kind: self.kind,
             name: self.name.copy(alloc)?,
             spelling: self.spelling.copy(alloc)?,
-            span: None,
+            extent: Extent::nowhere(),
         })
     }
 
@@ -256,7 +251,7 @@ impl Token {
             kind: TokenKind::Whitespace,
             name: Text::new(alloc),
             spelling: Spelling::empty(),
-            span: None,
+            extent: Extent::nowhere(),
         }
     }
 

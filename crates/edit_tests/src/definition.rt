@@ -94,7 +94,7 @@ fn is_touched(scene: Scene<'_>, x: u32, test: &Simple) -> bool {
             before.has_class(x, class.as_str()) != scene.has_class(x, class.as_str())
         }
         Simple::Attribute(name) => differs(scene, x, name.as_str()),
-        Simple::AttributeCompares { name, .. } => differs(scene, x, name.as_str()),
+        Simple::AttributeCompares(test) => differs(scene, x, test.name.as_str()),
         Simple::State(state) => differs(scene, x, state_name(*state)),
         _ => false,
     }

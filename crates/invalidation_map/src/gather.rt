@@ -149,7 +149,7 @@ fn touch_of(alloc: Global, part: &Part) -> Result<Option<Touch>, NoMemory>
         Simple::Id(name) => Some(Touch::Id(name_of(alloc, name)?)),
         Simple::Class(name) => Some(Touch::Class(name_of(alloc, name)?)),
         Simple::Attribute(name) => Some(Touch::Attribute(name_of(alloc, name)?)),
-        Simple::AttributeCompares { name, .. } => Some(Touch::Attribute(name_of(alloc, name)?)),
+        Simple::AttributeCompares(test) => Some(Touch::Attribute(name_of(alloc, &test.name)?)),
         Simple::Empty => Some(Touch::Empty),
         Simple::Nth(_) | Simple::Only { .. } => Some(Touch::Positional),
         Simple::State(state) => Some(Touch::State(*state)),

@@ -127,11 +127,11 @@ impl<'a> KeepMembers<'a> for EditParts<'a> {
             "node" => self.node = whole(reader, depth)?,
             "name" => self.name = name_in(text(reader, depth)?),
             "value" => self.value = text(reader, depth)?,
-            "state" => self.state = state_named(text(reader, depth)?),
-            "on" => self.on = boolean(reader, depth)?,
             "parent" => self.parent = whole(reader, depth)?,
             "index" => self.index = whole(reader, depth)?,
             "nodes" => self.nodes = take_new_nodes(self.alloc, reader, depth)?,
+            "state" => self.state = state_named(text(reader, depth)?),
+            "on" => self.on = boolean(reader, depth)?,
             "sheet" => self.sheet = whole(reader, depth)?,
             _ => self.input.member(key, reader, depth)?,
         }

@@ -85,30 +85,29 @@ pub fn push_refused_line(line: &mut Text, place: u64, why: &EditRefused) -> Resu
     ensures { OnOk result (line.new ≡ line.old ++ refused_line place why.now) }
 {
     push_count(line, "refused ", place)?;
-    line.push_str(": ")?;
     push_refusal(line, why)?;
     line.push_str("\n")
 }
 
-/// Appends why an edit is refused.
+/// Appends why an edit is refused, behind a colon.
 fn push_refusal(line: &mut Text, why: &EditRefused) -> Result<(), NoMemory>
     requires { why.now ≢ EditRefused.NoMemory }
-    ensures { OnOk result (line.new ≡ line.old ++ refusal_text why.now) }
+    ensures { OnOk result (line.new ≡ line.old ++ (codes ": " ++ refusal_text why.now)) }
 {
     match why {
-        EditRefused::UnknownNode(number) => push_count(line, "unknown node ", *number),
-        EditRefused::UnknownSheet(number) => push_count(line, "unknown sheet ", *number),
-        EditRefused::BadPlace => line.push_str("bad place"),
+        EditRefused::UnknownNode(number) => push_count(line, ": unknown node ", *number),
+        EditRefused::UnknownSheet(number) => push_count(line, ": unknown sheet ", *number),
+        EditRefused::BadPlace => line.push_str(": bad place"),
         EditRefused::Limit(kind, most) => push_limit(line, *kind, *most),
         EditRefused::NoMemory => unreachable!(),
     }
 }
 
-/// Appends the kind of a limit and its number.
+/// Appends the kind of a limit and its number, behind a colon.
 fn push_limit(line: &mut Text, kind: Kind, most: u64) -> Result<(), NoMemory>
-    ensures { OnOk result (line.new ≡ line.old ++ (codes "limit " ++ (name_of kind ++ (codes " " ++ decimal most)))) }
+    ensures { OnOk result (line.new ≡ line.old ++ (codes ": limit " ++ (name_of kind ++ (codes " " ++ decimal most)))) }
 {
-    line.push_str("limit ")?;
+    line.push_str(": limit ")?;
     line.push_str(kind.name())?;
     push_count(line, " ", most)
 }
@@ -169,6 +168,7 @@ pub(crate) fn separator(before: &str, after: &str) -> &'static str
 }
 
 /// Appends a word in ASCII and a number to the line.
+#[inline]
 fn push_count(line: &mut Text, before: &str, count: u64) -> Result<(), NoMemory>
     requires { is_all_ascii before.now ≡ true }
     ensures { OnOk result (line.new ≡ line.old ++ (before.now ++ decimal count)) }

@@ -20,13 +20,8 @@ pub(crate) fn passes(doc: &Doc, test: &Simple, x: u32) -> bool
         Simple::Id(id) => doc.has_id_atom(x, id),
         Simple::Class(class) => doc.has_class_atom(x, class),
         Simple::Attribute(name) => doc.attribute_atom(x, name).is_some(),
-        Simple::AttributeCompares {
-            name,
-            operator,
-            value,
-            case_counts,
-        } => match doc.attribute_atom(x, name) {
-            Some(found) => compared(found, *operator, value.as_str(), *case_counts),
+        Simple::AttributeCompares(test) => match doc.attribute_atom(x, &test.name) {
+            Some(found) => compared(found, test.operator, test.value.as_str(), test.case_counts),
             None => false,
         },
         Simple::Root => doc.parent(x).is_none(),

@@ -8,7 +8,7 @@ ghost use Rattle.sheet_model.specs.AttributeIn.{attribute_in, compared_in, match
 use crate::kinds::is_text;
 use crate::names::is;
 use css_tokens::{Cursor, Token, name_of, trimmed};
-use selector_types::{AttributeOperator, Simple};
+use selector_types::{AttributeOperator, AttributeTest, Simple};
 use std::alloc::Global;
 use stylo_base::{Atom, NoMemory, Text};
 
@@ -43,12 +43,13 @@ fn compared(alloc: Global, name: &Text, left: &mut Cursor) -> Result<Option<Simp
     let Some(case_counts) = modifier(left) else {
         return Ok(None);
     };
-    Ok(Some(Simple::AttributeCompares {
+    let test = AttributeTest {
         name: Atom::of_text(name.copy(alloc)?),
         operator,
         value: value.copy(alloc)?,
         case_counts,
-    }))
+    };
+    Ok(Some(Simple::AttributeCompares(Box::new(alloc, test)?)))
 }
 
 /// Consumes what says how the value is compared.

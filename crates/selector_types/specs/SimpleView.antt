@@ -5,6 +5,7 @@ use Rattle.stylo_base.specs.StateView.{state_seen}
 use Rattle.selector_types.specs.declared.simple.AttributeOperator.{AttributeOperator}
 use Rattle.selector_types.specs.declared.simple.AttributeOperator.TheVariants.{Equals, Includes, DashMatch, Prefix, Suffix, Substring}
 use Rattle.selector_types.specs.declared.simple.AnB.{AnB}
+use Rattle.selector_types.specs.declared.simple.AttributeTest.{AttributeTest}
 use Rattle.selector_types.specs.declared.simple.Nth.{Nth}
 use Rattle.selector_types.specs.declared.simple.Simple.{Simple}
 use Rattle.selector_types.specs.declared.simple.Simple.TheVariants as simples
@@ -25,13 +26,15 @@ formula_of formula = record { a = formula.a; b = formula.b }
 abbrev pub nth_of : Nth → model.Nth
 nth_of n = record { formula = formula_of n.formula; from_last = n.from_last; of_type = n.of_type }
 
+abbrev pub attribute_test_of : AttributeTest → model.Simple
+attribute_test_of test = model.attribute_compares test.name (operator_of test.operator) test.value test.case_counts
+
 abbrev pub simple_of : Simple → model.Simple
 simple_of (simples.Type tag) = model.type_selector tag
 simple_of (simples.Id name) = model.id_selector name
 simple_of (simples.Class class) = model.class_selector class
 simple_of (simples.Attribute name) = model.attribute_selector name
-simple_of (simples.AttributeCompares name operator value case_counts) =
-    model.attribute_compares name (operator_of operator) value case_counts
+simple_of (simples.AttributeCompares test) = attribute_test_of test.value
 simple_of simples.Root = model.root
 simple_of simples.Empty = model.empty
 simple_of (simples.Nth n) = model.nth (nth_of n)

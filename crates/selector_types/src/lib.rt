@@ -15,5 +15,5 @@ pub use keys::{Key, key_of};
 pub use measure::Measure;
 pub use selector::Selector;
 pub use sheet_change::SheetChange;
-pub use simple::{AnB, AttributeOperator, Nth, Simple};
+pub use simple::{AnB, AttributeOperator, AttributeTest, Nth, Simple};
 pub use stylo_base::Specificity;

@@ -28,6 +28,15 @@ pub struct Nth {
     pub of_type: bool,
 }
 
+/// The attribute `name` compares with `value`, ignoring ASCII case unless `case_counts`.
+#[derive(Debug, Drop)]
+pub struct AttributeTest {
+    pub name: Atom,
+    pub operator: AttributeOperator,
+    pub value: Text,
+    pub case_counts: bool,
+}
+
 /// A test of one element by itself, its attributes, its states or its index among its siblings.
 #[derive(Debug, Drop)]
 pub enum Simple {
@@ -39,13 +48,8 @@ pub enum Simple {
     Class(Atom),
     /// It has an attribute of this name.
     Attribute(Atom),
-    /// Its attribute `name` compares with `value`, ignoring ASCII case unless `case_counts`.
-    AttributeCompares {
-        name: Atom,
-        operator: AttributeOperator,
-        value: Text,
-        case_counts: bool,
-    },
+    /// One of its attributes compares with a value.
+    AttributeCompares(Box<AttributeTest>),
     /// It is the root.
     Root,
     /// It has no child.
@@ -53,9 +57,7 @@ pub enum Simple {
     /// Its index among its siblings is one of these.
     Nth(Nth),
     /// It is the only one of its siblings, or with `of_type` the only one of its type.
-    Only {
-        of_type: bool,
-    },
+    Only { of_type: bool },
     /// It is in this state.
     State(State),
 }

@@ -85,6 +85,7 @@ impl Text {
     }
 
     /// Appends `text`.
+    #[inline]
     pub fn push_str(&mut self, text: &str) -> Result<(), NoMemory>
         ensures ok { OnOk result (self.new ≡ self.old ++ chars text.now) }
         ensures ascii { is_all_ascii text.now ≡ true → OnOk result (self.new ≡ self.old ++ text.now) }

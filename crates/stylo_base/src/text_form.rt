@@ -1,6 +1,6 @@
 //! Where the bytes of a text are: in the value itself, or in memory of their own.
 
-ghost use Rattle.std.specs.Prelude.{◌≡◌, ◌++◌, [], IfOk, OnErr, OnOk, encode_utf8};
+ghost use Rattle.std.specs.Prelude.{◌≡◌, ◌++◌, [], IfOk, MatchOption, OnErr, OnOk, encode_utf8};
 ghost use Rattle.std.specs.String.{string_bytes};
 ghost use Rattle.stylo_base.specs.TextForm.{form_bytes};
 
@@ -89,18 +89,18 @@ impl TextForm {
     }
 
     /// Appends `more`.
+    #[inline]
     pub(crate) fn push_str(&mut self, more: &str) -> Result<(), NoMemory>
         ensures ok { OnOk result (form_bytes self.new ≡ form_bytes self.old ++ more.now) }
         ensures err { OnErr result (form_bytes self.new ≡ form_bytes self.old) }
     {
         match self {
+            TextForm::Long(text) => text.push_str(more)?,
             TextForm::Short { text, alloc } => {
-                if text.try_push_str(more).is_err() {
-                    let long = joined(*alloc, text.as_str(), more)?;
+                if let Some(long) = appended(*alloc, text, more)? {
                     *self = TextForm::Long(long);
                 }
             }
-            TextForm::Long(text) => text.push_str(more)?,
         }
         Ok(())
     }
@@ -122,6 +122,22 @@ impl TextForm {
         }
         Ok(())
     }
+}
+
+/// Appends `more` to a short text. Where it has no room for that, it stays, and both in one are the answer.
+fn appended(
+    alloc: Global,
+    text: &mut ArrayString<INLINE_BYTES>,
+    more: &str,
+) -> Result<Option<String>, NoMemory>
+    ensures ok { IfOk result (λ long. MatchOption long (text.new.bytes ≡ text.old.bytes ++ more.now)
+        (λ long. string_bytes long ≡ text.old.bytes ++ more.now)) }
+    ensures err { OnErr result (text.new ≡ text.old) }
+{
+    if text.try_push_str(more).is_ok() {
+        return Ok(None);
+    }
+    Ok(Some(joined(alloc, text.as_str(), more)?))
 }
 
 /// `front` and `back` in one, with room for at least twice what a short text has room for.

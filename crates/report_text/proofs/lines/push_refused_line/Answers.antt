@@ -7,7 +7,6 @@ use Rattle.report_text.proofs.lines.push_refused_line.Goals as goal
 pub returns : goal.returns
 unfolding refused_line
 returns c =
-    on_ok_weaker c.push_str-2.result (λ (closed : c.push_str-2.new.self ≡ c.push_refusal.new.line ++ codes "\n").
-    let why = before c.push_str.new.self c.push_refusal.new.line _ _ _ c.in_ok-push_refusal.ensures closed in
-    let colon = before c.push_count.new.line c.push_str.new.self _ _ _ (c.in_ok-push_str.ensures.ascii refl) why in
-    before c.args.line.now c.push_count.new.line _ _ _ c.in_ok-push_count.ensures colon) (c.push_str-2.ensures.ascii refl)
+    on_ok_weaker c.push_str.result (λ (closed : c.push_str.new.self ≡ c.push_refusal.new.line ++ codes "\n").
+    let why = before c.push_count.new.line c.push_refusal.new.line _ _ _ c.in_ok-push_refusal.ensures closed in
+    before c.args.line.now c.push_count.new.line _ _ _ c.in_ok-push_count.ensures why) (c.push_str.ensures.ascii refl)
