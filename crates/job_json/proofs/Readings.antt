@@ -23,18 +23,27 @@ unread true o h = absurd (h refl)
 unread false o h = refl
 
 module _ (bytes : List ℕ) where
+  pub no_reading : (IsUtf8 bytes → ⊥) → reading bytes ≡ None
+  no_reading h = unread (is_utf8 bytes) (read bytes) (λ utf8. h (IsUtf8-from_is_utf8 bytes utf8))
+
+  pub no_value : IsUtf8 bytes → read bytes ≡ None → reading bytes ≡ None
+  no_value utf8 is = reading_of bytes None utf8 is
+
   pub no_text : (IsUtf8 bytes → ⊥) → verdict_of bytes ≡ not_json
   unfolding verdict_of
-  no_text h = ap verdict_from (unread (is_utf8 bytes) (read bytes) (λ utf8. h (IsUtf8-from_is_utf8 bytes utf8)))
+  no_text h = ap verdict_from (no_reading h)
 
   pub no_json : IsUtf8 bytes → read bytes ≡ None → verdict_of bytes ≡ not_json
   unfolding verdict_of
-  no_json utf8 is = ap verdict_from (reading_of bytes None utf8 is)
+  no_json utf8 is = ap verdict_from (no_value utf8 is)
 
   module _ (d : Data) (utf8 : IsUtf8 bytes) (is : read bytes ≡ Some d) where
+    pub reading_is : reading bytes ≡ Some d
+    reading_is = reading_of bytes (Some d) utf8 is
+
     pub verdict_is : verdict_of bytes ≡ verdict_on d
     unfolding verdict_of
-    verdict_is = ap verdict_from (reading_of bytes (Some d) utf8 is)
+    verdict_is = ap verdict_from reading_is
 
 -- ---- what comes after a value
 

@@ -5,6 +5,7 @@ pub mod Limits
 pub mod NewNodes
 pub mod Edits
 pub mod JobOf
+pub mod EditRead
 pub mod Parts
 pub mod Held
 pub mod Slots

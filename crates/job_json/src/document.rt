@@ -139,7 +139,7 @@ fn whole_job(
 }
 
 /// Another shape, first at this place.
-fn no_job_at(path: Text) -> JobFault
+pub(crate) fn no_job_at(path: Text) -> JobFault
     ensures { result ≡ JobFault.Shape path }
 {
     JobFault::Shape(PathText::of_text(path))

@@ -19,6 +19,7 @@ mod name;
 mod new_nodes;
 mod node;
 mod node_list;
+mod one_edit;
 mod pointer;
 mod sheet;
 mod sheet_edit;
@@ -40,13 +41,15 @@ use dom_tree::NodeList;
 pub use generating::{BatchDraws, BegunJob, begin_generated, generate};
 use json::{Reader, Scratch};
 use json_reader::Stop;
+pub use name::is_name;
+pub use one_edit::read_edit;
 pub use sheet_list::SheetList;
 use std::alloc::Global;
 use stylo_base::{Kind, PathText};
 use thiserror::Error;
 
 /// How deep arrays and objects may nest in a job, as in every value that `serde_json` reads.
-const MAX_DEPTH: usize = 127;
+pub(crate) const MAX_DEPTH: usize = 127;
 
 /// A job.
 #[derive(Drop)]

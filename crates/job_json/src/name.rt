@@ -16,8 +16,9 @@ pub(crate) fn name_in<'a>(text: Option<&'a str>) -> Option<&'a str>
     if is_name(text) { Some(text) } else { None }
 }
 
-/// Whether the text is a name.
-pub(crate) fn is_name(text: &str) -> bool
+/// Whether the text is a name, as of a tag or of an attribute: of 1 to 256 bytes, without characters up to U+0020 and
+/// without U+007F. It takes no memory.
+pub fn is_name(text: &str) -> bool
     ensures { result ≡ is_name text.now }
 {
     let bytes = text.as_bytes();

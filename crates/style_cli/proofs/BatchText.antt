@@ -15,7 +15,8 @@ use Rattle.report_text.specs.Lines.{batch_line}
 use Rattle.dom_edits.specs.EditView.{edit_seen}
 use Rattle.layer_order.specs.View.{sheets_of}
 use Rattle.job_json.specs.declared.Job.{Job}
-use Rattle.style_cli.specs.Text.{batch_text, element_lines, first_scene, line_at, text_from, text_of}
+use Rattle.report_text.specs.Elements.{element_lines, line_at}
+use Rattle.style_cli.specs.Text.{batch_text, first_scene, text_from, text_of}
 
 -- every element is matched and cascaded
 abbrev pub lines_of : List Element → Sources → List Characters

@@ -33,7 +33,8 @@ use Rattle.session_model.specs.Batches.{Report}
 use Rattle.layer_order.specs.declared.origin.Origin.TheVariants.{Author}
 use Rattle.layer_order.specs.declared.sheet_input.SheetInput.{SheetInput}
 use Rattle.report_text.specs.Lines.{batch_line, element_line}
-use Rattle.style_cli.specs.Text.{batch_text, element_lines, line_at, refused_lines, report_lines}
+use Rattle.report_text.specs.Elements.{element_lines, line_at}
+use Rattle.style_cli.specs.Text.{batch_text, refused_lines, report_lines}
 use Rattle.style_cli.proofs.BatchText.{lines_of, text_by}
 use Rattle.style_cli.proofs.Printed.{encoded_lines}
 use Rattle.base_model.proofs.Digits.{digit_0}

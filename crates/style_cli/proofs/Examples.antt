@@ -37,7 +37,8 @@ use Rattle.stylo_base.specs.declared.refusal.EditRefused.TheVariants.{UnknownNod
 use Rattle.report_text.specs.Lines.{batch_line, refused_line}
 use Rattle.layer_order.specs.View.{sheets_of}
 use Rattle.job_json.specs.declared.Job.{Job}
-use Rattle.style_cli.specs.Text.{batch_text, first_scene, line_at, text_of}
+use Rattle.report_text.specs.Elements.{line_at}
+use Rattle.style_cli.specs.Text.{batch_text, first_scene, text_of}
 use Rattle.style_cli.proofs.BatchText.{text_by, text_of-none}
 use Rattle.style_cli.proofs.ExampleCases.{IsBy, applied, child_along, line_along, node, over, report_is, root_along, root_size_is, rule, sheet, text_is}
 use Rattle.base_model.proofs.Digits.{digit_0, digit_1}

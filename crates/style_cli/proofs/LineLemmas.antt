@@ -23,8 +23,9 @@ use Rattle.job_json.specs.Gen.{generated}
 use Rattle.job_json.specs.declared.Job.{Job}
 use Rattle.job_json.proofs.LineTags.{HasLineTags, IsLineEdit, generated_tags}
 use Rattle.edit_model.proofs.TagLemmas.{EditTagsHold}
+use Rattle.report_text.specs.Elements.{element_lines, line_at}
 use Rattle.style_cli.specs.Sums.{sums_from, sums_of}
-use Rattle.style_cli.specs.Text.{batch_text, batches_of, element_lines, first_scene, line_at, refused_lines, report_lines, reports_of, text_from, text_of}
+use Rattle.style_cli.specs.Text.{batch_text, batches_of, first_scene, refused_lines, report_lines, reports_of, text_from, text_of}
 
 -- the lines of a batch
 

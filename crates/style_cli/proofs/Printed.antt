@@ -19,9 +19,10 @@ use Rattle.dom_edits.specs.EditView.{edit_seen, refusal_answered}
 use Rattle.style_session.specs.Answers.{counts_of}
 use Rattle.style_session.specs.declared.counts.Counts.{Counts}
 use Rattle.report_text.specs.Lines.{batch_line, refused_line}
+use Rattle.report_text.specs.Elements.{element_lines, elements_bytes, line_at}
 use Rattle.style_cli.specs.Loops.{GrewByFront}
-use Rattle.style_cli.specs.Text.{batch_text, element_lines, line_at, refused_lines, text_from}
-use Rattle.style_cli.specs.Printing.{answered, batches_seen, edits_seen, elements_bytes, heading_bytes, refused_bytes}
+use Rattle.style_cli.specs.Text.{batch_text, refused_lines, text_from}
+use Rattle.style_cli.specs.Printing.{answered, batches_seen, edits_seen, heading_bytes, refused_bytes}
 use Rattle.style_cli.specs.declared.batch.Heading.{Heading}
 use Rattle.style_cli.specs.declared.batch.RefusedEdit.{RefusedEdit}
 use Rattle.style_cli.proofs.Fronts.{front_after}

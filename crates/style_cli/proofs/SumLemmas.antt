@@ -15,12 +15,14 @@ use Rattle.dom_edits.specs.declared.edits.Edit.{Edit as CodeEdit}
 use Rattle.dom_edits.specs.EditView.{refusal_answered}
 use Rattle.report_text.specs.Lines.{refused_line}
 use Rattle.report_text.specs.declared.lines.Sums.{Sums}
-use Rattle.style_cli.specs.Printing.{answered, edits_seen, elements_bytes, heading_bytes}
+use Rattle.report_text.specs.Elements.{element_lines, elements_bytes, line_at}
+use Rattle.style_session.specs.SessionView.{scene_from}
+use Rattle.style_cli.specs.Printing.{answered, edits_seen, heading_bytes}
 use Rattle.layer_order.specs.declared.sheet_input.SheetInput.{SheetInput}
 use Rattle.job_json.specs.Draws.{drawn_list}
 use Rattle.job_json.specs.Gen.{drawn_batch, drawn_batches, drawn_nodes, generated, the_sheet}
 use Rattle.style_cli.specs.Sums.{batch_sums, both_sums, no_sums, sums_from, sums_of}
-use Rattle.style_cli.specs.Text.{batch_text, element_lines, line_at, refused_lines, report_lines, scene_from, text_from}
+use Rattle.style_cli.specs.Text.{batch_text, refused_lines, report_lines, text_from}
 use Rattle.style_cli.specs.declared.batch.Heading.{Heading}
 use Rattle.style_cli.proofs.Printed.{batch_parts}
 

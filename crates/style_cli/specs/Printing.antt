@@ -2,10 +2,8 @@
 use Rattle.std.specs.Prelude.{◌≡◌, ◌≢◌, ℕ, List, [], ◌++◌, length, map, Option, Some, IfSome, Vec, encode_utf8_all}
 use Rattle.std.specs.List.{AllByRecursion, flat_map}
 use Rattle.std.specs.declared.alloc.Global.{Global}
-use Rattle.scene_model.specs.Element.{Element}
 use Rattle.scene_model.specs.Lookups.{numbers, tag_of}
 use Rattle.value_model.specs.Style.{Style}
-use Rattle.sheet_model.specs.Sources.{Sources, sources_of}
 use Rattle.edit_model.specs.Edit as model_edit
 use Rattle.session_model.specs.Standing.{Scene, Standing, elements_of, kept_at, styles_of}
 use Rattle.session_model.specs.Batches as model
@@ -13,7 +11,6 @@ use Rattle.stylo_base.specs.declared.refusal.EditRefused.TheVariants.{NoMemory}
 use Rattle.dom_edits.specs.declared.edits.Edit.{Edit}
 use Rattle.dom_edits.specs.EditView.{edit_seen, refusal_answered}
 use Rattle.report_text.specs.Lines.{batch_line, element_line, refused_line}
-use Rattle.style_cli.specs.Text.{line_at}
 use Rattle.style_cli.specs.KeptLines.{kept_length, kept_line}
 use Rattle.style_cli.specs.declared.batch.Heading.{Heading}
 use Rattle.style_cli.specs.declared.batch.RefusedEdit.{RefusedEdit}
@@ -33,19 +30,9 @@ answered one = record { place = one.place; why = refusal_answered one.why }
 abbrev pub AreRefused : List RefusedEdit → Type 0
 AreRefused list = AllByRecursion (λ (one : RefusedEdit). one.why ≢ NoMemory) list
 
--- lines in UTF-8: of a refused edit, and of an element
+-- the line of a refused edit in UTF-8
 abbrev pub refused_bytes : RefusedEdit → List ℕ
 refused_bytes one = encode_utf8_all (refused_line one.place one.why)
-
-abbrev pub line_bytes : List Element → Sources → ℕ → List ℕ
-line_bytes doc sources x = encode_utf8_all (line_at doc sources x)
-
--- those of some elements, and of all, in tree order
-abbrev pub lines_bytes : Scene → List ℕ → List ℕ
-lines_bytes scene xs = flat_map (line_bytes (elements_of scene) (sources_of scene.sheets)) xs
-
-abbrev pub elements_bytes : Scene → List ℕ
-elements_bytes scene = lines_bytes scene (numbers (elements_of scene))
 
 -- the line of a batch and those of its refused edits
 abbrev pub heading_bytes : ℕ → Heading → List ℕ

@@ -2,28 +2,14 @@
 use Rattle.std.specs.Prelude.{ℕ, ◌+◌, List, [], ◌∷◌, ◌++◌, map, length, encode_utf8_all}
 use Rattle.std.specs.List.{flat_map}
 use Rattle.base_model.specs.Text.{Characters}
-use Rattle.scene_model.specs.Element.{Element}
-use Rattle.scene_model.specs.Lookups.{numbers, tag_of}
-use Rattle.scene_model.specs.Document.{document_of}
-use Rattle.scene_model.specs.Nodes.{Node}
-use Rattle.sheet_model.specs.Sources.{Sources, sources_of}
-use Rattle.cascade_model.specs.StyleOf.{style_of}
 use Rattle.edit_model.specs.Edit as model
-use Rattle.session_model.specs.Standing.{Scene, elements_of}
+use Rattle.session_model.specs.Standing.{Scene}
 use Rattle.session_model.specs.Batches.{RefusedEdit, Report, reports}
 use Rattle.dom_edits.specs.EditView.{edit_seen, refusal_answered}
-use Rattle.report_text.specs.Lines.{batch_line, element_line, refused_line}
-use Rattle.layer_order.specs.View.{sheets_of}
-use Rattle.layer_order.specs.declared.sheet_input.SheetInput.{SheetInput}
+use Rattle.report_text.specs.Elements.{element_lines}
+use Rattle.report_text.specs.Lines.{batch_line, refused_line}
+use Rattle.style_session.specs.SessionView.{scene_from}
 use Rattle.job_json.specs.declared.Job.{Job}
-
--- an element's line: its number, its tag and its style
-abbrev pub line_at : List Element → Sources → ℕ → Characters
-line_at doc sources x = element_line x (tag_of doc x) (style_of doc sources x)
-
--- the line of every element, in tree order
-abbrev pub element_lines : Scene → List Characters
-element_lines scene = map (line_at (elements_of scene) (sources_of scene.sheets)) (numbers (elements_of scene))
 
 abbrev pub refused_lines : List RefusedEdit → List Characters
 refused_lines refusals = map (λ (one : RefusedEdit). refused_line one.place (refusal_answered one.why)) refusals
@@ -42,11 +28,6 @@ batch_text batch report = flat_map encode_utf8_all (report_lines batch report)
 abbrev pub text_from : ℕ → List Report → List ℕ
 text_from batch [] = []
 text_from batch (report ∷ rest) = batch_text batch report ++ text_from (batch + 1) rest
-
--- the scene of these nodes and sheets: the sheets are numbered from 1, so their count is the last number that was given
-abbrev pub scene_from : List Node → List SheetInput → Scene
-scene_from nodes sheets =
-    record { document = document_of nodes; sheets = sheets_of sheets; last_sheet = length sheets }
 
 -- the scene in which a job begins
 abbrev pub first_scene : Job → Scene

@@ -7,7 +7,7 @@ ghost use Rattle.scene_model.specs.Document.{document_of};
 ghost use Rattle.session_model.specs.Standing.{started};
 ghost use Rattle.session_model.specs.StandingInvariant.{IsReached};
 ghost use Rattle.sheet_set.specs.View.{listed_seen};
-ghost use Rattle.style_cli.specs.Text.{scene_from};
+ghost use Rattle.style_session.specs.SessionView.{scene_from};
 
 use dom_tree::{Doc, NodeList};
 use job_json::SheetList;

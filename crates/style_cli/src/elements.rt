@@ -8,8 +8,9 @@ ghost use Rattle.io_edges.specs.Cause.{HasCause};
 ghost use Rattle.scene_model.specs.Lookups.{IsElement};
 ghost use Rattle.sheet_model.specs.Sources.{sources_of};
 ghost use Rattle.session_model.specs.Standing.{elements_of, style_in};
+ghost use Rattle.report_text.specs.Elements.{elements_bytes, line_bytes, lines_bytes};
 ghost use Rattle.style_cli.specs.Loops.{GrewByFront};
-ghost use Rattle.style_cli.specs.Printing.{IsSettled, Serves, elements_bytes, line_bytes, lines_bytes};
+ghost use Rattle.style_cli.specs.Printing.{IsSettled, Serves};
 
 use crate::lines::Lines;
 use crate::writing::write_all;

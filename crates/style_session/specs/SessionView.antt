@@ -1,12 +1,15 @@
 -- What a session stands for.
-use Rattle.std.specs.Prelude.{ℕ, List, filter, map, Bool, not, ◌&&◌, ◌||◌, Option, option_and_then, option_map, slice_get}
+use Rattle.std.specs.Prelude.{ℕ, List, filter, length, map, Bool, not, ◌&&◌, ◌||◌, Option, option_and_then, option_map, slice_get}
 use Rattle.std.specs.Arc.{arc_value}
 use Rattle.std.specs.declared.sync.Arc.{Arc}
 use Rattle.scene_model.specs.Element.{Element}
-use Rattle.scene_model.specs.Document.{Document}
+use Rattle.scene_model.specs.Document.{Document, document_of}
+use Rattle.scene_model.specs.Nodes.{Node}
 use Rattle.scene_model.specs.Lookups.{is_element, numbers}
 use Rattle.scene_model.specs.Numbers.{is_in}
 use Rattle.value_model.specs.Style.{Style}
+use Rattle.layer_order.specs.View.{sheets_of}
+use Rattle.layer_order.specs.declared.sheet_input.SheetInput.{SheetInput}
 use Rattle.sheet_set.specs.View.{kept_seen}
 use Rattle.sheet_set.specs.declared.sheets.Sheets.{Sheets}
 use Rattle.session_model.specs.Standing.{Scene, Standing}
@@ -25,6 +28,11 @@ scene_seen document sheets =
       sheets = map kept_seen sheets.sheets.items;
       last_sheet = sheets.last;
     }
+
+-- the scene of these nodes and sheets: the sheets are numbered from 1, so their count is the last number that was given
+abbrev pub scene_from : List Node → List SheetInput → Scene
+scene_from nodes sheets =
+    record { document = document_of nodes; sheets = sheets_of sheets; last_sheet = length sheets }
 
 -- the elements that have a number of the list, in tree order
 abbrev pub elements_in : Document → List ℕ → List ℕ

@@ -3,15 +3,13 @@
 ghost use Rattle.std.specs.Prelude.{◌≡◌, ◌≤◌, ℕ, false, nat_eq, IfErr, IfOk, OnErr, OnOk, length};
 ghost use Rattle.std.specs.List.{IsDistinct};
 ghost use Rattle.base_model.specs.Limits.{element_limit, sheet_limit};
-ghost use Rattle.scene_model.specs.Document.{document_of};
 ghost use Rattle.scene_model.specs.Lookups.{IsElement};
 ghost use Rattle.scene_model.specs.Numbers.{is_in};
-ghost use Rattle.layer_order.specs.View.{sheets_of};
 ghost use Rattle.edit_model.specs.Refusal.{accepted};
 ghost use Rattle.dom_edits.specs.EditView.{edit_seen};
 ghost use Rattle.session_model.specs.Standing.{edited, elements_of, kept_at, restyled, scene_applied, started};
 ghost use Rattle.style_session.specs.Answers.{IsAnswer, counts_of, refusal_of};
-ghost use Rattle.style_session.specs.SessionView.{scene_seen};
+ghost use Rattle.style_session.specs.SessionView.{scene_from, scene_seen};
 
 use crate::answer::{StyleAnswer, is_open};
 use crate::beginning::Beginning;
@@ -92,11 +90,7 @@ impl Session {
         requires sheets { length sheets.now ≤ sheet_limit }
         requires workers { (1 ≤ workers) × (workers ≤ 64) }
         requires share { share ≤ 64 }
-        ensures { IfOk result (λ session. session ≡ started (record {
-          document = document_of nodes.now;
-          sheets = sheets_of sheets.now;
-          last_sheet = length sheets.now;
-        })) }
+        ensures { IfOk result (λ session. session ≡ started (scene_from nodes.now sheets.now)) }
     {
         let doc = Doc::start(alloc, nodes)?;
         let sheets = Sheets::start(alloc, sheets)?;
@@ -179,6 +173,17 @@ impl Session {
         alloc: Global,
         gate: &G,
     ) -> Result<Counts, NoMemory>
+        ensures ok { OnOk result (self.new ≡ restyled self.old) }
+        ensures counts { IfOk result (λ counts. counts ≡ counts_of self.old) }
+        ensures others { OnOk result ((x : ℕ) → IsElement (elements_of self.new.scene) x
+            → is_in x self.new.recent ≡ false → kept_at self.new x ≡ kept_at self.old x) }
+        ensures kept { OnErr result (self.new ≡ self.old) }
+    {
+        self.restyle_alone(alloc, gate)
+    }
+
+    /// The same on the calling thread, for a program that has no others.
+    pub fn restyle_alone<G: Gate>(&mut self, alloc: Global, gate: &G) -> Result<Counts, NoMemory>
         ensures ok { OnOk result (self.new ≡ restyled self.old) }
         ensures counts { IfOk result (λ counts. counts ≡ counts_of self.old) }
         ensures others { OnOk result ((x : ℕ) → IsElement (elements_of self.new.scene) x

@@ -1,7 +1,8 @@
 use Rattle.std.proofs.Common.{◌≡◌, length}
 use Rattle.sheet_model.specs.Sources.{sources_of}
 use Rattle.session_model.specs.Standing.{elements_of}
-use Rattle.style_cli.specs.Printing.{ServesLengths, line_bytes, lines_bytes}
+use Rattle.report_text.specs.Elements.{line_bytes, lines_bytes}
+use Rattle.style_cli.specs.Printing.{ServesLengths}
 use Rattle.style_cli.proofs.CountLemmas.{bytes_from}
 use Rattle.style_cli.proofs.counting.elements_len.Given as goal
 

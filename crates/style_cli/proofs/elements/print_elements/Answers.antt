@@ -7,7 +7,8 @@ use Rattle.scene_model.specs.Lookups.{IsElement, numbers}
 use Rattle.sheet_model.specs.Sources.{sources_of}
 use Rattle.session_model.specs.Standing.{elements_of}
 use Rattle.session_model.proofs.FlagLemmas.{each_number}
-use Rattle.style_cli.specs.Printing.{Serves, elements_bytes, line_bytes, lines_bytes}
+use Rattle.report_text.specs.Elements.{elements_bytes, line_bytes, lines_bytes}
+use Rattle.style_cli.specs.Printing.{Serves}
 use Rattle.style_cli.proofs.Written.{IsWritten, flat_parts, front_more, nothing, one_more}
 use Rattle.style_cli.proofs.elements.print_elements.Goals as goal
 

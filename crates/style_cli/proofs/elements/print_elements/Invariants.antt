@@ -2,7 +2,8 @@ use Rattle.std.proofs.Common.{◌≤◌, length}
 use Rattle.std.specs.List.{AllByRecursion}
 use Rattle.scene_model.specs.Lookups.{IsElement}
 use Rattle.session_model.specs.Standing.{elements_of}
-use Rattle.style_cli.specs.Printing.{Serves, elements_bytes, lines_bytes}
+use Rattle.report_text.specs.Elements.{elements_bytes, lines_bytes}
+use Rattle.style_cli.specs.Printing.{Serves}
 use Rattle.style_cli.proofs.Written.{IsWritten}
 use Rattle.style_cli.proofs.elements.print_elements.Given as goal
 

@@ -5,8 +5,8 @@ use Rattle.base_model.proofs.Results.{on_err}
 use Rattle.scene_model.specs.Lookups.{IsElement}
 use Rattle.sheet_model.specs.Sources.{sources_of}
 use Rattle.session_model.specs.Standing.{elements_of}
+use Rattle.report_text.specs.Elements.{line_bytes, lines_bytes}
 use Rattle.style_cli.specs.Loops.{GrewByFront}
-use Rattle.style_cli.specs.Printing.{line_bytes, lines_bytes}
 use Rattle.style_cli.proofs.ServeLemmas.{run_bytes}
 use Rattle.style_cli.proofs.Written.{begun, flat_parts}
 use Rattle.style_cli.proofs.elements.print_some.Goals as goal

@@ -1,7 +1,8 @@
 use Rattle.base_model.proofs.Results.{on_err}
 use Rattle.session_model.specs.Batches.{report_of}
+use Rattle.report_text.specs.Elements.{elements_bytes}
 use Rattle.style_cli.specs.KeptLines.{kept_line}
-use Rattle.style_cli.specs.Printing.{edits_seen, elements_bytes, heading_bytes}
+use Rattle.style_cli.specs.Printing.{edits_seen, heading_bytes}
 use Rattle.style_cli.specs.Text.{batch_text}
 use Rattle.style_cli.proofs.EditedLemmas.{are_refused}
 use Rattle.style_cli.proofs.Printed.{batch_parts, front_first, front_of_last, whole_last}

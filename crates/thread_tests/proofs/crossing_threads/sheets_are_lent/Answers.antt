@@ -1,6 +1,6 @@
 use denote.Param.Send.{sendable}
 use Rattle.std.proofs.Crossing.{crosses}
-use Rattle.thread_tests.proofs.Parts.{kept_send, kept_sync, layers_send, layers_sync, rule_send, rule_sync, selector_send, selector_sync}
+use Rattle.style_session.proofs.Crossing.{kept_send, kept_sync, layers_send, layers_sync, rule_send, rule_sync, selector_send, selector_sync}
 use Rattle.thread_tests.proofs.crossing_threads.sheets_are_lent.Goals as goal
 
 pub may_be_lent-requires-send-T : goal.may_be_lent-requires-send-T

@@ -17,7 +17,7 @@ use Rattle.style_session.specs.declared.counts.Counts.{Counts}
 use Rattle.style_session.specs.declared.styled.Styled.{Styled}
 use Rattle.style_session.proofs.SessionRestyles.{counts-seen, dropped-there, fits-ready, first-counts, first-given, first-once, first-seen, idle-counts, idle-seen, keeps-seen, others-anew, ready-now, restyled-seen, session-cached, session-anew, session-idle, session-restyled, styled-places}
 use Rattle.style_session.proofs.SessionStarts.{settled-told}
-use Rattle.style_session.proofs.session.Session.restyle.Goals as goal
+use Rattle.style_session.proofs.session.Session.restyle_alone.Goals as goal
 
 -- with nothing marked or fresh
 

@@ -1,0 +1,10 @@
+use Rattle.std.proofs.Common.{[], refl, sym, ap, ◌∙◌, option_map}
+use Rattle.std.specs.Prelude.{None}
+use Rattle.style_c.specs.Boxes.{box_value}
+use Rattle.style_c.specs.Told.{set_told}
+use Rattle.style_c.proofs.ToldLemmas.{gives_none}
+use Rattle.style_c.proofs.editing.bokdrez_set.Goals as goal
+
+pub returns-in_default : goal.returns-in_default
+returns-in_default c =
+    gives_none (set_told c.args.node c.args.name.now c.args.value.now) _ _ _ _ [] 0 refl (sym (ap (option_map box_value) c.in_default.is) ∙ c.take.ensures.taken) c.take.ensures.empty (c.tell.ensures None [])

@@ -1,0 +1,3 @@
+pub mod Handle
+pub mod Boxes
+pub mod Told
