@@ -23,7 +23,7 @@ use Rattle.dom_tree.proofs.DocEditLemmas.{more_whole}
 use Rattle.dom_tree.proofs.InsertedDocument.{after, is_after, sound_after, there}
 use Rattle.dom_tree.proofs.InsertedPlaces.{listed_after, lists_after, lists_long, named_after, parent_high, parent_told, siblings_are}
 use Rattle.dom_tree.proofs.Parts.{AreSeenAs}
-use Rattle.dom_tree.proofs.RoomLemmas.{more_again, widened, zeros_grown}
+use Rattle.dom_tree.proofs.RoomLemmas.{more_again, zeros_grown}
 use Rattle.dom_tree.proofs.SettleLemmas.{all_siblings, are_siblings}
 
 -- room
@@ -61,21 +61,17 @@ spot_within {p} whole view o index there_now place_now count_is =
 pub part_within : {place count : ℕ} (size : ℕ) → place ≤ count → place + (count - place) ≤ count + size
 part_within size l = omega (arith, l)
 
--- what is kept, once the tally is longer
-pub grown_whole : {p : Parts} {tally : List ℕ} {n k : ℕ} → IsWhole p → n ≡ length p.table.names → k ≡ length p.tally
-    → tally ≡ take n p.tally ++ replicate (n - k) 0 → IsWhole (record p { tally = tally })
-grown_whole whole n_is k_is is = let (zeros, long) = zeros_grown whole.zeros n_is k_is is in widened whole zeros (omega (arith, long, whole.zeros.few))
-
--- and once there are more names
+-- what is kept, once there are more names
 pub names_whole : {p : Parts} {later : Table} → IsWhole p → KeepsTexts p.table.names later.names → StandOnce later.names → later.nodes ≡ p.table.nodes → IsWhole (record p { table = later })
 names_whole whole texts once e = more_whole whole (more_again whole texts once) e
 
--- the tally, for more names and then for more again
-pub zeros_after : {names later : List Characters} (mid : List Characters) {first old new : List ℕ} {n k : ℕ} → AreZeros names first → KeepsTexts names mid → old ≡ first
-    → n ≡ length mid → k ≡ length old → new ≡ take n old ++ replicate (n - k) 0 → KeepsTexts mid later → AreZeros later new × (length new ≡ length mid)
-zeros_after {names} {later} mid zeros texts same n_is k_is is more =
-    let (grown, long) = zeros_grown (zeros_more names mid texts (subst (AreZeros names) (sym same) zeros)) n_is k_is is in
-    (zeros_more mid later more grown, long)
+-- the tally, made longer for more names
+pub zeros_after : {names : List Characters} (mid : List Characters) {old new : List ℕ} {n k : ℕ} → AreZeros names old → KeepsTexts names mid → n ≡ length mid → k ≡ length old
+    → new ≡ take n old ++ replicate (n - k) 0 → AreZeros mid new × (length new ≡ length mid) × (length old ≤ length new)
+zeros_after {names} mid zeros texts n_is k_is is =
+    let more = zeros_more names mid texts zeros in
+    let (grown, long) = zeros_grown more n_is k_is is in
+    (grown, long, omega (arith, long, more.few))
 
 -- the lists, once those of the nodes were appended: `flat` and `spans`; `room` are those for which room was made
 module _ {p : Parts} {now : Document} (whole : IsWhole p) (view : AreSeenAs p now) (o index : ℕ) {list : List Node} (there_now : IsElement now.elements o) (shape : IsNodeList list)

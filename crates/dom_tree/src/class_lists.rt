@@ -53,9 +53,9 @@ impl ClassLists {
         ensures { IfOk result (λ lists. lists ≡ self.now) }
     {
         Ok(ClassLists {
-            names: self.names.copy(alloc)?,
             list: Vec::from_slice(alloc, &self.list)?,
             spans: Vec::from_slice(alloc, &self.spans)?,
+            names: self.names.copy(alloc)?,
             words: IndexSet::new(alloc),
         })
     }

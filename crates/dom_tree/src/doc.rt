@@ -1,18 +1,22 @@
 //! The document: its elements in tree order, and what is asked of one of them.
 
-ghost use Rattle.std.specs.Prelude.{◌≡◌, ◌↔◌, ◌<◌, ◌≤◌, ℕ, IfOk, IsTrue, codes, false, true, length, not, ◌&&◌, option_map};
+ghost use Rattle.std.specs.Prelude.{◌≡◌, ◌↔◌, ◌<◌, ◌≤◌, ℕ, IfOk, IsTrue, OnOk, codes, false, true, length, not, ◌&&◌, option_map, replicate};
 ghost use Rattle.std.specs.Option.{option_map_or};
 ghost use Rattle.std.specs.Str.{chars};
 ghost use Rattle.base_model.specs.Limits.{element_limit, number_limit};
 ghost use Rattle.base_model.specs.Text.{is_empty_text, same_text};
 ghost use Rattle.scene_model.specs.Lookups.{IsElement, attribute_of, attributes_of, children, has_class, is_element, numbers, parent_of, place_of, place_of_type, right_of, siblings, state_of, tag_of};
 ghost use Rattle.scene_model.specs.Document.{document_of};
+ghost use Rattle.scene_model.specs.Nodes.{IsNodeList, listed, scene_of};
 ghost use Rattle.scene_model.specs.Valid.{IsValid};
 ghost use Rattle.change_model.specs.Sound.{IsSound};
+ghost use Rattle.stylo_base.specs.NameList.{StandOnce};
 ghost use Rattle.stylo_base.specs.StateView.{state_seen};
+ghost use Rattle.dom_tree.specs.ChildLists.{AreChildren, AreParts, lists_of};
 ghost use Rattle.dom_tree.specs.ElementNames.{AreNamesOf, names_of};
-ghost use Rattle.dom_tree.specs.Labels.{class_words};
+ghost use Rattle.dom_tree.specs.Labels.{AreCuts, AreLabels, class_words};
 ghost use Rattle.dom_tree.specs.NameBits.{HasNameBits};
+ghost use Rattle.dom_tree.specs.SiblingPlaces.{ArePlaces, AreZeros, HasTagBelow};
 
 mod depths;
 mod edits;
@@ -30,7 +34,7 @@ use crate::name_bits::{bit_if_some, bit_of};
 use crate::node_columns::NodeColumns;
 use crate::nodes::NodeList;
 use crate::sibling_places::SiblingPlaces;
-use crate::start::walk;
+use crate::start::order_nodes;
 use std::alloc::Global;
 use std::marker::Model;
 use stylo_base::{Atom, NoMemory, State};
@@ -99,14 +103,9 @@ impl Doc {
         requires { length list ≤ element_limit }
         ensures { IfOk result (λ doc. doc ≡ document_of list) }
     {
-        let children = ChildLists::of_list(alloc, &list)?;
-        let order = walk(alloc, &list, &children)?;
+        let (children, order) = order_nodes(alloc, &list)?;
         let columns = list.into_columns();
-        let places = SiblingPlaces::of_nodes(alloc, &columns, &children)?;
-        let present = vec![in alloc; true; columns.len()]?;
-        let mut lists = ClassLists::new(alloc);
-        let mut cuts = Vec::new(alloc);
-        let labels = label_nodes(alloc, &columns, &mut lists, &mut cuts)?;
+        let (places, present, labels, lists, cuts) = look_ups(alloc, &columns, &children)?;
         Ok(Doc {
             columns,
             children,
@@ -351,4 +350,45 @@ impl Doc {
             State::Focus => states.focus,
         }
     }
+}
+
+/// What is looked up of the nodes of a list, which have these children: their places, that the number of each is that
+/// of an element, and their labels, with the class lists and which one was cut for a value.
+fn look_ups(
+    alloc: Global,
+    columns: &NodeColumns,
+    children: &ChildLists,
+) -> Result<
+    (
+        SiblingPlaces,
+        Vec<bool>,
+        Vec<Label>,
+        ClassLists,
+        Vec<Option<u32>>,
+    ),
+    NoMemory,
+>
+    requires few { length columns.now.nodes ≤ element_limit }
+    requires shape { IsNodeList columns.now.nodes }
+    requires parts { AreParts children.now.flat.items children.now.spans.items }
+    requires children { AreChildren (length columns.now.nodes) (listed columns.now.nodes)
+        (lists_of children.now.flat.items children.now.spans.items) }
+    ensures index { IfOk result (λ made. ArePlaces (length columns.now.nodes) (scene_of columns.now.nodes)
+        (place_of (scene_of columns.now.nodes)) made.0.index.items) }
+    ensures before { IfOk result (λ made. ArePlaces (length columns.now.nodes) (scene_of columns.now.nodes)
+        (place_of_type (scene_of columns.now.nodes) false) made.0.before.items) }
+    ensures after { IfOk result (λ made. ArePlaces (length columns.now.nodes) (scene_of columns.now.nodes)
+        (place_of_type (scene_of columns.now.nodes) true) made.0.after.items) }
+    ensures tally { IfOk result (λ made. AreZeros columns.now.names made.0.tally.items) }
+    ensures tags { IfOk result (λ made. (x : ℕ) → IsElement (scene_of columns.now.nodes) x
+        → HasTagBelow (scene_of columns.now.nodes) columns.now.names (length made.0.tally.items) x) }
+    ensures present { IfOk result (λ made. made.1.items ≡ replicate (length columns.now.nodes) true) }
+    ensures labels { IfOk result (λ made. AreLabels columns.now made.3 made.2.items) }
+    ensures once { OnOk result (StandOnce columns.now.names) }
+    ensures cuts { IfOk result (λ made. AreCuts columns.now.names made.3 made.4.items) }
+{
+    let present = vec![in alloc; true; columns.len()]?;
+    let places = SiblingPlaces::of_nodes(alloc, columns, children)?;
+    let (labels, lists, cuts) = label_nodes(alloc, columns)?;
+    Ok((places, present, labels, lists, cuts))
 }

@@ -17,7 +17,7 @@ use std::alloc::Global;
 use stylo_base::{Name, Names, NoMemory};
 
 /// What selectors ask for most.
-#[derive(Clone, Copy, Debug)]
+#[derive(Clone, Copy)]
 pub(crate) struct Label {
     /// Its id, which is not empty, among the names of the columns.
     pub id: Option<Name>,
@@ -26,31 +26,31 @@ pub(crate) struct Label {
 }
 
 /// The names of the attributes that labels are made of, where they have one.
-#[derive(Clone, Copy, Debug)]
+#[derive(Clone, Copy)]
 struct Asked {
     id: Option<Name>,
     class: Option<Name>,
 }
 
-/// The labels of all nodes, in their order. Their class lists go to `lists`, one for each distinct
-/// value of `class`, and `cuts` says which one, by the name of the value.
+/// The labels of all nodes, in their order, their class lists, one for each distinct value of `class`, and
+/// which one was cut for a value, by its name.
 pub(crate) fn label_nodes(
     alloc: Global,
     columns: &NodeColumns,
-    lists: &mut ClassLists,
-    cuts: &mut Vec<Option<u32>>,
-) -> Result<Vec<Label>, NoMemory>
-    requires cuts { AreCuts columns.now.names lists.old cuts.old.items }
-    ensures labels { IfOk result (λ labels. AreLabels columns.now lists.new labels.items) }
+) -> Result<(Vec<Label>, ClassLists, Vec<Option<u32>>), NoMemory>
+    ensures labels { IfOk result (λ made. AreLabels columns.now made.1 made.0.items) }
     ensures once { OnOk result (StandOnce columns.now.names) }
-    ensures cuts { AreCuts columns.now.names lists.new cuts.new.items }
+    ensures cuts { IfOk result (λ made. AreCuts columns.now.names made.1 made.2.items) }
 {
     let names = columns.names();
     let asked = Asked {
         id: names.find("id"),
         class: names.find("class"),
     };
-    label_rows(alloc, columns, &asked, lists, cuts)
+    let mut lists = ClassLists::new(alloc);
+    let mut cuts = Vec::new(alloc);
+    let labels = label_rows(alloc, columns, &asked, &mut lists, &mut cuts)?;
+    Ok((labels, lists, cuts))
 }
 
 /// The labels of all nodes, where the attributes that are asked for have these names.

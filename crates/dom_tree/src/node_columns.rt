@@ -28,14 +28,14 @@ use stylo_base::{Atom, Name, Names, NoMemory};
 const FEW_ABANDONED: usize = 1000;
 
 /// An attribute of an element.
-#[derive(Clone, Copy, Debug, PartialEq, Eq)]
+#[derive(Clone, Copy, PartialEq, Eq)]
 pub(crate) struct AttrRow {
     pub name: Name,
     pub value: Name,
 }
 
 /// A node, but for its attributes.
-#[derive(Clone, Copy, Debug)]
+#[derive(Clone, Copy)]
 pub(crate) struct NodeRow {
     /// The index of its parent. None: it is the root.
     pub parent: Option<u32>,
@@ -353,9 +353,9 @@ impl NodeColumns {
         ensures { IfOk result (λ columns. columns ≡ self.now) }
     {
         Ok(NodeColumns {
-            names: self.names.copy(alloc)?,
             rows: Vec::from_slice(alloc, &self.rows)?,
             attrs: Vec::from_slice(alloc, &self.attrs)?,
+            names: self.names.copy(alloc)?,
             run: Vec::new(alloc),
             abandoned: self.abandoned,
         })

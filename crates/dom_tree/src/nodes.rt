@@ -63,9 +63,9 @@ impl NodeList {
     pub fn of_root(alloc: Global, root: NodeInput) -> Result<NodeList, NoMemory>
         ensures { IfOk result (λ list. list ≡ node_of None root.entry ∷ []) }
     {
+        let depths = vec![in alloc; 1; 1]?;
         let mut columns = NodeColumns::new(alloc);
         columns.push(None, root)?;
-        let depths = vec![in alloc; 1; 1]?;
         Ok(NodeList { columns, depths })
     }
 
@@ -145,8 +145,8 @@ impl NodeList {
         ensures { IfOk result (λ list. list ≡ self.now) }
     {
         Ok(NodeList {
-            columns: self.columns.copy(alloc)?,
             depths: Vec::from_slice(alloc, &self.depths)?,
+            columns: self.columns.copy(alloc)?,
         })
     }
 

@@ -6,7 +6,7 @@ ghost use Rattle.dom_tree.specs.Kept.{part_of};
 use stylo_base::NoMemory;
 
 /// A part of a flat list: where it begins, and how many items it has.
-#[derive(Clone, Copy, Debug, PartialEq, Eq)]
+#[derive(Clone, Copy)]
 pub(crate) struct Span {
     pub first: u32,
     pub count: u32,

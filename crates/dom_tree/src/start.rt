@@ -10,9 +10,26 @@ use crate::nodes::NodeList;
 use std::alloc::Global;
 use stylo_base::NoMemory;
 
+/// The children of the nodes of a list, and the numbers of the nodes in tree order.
+pub(crate) fn order_nodes(
+    alloc: Global,
+    list: &NodeList,
+) -> Result<(ChildLists, Vec<u32>), NoMemory>
+    requires { length list.now ≤ element_limit }
+    ensures parts { IfOk result (λ made. AreParts made.0.flat.items made.0.spans.items) }
+    ensures children { IfOk result (λ made.
+        AreChildren (length list.now) (listed list.now) (lists_of made.0.flat.items made.0.spans.items)) }
+    ensures order { IfOk result (λ made. made.1.items ≡ tree_order list.now) }
+    ensures shape { OnOk result (IsNodeList list.now) }
+{
+    let children = ChildLists::of_list(alloc, list)?;
+    let order = walk(alloc, list, &children)?;
+    Ok((children, order))
+}
+
 /// The numbers of the nodes of `list` in tree order: a walk from the root that visits what is below a
 /// node before its next sibling. `lists` are the children of each.
-pub(crate) fn walk(alloc: Global, list: &NodeList, lists: &ChildLists) -> Result<Vec<u32>, NoMemory>
+fn walk(alloc: Global, list: &NodeList, lists: &ChildLists) -> Result<Vec<u32>, NoMemory>
     requires few { length list.now ≤ element_limit }
     requires parts { AreParts lists.now.flat.items lists.now.spans.items }
     requires children { AreChildren (length list.now) (listed list.now)

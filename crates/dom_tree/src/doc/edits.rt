@@ -8,9 +8,13 @@ ghost use Rattle.change_model.specs.InPlace.{put_state, with_attribute, with_sta
 ghost use Rattle.stylo_base.specs.StateView.{state_seen};
 ghost use Rattle.dom_tree.specs.View.{states_of};
 
+use crate::child_lists::ChildLists;
+use crate::class_lists::ClassLists;
 use crate::doc::Doc;
-use crate::labels::label_with;
+use crate::labels::{Label, label_with};
+use crate::node_columns::NodeColumns;
 use crate::nodes::States;
+use crate::sibling_places::SiblingPlaces;
 use std::alloc::Global;
 use stylo_base::{NoMemory, State};
 
@@ -86,15 +90,23 @@ impl Doc {
     pub fn copy(&self, alloc: Global) -> Result<Doc, NoMemory>
         ensures { IfOk result (λ doc. doc ≡ self.now) }
     {
+        let (order, present) = copy_numbers(alloc, &self.order, &self.present)?;
+        let (labels, lists, cuts) = copy_labels(alloc, &self.labels, &self.lists, &self.cuts)?;
+        let (columns, children, places) = copy_tree(
+            alloc,
+            &self.columns,
+            &self.children,
+            &self.places,
+        )?;
         Ok(Doc {
-            columns: self.columns.copy(alloc)?,
-            children: self.children.copy(alloc)?,
-            places: self.places.copy(alloc)?,
-            labels: Vec::from_slice(alloc, &self.labels)?,
-            lists: self.lists.copy(alloc)?,
-            cuts: Vec::from_slice(alloc, &self.cuts)?,
-            order: Vec::from_slice(alloc, &self.order)?,
-            present: Vec::from_slice(alloc, &self.present)?,
+            columns,
+            children,
+            places,
+            labels,
+            lists,
+            cuts,
+            order,
+            present,
         })
     }
 
@@ -118,4 +130,56 @@ fn states_with(states: States, state: State, on: bool) -> States
         State::Focus => changed.focus = on,
     }
     changed
+}
+
+/// The same nodes, children and places of elements again.
+fn copy_tree(
+    alloc: Global,
+    columns: &NodeColumns,
+    children: &ChildLists,
+    places: &SiblingPlaces,
+) -> Result<(NodeColumns, ChildLists, SiblingPlaces), NoMemory>
+    ensures columns { IfOk result (λ made. made.0 ≡ columns.now) }
+    ensures spans { IfOk result (λ made. made.1.spans.items ≡ children.now.spans.items) }
+    ensures flat { IfOk result (λ made. made.1.flat.items ≡ children.now.flat.items) }
+    ensures index { IfOk result (λ made. made.2.index.items ≡ places.now.index.items) }
+    ensures before { IfOk result (λ made. made.2.before.items ≡ places.now.before.items) }
+    ensures after { IfOk result (λ made. made.2.after.items ≡ places.now.after.items) }
+    ensures tally { IfOk result (λ made. made.2.tally.items ≡ places.now.tally.items) }
+{
+    let children = children.copy(alloc)?;
+    let places = places.copy(alloc)?;
+    let columns = columns.copy(alloc)?;
+    Ok((columns, children, places))
+}
+
+/// The same labels again, the class lists that they name, and which of them were cut.
+fn copy_labels(
+    alloc: Global,
+    labels: &[Label],
+    lists: &ClassLists,
+    cuts: &[Option<u32>],
+) -> Result<(Vec<Label>, ClassLists, Vec<Option<u32>>), NoMemory>
+    ensures labels { IfOk result (λ made. made.0.items ≡ labels.now) }
+    ensures lists { IfOk result (λ made. made.1 ≡ lists.now) }
+    ensures cuts { IfOk result (λ made. made.2.items ≡ cuts.now) }
+{
+    let labels = Vec::from_slice(alloc, labels)?;
+    let cuts = Vec::from_slice(alloc, cuts)?;
+    let lists = lists.copy(alloc)?;
+    Ok((labels, lists, cuts))
+}
+
+/// The same numbers in tree order again, and whether each number is that of an element.
+fn copy_numbers(
+    alloc: Global,
+    order: &[u32],
+    present: &[bool],
+) -> Result<(Vec<u32>, Vec<bool>), NoMemory>
+    ensures order { IfOk result (λ made. made.0.items ≡ order.now) }
+    ensures present { IfOk result (λ made. made.1.items ≡ present.now) }
+{
+    let order = Vec::from_slice(alloc, order)?;
+    let present = Vec::from_slice(alloc, present)?;
+    Ok((order, present))
 }

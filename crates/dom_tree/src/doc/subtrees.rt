@@ -1,19 +1,23 @@
 //! Subtrees that are put into a document, and taken out of it.
 
-ghost use Rattle.std.specs.Prelude.{◌≡◌, ◌++◌, ◌+◌, ◌^◌, ◌<◌, ◌≤◌, OnErr, OnOk, is_some, length, replicate, true, vec_capacity, vec_len};
+ghost use Rattle.std.specs.Prelude.{◌≡◌, ◌++◌, ◌+◌, ◌^◌, ◌<◌, ◌≤◌, IfOk, OnErr, OnOk, is_some, length, replicate, true, vec_capacity, vec_len};
 ghost use Rattle.std.specs.List.{AllByRecursion};
 ghost use Rattle.base_model.specs.Limits.{element_limit, number_limit};
 ghost use Rattle.scene_model.specs.Lookups.{IsElement, children, parent_of};
 ghost use Rattle.change_model.specs.ChildLists.{inserted, removed};
 ghost use Rattle.dom_tree.specs.ChildLists.{AreParts, lists_of};
-ghost use Rattle.dom_tree.specs.SiblingPlaces.{AreWritten};
+ghost use Rattle.dom_tree.specs.Labels.{AreCuts, AreLabels, HasMore};
+ghost use Rattle.dom_tree.specs.SiblingPlaces.{AreWritten, AreZeros, HasNameBelow};
+ghost use Rattle.stylo_base.specs.NameList.{StandOnce};
 
 use crate::child_lists::ChildLists;
+use crate::class_lists::ClassLists;
 use crate::doc::Doc;
 use crate::labels::{Label, append_labels, label_list};
+use crate::node_columns::NodeColumns;
 use crate::nodes::NodeList;
 use crate::sibling_places::SiblingPlaces;
-use crate::start::walk;
+use crate::start::order_nodes;
 use crate::turns::{append_raised, turn};
 use std::alloc::Global;
 use stylo_base::NoMemory;
@@ -54,8 +58,7 @@ impl Doc {
         ensures ok { OnOk result (self.new ≡ inserted self.old parent index nodes.now) }
         ensures err { OnErr result (self.new ≡ self.old) }
     {
-        let found = ChildLists::of_list(alloc, nodes)?;
-        let run = walk(alloc, nodes, &found)?;
+        let (found, run) = order_nodes(alloc, nodes)?;
         let spot = self.spot(parent, index);
         let items = found.flat.len() + self.children(parent).len() + 1;
         let last = self.columns.len();
@@ -72,14 +75,14 @@ impl Doc {
             items,
         )?;
         let list = nodes.columns();
-        let labels = label_list(
+        let labels = label_more(
             alloc,
             &mut self.columns,
             list,
             &mut self.lists,
             &mut self.cuts,
+            &mut self.places.tally,
         )?;
-        self.places.tally.resize(self.columns.name_count(), 0)?;
         self.columns.append(alloc, list, parent)?;
         // From here on nothing can fail.
         append_labels(&mut self.labels, &labels);
@@ -94,6 +97,33 @@ impl Doc {
         self.places.settle(&self.columns, self.children.of(parent));
         Ok(())
     }
+}
+
+/// Labels for the nodes of a list, as `label_list` makes them, and room in a tally for all texts that have names then.
+fn label_more(
+    alloc: Global,
+    columns: &mut NodeColumns,
+    list: &NodeColumns,
+    lists: &mut ClassLists,
+    cuts: &mut Vec<Option<u32>>,
+    tally: &mut Vec<u32>,
+) -> Result<Vec<Label>, NoMemory>
+    requires once { StandOnce columns.old.names }
+    requires cuts { AreCuts columns.old.names lists.old cuts.old.items }
+    requires zeros { AreZeros columns.old.names tally.old.items }
+    ensures labels { IfOk result (λ labels.
+        AreLabels (record { names = columns.new.names; nodes = list.now.nodes }) lists.new labels.items) }
+    ensures tags { OnOk result (AllByRecursion
+        (λ node. HasNameBelow columns.new.names (length columns.new.names) node.tag) list.now.nodes) }
+    ensures nodes { columns.new.nodes ≡ columns.old.nodes }
+    ensures more { HasMore columns.old.names lists.old columns.new.names lists.new cuts.new.items }
+    ensures zeros { AreZeros columns.new.names tally.new.items }
+    ensures longer { length tally.old.items ≤ length tally.new.items }
+    ensures room { OnOk result (length tally.new.items ≡ length columns.new.names) }
+{
+    let labels = label_list(alloc, columns, list, lists, cuts)?;
+    tally.resize(columns.name_count(), 0)?;
+    Ok(labels)
 }
 
 /// Makes room for so many elements more, and for so many items of child lists.

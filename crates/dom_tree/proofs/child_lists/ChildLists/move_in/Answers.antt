@@ -1,7 +1,61 @@
 use Rattle.std.proofs.Common.{◌-◌, ◌<◌, List, ℕ, length, arith, ap, sym, ◌∙◌, subst}
 use Rattle.dom_tree.specs.ChildLists.{AreParts, list_moved, lists_of}
-use Rattle.dom_tree.proofs.PartLemmas.{became, lists_earlier, lists_later, parts_earlier, parts_later, span_at, told_at}
+use Rattle.dom_tree.proofs.PartLemmas.{became, inside, lists_earlier, lists_later, part_long, parts_earlier, parts_later, span_at, told_at}
 use Rattle.dom_tree.proofs.child_lists.ChildLists.move_in.Goals as goal
+
+pub overflow_add-start : goal.overflow_add-start
+overflow_add-start c =
+    let flat = c.args.self.now.flat.items in
+    let spans = c.args.self.now.spans.items in
+    let at = span_at spans (c.args.number - 1) (omega (arith, c.requires.low, c.requires.high)) c.index.ensures in
+    let l = told_at flat spans (c.args.number - 1) (λ (list : List ℕ). c.args.from < length list) at c.requires.from in
+    omega (arith, l, inside c.requires.parts (c.args.number - 1) at, part_long c.requires.parts (c.args.number - 1) at, c.args.self.now.flat.ok, c.args.self.now.flat.small)
+
+pub overflow_add-start-then-from-to : goal.overflow_add-start-then-from-to
+overflow_add-start-then-from-to c =
+    let flat = c.args.self.now.flat.items in
+    let spans = c.args.self.now.spans.items in
+    let at = span_at spans (c.args.number - 1) (omega (arith, c.requires.low, c.requires.high)) c.index.ensures in
+    let l = told_at flat spans (c.args.number - 1) (λ (list : List ℕ). c.args.to < length list) at c.requires.to in
+    omega (arith, l, inside c.requires.parts (c.args.number - 1) at, part_long c.requires.parts (c.args.number - 1) at, c.args.self.now.flat.ok, c.args.self.now.flat.small)
+
+pub overflow_add-start-else-from-to : goal.overflow_add-start-else-from-to
+overflow_add-start-else-from-to c =
+    let flat = c.args.self.now.flat.items in
+    let spans = c.args.self.now.spans.items in
+    let at = span_at spans (c.args.number - 1) (omega (arith, c.requires.low, c.requires.high)) c.index.ensures in
+    let l = told_at flat spans (c.args.number - 1) (λ (list : List ℕ). c.args.to < length list) at c.requires.to in
+    omega (arith, l, inside c.requires.parts (c.args.number - 1) at, part_long c.requires.parts (c.args.number - 1) at, c.args.self.now.flat.ok, c.args.self.now.flat.small)
+
+pub overflow_add-start-else-from-to-2 : goal.overflow_add-start-else-from-to-2
+overflow_add-start-else-from-to-2 c =
+    let flat = c.args.self.now.flat.items in
+    let spans = c.args.self.now.spans.items in
+    let at = span_at spans (c.args.number - 1) (omega (arith, c.requires.low, c.requires.high)) c.index.ensures in
+    let l = told_at flat spans (c.args.number - 1) (λ (list : List ℕ). c.args.from < length list) at c.requires.from in
+    omega (arith, l, inside c.requires.parts (c.args.number - 1) at, part_long c.requires.parts (c.args.number - 1) at, c.args.self.now.flat.ok, c.args.self.now.flat.small)
+
+pub turn-requires-clause-within : goal.turn-requires-clause-within
+turn-requires-clause-within c =
+    let flat = c.args.self.now.flat.items in
+    let spans = c.args.self.now.spans.items in
+    let at = span_at spans (c.args.number - 1) (omega (arith, c.requires.low, c.requires.high)) c.index.ensures in
+    let l = told_at flat spans (c.args.number - 1) (λ (list : List ℕ). c.args.to < length list) at c.requires.to in
+    omega (arith, l, inside c.requires.parts (c.args.number - 1) at, part_long c.requires.parts (c.args.number - 1) at)
+
+pub turn-requires-clause-part : goal.turn-requires-clause-part
+turn-requires-clause-part c = omega (arith, c.if-from-to.true)
+
+pub turn-requires-else-from-to-clause-within : goal.turn-requires-else-from-to-clause-within
+turn-requires-else-from-to-clause-within c =
+    let flat = c.args.self.now.flat.items in
+    let spans = c.args.self.now.spans.items in
+    let at = span_at spans (c.args.number - 1) (omega (arith, c.requires.low, c.requires.high)) c.index.ensures in
+    let l = told_at flat spans (c.args.number - 1) (λ (list : List ℕ). c.args.from < length list) at c.requires.from in
+    omega (arith, l, inside c.requires.parts (c.args.number - 1) at, part_long c.requires.parts (c.args.number - 1) at)
+
+pub turn-requires-else-from-to-clause-part : goal.turn-requires-else-from-to-clause-part
+turn-requires-else-from-to-clause-part c = omega (arith, c.if-from-to.false)
 
 pub returns-then-from-to-clause-parts : goal.returns-then-from-to-clause-parts
 returns-then-from-to-clause-parts c =

@@ -4,20 +4,23 @@ use Rattle.dom_tree.proofs.doc.Doc.copy.Goals as goal
 
 pub invariant_of-result : goal.invariant_of-result
 invariant_of-result c =
-    let labels = c.in_ok-from_slice.ensures.items ∙ c.deref.ensures.value in
-    let cuts = c.in_ok-from_slice-2.ensures.items ∙ c.deref-2.ensures.value in
-    let order = c.in_ok-from_slice-3.ensures.items ∙ c.deref-3.ensures.value in
-    let present = c.in_ok-from_slice-4.ensures.items ∙ c.deref-4.ensures.value in
+    let numbers = c.in_ok-order.ensures in
+    let labels = c.in_ok-labels.ensures in
+    let tree = c.in_ok-columns.ensures in
+    let order = numbers.order ∙ c.deref.ensures.value in
+    let present = numbers.present ∙ c.deref-2.ensures.value in
+    let all = labels.labels ∙ c.deref-3.ensures.value in
+    let cuts = labels.cuts ∙ c.deref-4.ensures.value in
     subst IsWhole (λ i. record {
-      table = sym c.in_ok-copy.ensures i;
-      spans = sym c.in_ok-copy-2.ensures.spans i;
-      flat = sym c.in_ok-copy-2.ensures.flat i;
-      index = sym c.in_ok-copy-3.ensures.index i;
-      before = sym c.in_ok-copy-3.ensures.before i;
-      after = sym c.in_ok-copy-3.ensures.after i;
-      tally = sym c.in_ok-copy-3.ensures.tally i;
-      labels = sym labels i;
-      lists = sym c.in_ok-copy-4.ensures i;
+      table = sym tree.columns i;
+      spans = sym tree.spans i;
+      flat = sym tree.flat i;
+      index = sym tree.index i;
+      before = sym tree.before i;
+      after = sym tree.after i;
+      tally = sym tree.tally i;
+      labels = sym all i;
+      lists = sym labels.lists i;
       cuts = sym cuts i;
       order = sym order i;
       present = sym present i;

@@ -17,6 +17,28 @@ use Rattle.dom_tree.proofs.RemovedDocument.{hung_there}
 use Rattle.dom_tree.proofs.RoomLemmas.{document_same, room_whole, spans_long, told_again}
 use Rattle.dom_tree.proofs.doc.Doc.move_to.Goals as goal
 
+-- what the steps ask for
+pub make_room-requires : goal.make_room-requires
+make_room-requires c = c.self.invariant.apart
+
+pub carry-requires-clause-parts : goal.carry-requires-clause-parts
+carry-requires-clause-parts c = c.make_room.ensures.parts
+
+pub of-requires-clause-parts : goal.of-requires-clause-parts
+of-requires-clause-parts c = c.carry.ensures.parts
+
+pub of-requires-2-clause-parts : goal.of-requires-2-clause-parts
+of-requires-2-clause-parts c = c.carry.ensures.parts
+
+pub settle-requires-clause-few : goal.settle-requires-clause-few
+settle-requires-clause-few c = c.of.ensures.few
+
+pub settle-requires-2-clause-few : goal.settle-requires-2-clause-few
+settle-requires-2-clause-few c = c.of-2.ensures.few
+
+pub settle-requires-2-clause-tally : goal.settle-requires-2-clause-tally
+settle-requires-2-clause-tally c = c.settle.ensures.tally
+
 pub parent-requires : goal.parent-requires
 parent-requires c =
     hung_there c.args.self.now.elements c.args.x c.requires.hung

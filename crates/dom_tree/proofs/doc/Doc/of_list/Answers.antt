@@ -5,13 +5,11 @@ use Rattle.dom_tree.proofs.doc.Doc.of_list.Goals as goal
 
 pub invariant_of-result : goal.invariant_of-result
 invariant_of-result c =
-    let labels = c.in_ok-labels.ensures in
-    let all = c.in_ok-present.ensures.items_if_clones_equal (λ y h. h) ∙ ap (λ n. replicate n true) (c.len.ensures ∙ ap length c.into_columns-columns.ensures.nodes) in
-    let children = c.in_ok-children.ensures in
-    let places = c.in_ok-places.ensures in
-    whole_of_list c.walk.ensures.shape c.into_columns-columns.ensures.nodes c.requires children.parts children.children
-    places.index places.before places.after places.tally places.tags labels.once labels.labels
-    c.label_nodes.ensures.cuts c.in_ok-order.ensures.order all
+    let found = c.in_ok-children.ensures in
+    let looked = c.in_ok-places.ensures in
+    let all = looked.present ∙ ap (λ n. replicate n true) (ap length c.into_columns-columns.ensures.nodes) in
+    whole_of_list found.shape c.into_columns-columns.ensures.nodes c.requires found.parts found.children
+    looked.index looked.before looked.after looked.tally looked.tags looked.once looked.labels looked.cuts found.order all
 
 pub returns : goal.returns
-returns c = document_of_list c.into_columns-columns.result c.into_columns-columns.ensures.nodes c.in_ok-order.ensures.order
+returns c = document_of_list c.into_columns-columns.result c.into_columns-columns.ensures.nodes c.in_ok-children.ensures.order
