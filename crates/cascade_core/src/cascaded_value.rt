@@ -10,7 +10,7 @@ use crate::substituted_value::SubstitutedValue;
 use css_tokens::Wide;
 
 /// The value that the cascade gives a property, before it is computed.
-#[derive(Clone, Copy, Debug)]
+#[derive(Clone, Copy)]
 pub(crate) enum CascadedValue<V> {
     /// The parent's value.
     Inherit,

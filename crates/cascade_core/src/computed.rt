@@ -15,14 +15,14 @@ use property_table::{ComputeRule, Keyword, PropId, PropertyRow, Value};
 use stylo_base::Fixed;
 
 /// The font sizes that `em` and `rem` stand for (css-values-4, section 6.1).
-#[derive(Clone, Copy, Debug)]
+#[derive(Clone, Copy)]
 pub(crate) struct Sizes {
     pub(crate) element: Fixed,
     pub(crate) root: Fixed,
 }
 
 /// The parent's font size and font weight.
-#[derive(Clone, Copy, Debug)]
+#[derive(Clone, Copy)]
 pub(crate) struct ParentFont {
     pub(crate) size: Fixed,
     pub(crate) weight: Fixed,
@@ -30,7 +30,7 @@ pub(crate) struct ParentFont {
 
 /// The values of the parent that a value is computed from: its value of the same property, and its
 /// font.
-#[derive(Clone, Copy, Debug)]
+#[derive(Clone, Copy)]
 pub(crate) struct ParentValues {
     pub(crate) value: Value,
     pub(crate) font: ParentFont,

@@ -9,7 +9,7 @@ use stylo_base::NoMemory;
 
 /// Reads declared values as values of custom properties. The `var()`s in them are substituted later,
 /// when all declarations of custom properties are known.
-#[derive(Clone, Copy, Debug)]
+#[derive(Clone, Copy)]
 pub(crate) struct CustomDeclarations;
 
 impl<'a> Substitution<'a> for CustomDeclarations {

@@ -14,7 +14,7 @@ use std::slice;
 use stylo_base::NoMemory;
 
 /// Which declarations are gathered.
-#[derive(Clone, Copy, Debug)]
+#[derive(Clone, Copy)]
 pub(crate) enum Wanted {
     /// Those that set this property, by itself or by a shorthand.
     Property(PropId),

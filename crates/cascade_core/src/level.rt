@@ -9,7 +9,7 @@ use layer_order::Origin;
 use std::cmp::Ordering;
 
 /// Its origin, whether it is in a `style` attribute, and its layer's rank: compared in that order.
-#[derive(Clone, Copy, Debug)]
+#[derive(Clone, Copy)]
 pub(crate) struct Level {
     origin: Origin,
     attached: bool,

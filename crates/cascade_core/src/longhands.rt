@@ -26,7 +26,7 @@ use value_parser::{value, wide_keyword};
 /// Reads declared values as values of a property of the table, over the values of custom properties.
 /// It keeps the shorthand that was substituted last, since the longhands of one stand beside each
 /// other in the table.
-#[derive(Debug, Drop)]
+#[derive(Drop)]
 pub(crate) struct Longhands<'a, 'm> {
     custom: &'m CustomMap,
     id: PropId,
@@ -34,7 +34,7 @@ pub(crate) struct Longhands<'a, 'm> {
 }
 
 /// The shorthand that was substituted last: its declared value, and the values of its longhands.
-#[derive(Debug, Drop)]
+#[derive(Drop)]
 struct LastShorthand<'a> {
     short: Short,
     value: &'a CustomValue,

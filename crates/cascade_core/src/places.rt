@@ -14,7 +14,7 @@ use stylo_base::NoMemory;
 
 /// For each property the place of the declaration that wins among those that were added, and whether
 /// one of them declares a custom property.
-#[derive(Debug, Drop)]
+#[derive(Drop)]
 pub(crate) struct Places {
     /// The place of the winner of each row of the table; 0 where there is none.
     rows: [u32; COUNT],

@@ -28,7 +28,7 @@ use std::cmp::Ordering;
 use stylo_base::NoMemory;
 
 /// How far the cascade was taken back: which declarations are left.
-#[derive(Clone, Copy, Debug)]
+#[derive(Clone, Copy)]
 pub(crate) enum RollbackBound {
     /// All declarations.
     Unbounded,

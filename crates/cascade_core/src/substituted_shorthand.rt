@@ -17,7 +17,7 @@ use shorthands::{Short, split};
 use value_parser::{are_taken, value, wide_keyword};
 
 /// The values of a shorthand's longhands, once the `var()`s in its value are substituted.
-#[derive(Debug, Drop)]
+#[derive(Drop)]
 pub(crate) enum SubstitutedShorthand {
     /// Each longhand behaves as with this keyword.
     Keyword(Wide),

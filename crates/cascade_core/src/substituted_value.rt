@@ -3,7 +3,7 @@
 use css_tokens::Wide;
 
 /// A declared value once the `var()`s in it are substituted: a CSS-wide keyword, or a value.
-#[derive(Clone, Copy, Debug)]
+#[derive(Clone, Copy)]
 pub(crate) enum SubstitutedValue<V> {
     Keyword(Wide),
     Value(V),

@@ -17,6 +17,7 @@ pub mod SpacedLemmas
 pub mod NormalLemmas
 pub mod ValidityLemmas
 pub mod NameLemmas
+pub mod KindLemmas
 pub mod ListLemmas
 pub mod InsideLemmas
 pub mod SeparatedLemmas

@@ -1,15 +1,15 @@
 -- The tokens that take one look.
-use Rattle.std.proofs.Common.{◌≡◌, ℕ, true, false, eqb, ◌||◌, [], ◌∷◌, length, take, drop, refl, sym, ap, ap₂, ◌∙◌, arith, inl, inr}
+use Rattle.std.proofs.Common.{◌≡◌, ℕ, true, false, eqb, [], ◌∷◌, length, take, drop, refl, sym, ap, ap₂, ◌∙◌, arith, inl, inr}
 use Rattle.std.specs.Prelude.{not}
 use Rattle.std.specs.List.{prefix_len}
-use Rattle.std.proofs.lemmas.Bool.{and_left, and_parts, cond-false, cond-true, eqb-true, not-true, or_cases}
+use Rattle.std.proofs.lemmas.Bool.{and_left, cond-false, cond-true, or_cases}
 use Rattle.std.proofs.lemmas.Bool.Decides.{nat_tests}
 use Rattle.std.proofs.lemmas.List.Folds.{length-prefix_len}
 use Rattle.base_model.specs.Text.{Characters}
-use Rattle.syntax_model.specs.Letters.{begins, is_blank, is_digit, is_name_char, is_name_start}
+use Rattle.syntax_model.specs.Letters.{begins, is_blank, is_name_char, is_name_start}
 use Rattle.syntax_model.specs.TextUnits.{len_of, name_unit}
 use Rattle.syntax_model.specs.Token.{TokenKind, ident, whitespace}
-use Rattle.syntax_model.specs.Pieces.{Piece, Production, ident_piece, ident_production, mark_kind, mark_production, name_in, name_len, named}
+use Rattle.syntax_model.specs.Pieces.{Piece, Production, ident_piece, ident_production, mark_production, name_in, name_len, named}
 use Rattle.syntax_model.specs.Pieces.{plain, production_at, production_len, production_tokens, token_of, white_production}
 use Rattle.css_tokens.specs.Scanned.{IsFirst, IsMark, is_lone, is_lone_point}
 use Rattle.css_tokens.specs.declared.text_unit.Grammar.TheVariants as grammar

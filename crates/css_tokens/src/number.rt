@@ -8,7 +8,7 @@ ghost use Rattle.syntax_model.specs.TextUnits.{one_if};
 use crate::letters::{is_digit, is_e, is_sign};
 
 /// How many characters a number has, and whether it is an integer.
-#[derive(Clone, Copy, Debug, PartialEq, Eq)]
+#[derive(Clone, Copy)]
 pub(crate) struct NumberLength {
     pub len: usize,
     pub is_integer: bool,

@@ -12,7 +12,7 @@ use crate::letters::{is_blank, is_name_char, is_name_start, is_quote};
 use crate::number::starts_number;
 
 /// A production of the grammar, in the order in which they are tried.
-#[derive(Clone, Copy, Debug, PartialEq, Eq)]
+#[derive(Clone, Copy)]
 pub enum Production {
     Comment,
     White,

@@ -13,7 +13,7 @@ use crate::pieces::{blank_len, next_is};
 use crate::text_unit::Grammar;
 
 /// A token with neither name nor number, of so many characters.
-#[derive(Clone, Copy, Debug)]
+#[derive(Clone, Copy)]
 pub(crate) struct Simple {
     pub kind: TokenKind,
     pub len: usize,

@@ -14,7 +14,7 @@ use stylo_base::{NoMemory, Text};
 const SHORT_LEN: usize = 16;
 
 /// What a run says.
-#[derive(Clone, Copy, Debug)]
+#[derive(Clone, Copy)]
 pub(crate) enum Said<'a> {
     /// These characters, each of which says itself.
     Plain(&'a [char]),
@@ -23,7 +23,7 @@ pub(crate) enum Said<'a> {
 }
 
 /// How many characters a run has, and what it says.
-#[derive(Clone, Copy, Debug)]
+#[derive(Clone, Copy)]
 pub(crate) struct Run<'a> {
     pub len: usize,
     pub said: Said<'a>,

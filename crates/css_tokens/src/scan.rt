@@ -10,7 +10,7 @@ use crate::TokenKind;
 use crate::run::Said;
 
 /// The piece that a text begins with.
-#[derive(Clone, Copy, Debug)]
+#[derive(Clone, Copy)]
 pub(crate) struct Scan<'a> {
     /// A comment is no token, and of no kind.
     pub is_comment: bool,

@@ -10,14 +10,14 @@ use crate::escape::{escape, starts_escape};
 use crate::letters::{is_blank, is_name_char, is_non_printable, is_quote};
 
 /// How many characters a unit has, and the character that it says, if any.
-#[derive(Clone, Copy, Debug, PartialEq, Eq)]
+#[derive(Clone, Copy)]
 pub(crate) struct TextUnit {
     pub taken: usize,
     pub said: Option<char>,
 }
 
 /// What a run of units is a part of.
-#[derive(Clone, Copy, Debug, PartialEq, Eq)]
+#[derive(Clone, Copy)]
 pub(crate) enum Grammar {
     Name,
     /// A string in these quotes.

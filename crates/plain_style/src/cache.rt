@@ -19,13 +19,13 @@ const LONGEST: usize = 64;
 /// the style of its parent, and the rules that match it. The style is kept with these two, and another
 /// element for which both are the same has the same style. Styles are given by their numbers in a table.
 /// Each has a slot, and replaces what was kept there. The model is the matched properties cache of Blink.
-#[derive(Debug, Drop)]
+#[derive(Drop)]
 pub(crate) struct MatchedRulesCache {
     entries: Vec<Entry>,
 }
 
 /// A style, and what it depends on. None: the slot is empty.
-#[derive(Debug, Drop)]
+#[derive(Drop)]
 struct Entry {
     parent: usize,
     matched: Vec<MatchedRule>,

@@ -17,7 +17,7 @@ use stylo_base::NoMemory;
 
 /// A rule that matches an element: its place among the rules, and the greatest specificity of those of
 /// its selectors that hold at the element.
-#[derive(Clone, Copy, Debug, PartialEq, Eq)]
+#[derive(Clone, Copy, PartialEq, Eq)]
 pub(crate) struct MatchedRule {
     pub(crate) rule: usize,
     pub(crate) specificity: Specificity,

@@ -5,7 +5,7 @@ ghost use Rattle.selector_match.specs.Results.{told_of, weakest as model_weakest
 
 /// Whether a selector matches an element. Where it does not, the case says how far back the search has to go before it
 /// can succeed, so that nothing is tried twice for the same reason. The cases are those of Servo's matcher.
-#[derive(Clone, Copy, Debug, PartialEq, Eq)]
+#[derive(Clone, Copy, PartialEq, Eq)]
 pub(crate) enum MatchResult {
     /// The selector matches (Servo's `Matched`).
     Matched,

@@ -9,7 +9,7 @@ ghost use Rattle.memchr.specs.Find.{FindsNeedle, IsFirst};
 ghost use Rattle.selector_match.specs.TwoWay.{IsCut, Precedes, StandsAt, lower_at};
 
 /// The greatest end of a part, in some order of bytes: where it begins, and after how many bytes it repeats.
-#[derive(Clone, Copy, Debug)]
+#[derive(Clone, Copy)]
 struct Suffix {
     place: usize,
     period: usize,
@@ -17,7 +17,7 @@ struct Suffix {
 
 /// Where a search cuts a part. It compares what follows that place first. Where this stands and what comes before
 /// does not, it moves on by `shift`, and then the first `known` bytes of the part stand again.
-#[derive(Clone, Copy, Debug)]
+#[derive(Clone, Copy)]
 struct Cut {
     place: usize,
     shift: usize,

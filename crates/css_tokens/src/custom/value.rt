@@ -148,7 +148,7 @@ fn are_same(a: &[Token], b: &[Token]) -> bool
 }
 
 /// What is found of the tokens of a value.
-#[derive(Clone, Copy, Debug, PartialEq, Eq)]
+#[derive(Clone, Copy)]
 enum Validity {
     Invalid,
     /// It refers to no custom property.
