@@ -11,7 +11,7 @@ use crate::{Context, SheetEdition};
 use css_tokens::{CommaSeparated, Cursor, Token, Wide, trimmed, without_white};
 use layer_order::Part;
 use std::alloc::Global;
-use stylo_base::{Atom, NoMemory};
+use stylo_base::{Atom, NoMemory, Text};
 
 /// How many parts the full name of a layer may have.
 const PART_LIMIT: usize = 64;
@@ -79,11 +79,7 @@ fn layer_named(
     let mut outer = context.share()?;
     let mut left = Cursor::new(tokens);
     while let Some(name) = left.take_ident() {
-        if Wide::named(name.as_str()).is_some() {
-            return Ok(None);
-        }
-        let part = Part::Named(Atom::of_text(name.copy(alloc)?));
-        let Some(layer) = layer_within(alloc, &outer, part)? else {
+        let Some(layer) = named_within(alloc, &outer, name)? else {
             return Ok(None);
         };
         if left.is_at_end() {
@@ -95,6 +91,21 @@ fn layer_named(
         outer = layer;
     }
     Ok(None)
+}
+
+/// The layer of a name that is one step into a context, where the name is no CSS-wide keyword.
+fn named_within(alloc: Global, context: &Context, name: &Text) -> Result<Option<Context>, NoMemory>
+    ensures { IfOk result (λ found.
+        option_map context_of found ≡ layers.named_within (context_of context.now) name.now) }
+{
+    if Wide::named(name.as_str()).is_some() {
+        return Ok(None);
+    }
+    layer_within(
+        alloc,
+        context,
+        Part::Named(Atom::of_text(name.copy(alloc)?)),
+    )
 }
 
 /// The layer that is one step into a context, unless its full name has too many parts.

@@ -22,7 +22,7 @@ use std::mem;
 use stylo_base::{NoMemory, Text, eq_ascii_case};
 
 /// What begins a rule: nothing of its own, `@layer`, or another at-keyword.
-#[derive(Clone, Copy, Debug)]
+#[derive(Clone, Copy)]
 pub(crate) enum Head {
     Qualified,
     Layer,
@@ -31,7 +31,7 @@ pub(crate) enum Head {
 
 /// Where a parser is: between rules, before the block of one, in the block of a qualified rule, or in a block that is
 /// dropped.
-#[derive(Clone, Copy, Debug)]
+#[derive(Clone, Copy)]
 pub(crate) enum ParserState {
     Between,
     Prelude(Head),

@@ -32,6 +32,13 @@ pub fn edition_rules(
         ≡ sheet_rules_in (edition_of edition) (chars text.now)) }
 {
     let mut reader = RuleReader::new(alloc, edition, text)?;
+    unread_rules(alloc, &mut reader)
+}
+
+/// The rules that are left to read, in their order.
+fn unread_rules(alloc: Global, reader: &mut RuleReader) -> Result<Vec<Rule>, NoMemory>
+    ensures { IfOk result (λ rules. rules_of rules.items ≡ reader.old.left) }
+{
     let mut rules = Vec::new(alloc);
     while let Some(rule) = reader.next_rule(alloc)? {
         rules.push(rule)?;

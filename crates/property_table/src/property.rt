@@ -96,7 +96,7 @@ impl PropertyRow {
         ensures order { map (λ row. property_of row.id) result.now
             ≡ range_with_len 0 (length table) }
     {
-        ROWS
+        rows()
     }
 
     /// The properties that are inherited, in the order of the table.
@@ -153,12 +153,15 @@ pub fn inherited(id: PropId) -> bool
 pub fn label(id: PropId) -> &'static str
     ensures { chars result.now ≡ (row_of id).name ++ codes ": " }
 {
-    labelled_rows()[id.row()].label
+    rows()[id.row()].label
 }
 
-/// All rows, as `PropertyRow::all` gives them, with what is said of their labels.
-fn labelled_rows() -> &'static [PropertyRow]
-    ensures { map (λ row. chars row.label.now) result.now ≡ map (λ row. row.name ++ codes ": ") table }
+/// All rows, with all that is said of them: the table is read here alone.
+fn rows() -> &'static [PropertyRow]
+    ensures rows { map row_seen result.now ≡ table }
+    ensures order { map (λ row. property_of row.id) result.now
+        ≡ range_with_len 0 (length table) }
+    ensures labels { map (λ row. chars row.label.now) result.now ≡ map (λ row. row.name ++ codes ": ") table }
 {
     ROWS
 }

@@ -1,15 +1,20 @@
 //! Edits of the style sheets of a document: planned with all memory that they take, then made without any.
 
-ghost use Rattle.std.specs.Prelude.{◌≡◌, ◌≤◌, IfErr, IfOk, None, OnErr, OnOk, length, option_map, unwrap_or};
+ghost use Rattle.std.specs.Prelude.{◌≡◌, ◌≤◌, IfErr, IfOk, None, OnErr, OnOk, false, length, map, option_map, unwrap_or};
+ghost use Rattle.std.specs.Option.{option_map_or};
 ghost use Rattle.base_model.specs.Limits.{number_limit, sheet_limit};
 ghost use Rattle.edit_model.specs.Refusal.{accepted};
 ghost use Rattle.edit_model.specs.SheetApply.{AreNumbered, number_in, sheet_refusal, sheets_applied};
+ghost use Rattle.layer_model.specs.Swapped.{swapped};
+ghost use Rattle.selector_types.specs.SimpleView.{key_seen};
 ghost use Rattle.sheet_model.specs.Sources.{layers_of_sheets};
 ghost use Rattle.stylo_base.specs.declared.refusal.EditRefused.TheVariants.{NoMemory as out_of_memory};
 ghost use Rattle.dom_edits.specs.EditView.{refusal_answered, sheet_edit_seen};
 ghost use Rattle.sheet_set.specs.Fits.{AreSameSheets, Fits};
-ghost use Rattle.sheet_set.specs.Planned.{planned};
-ghost use Rattle.sheet_set.specs.Room.{HasPlaces, HasRoom};
+ghost use Rattle.sheet_set.specs.Kept.{kept_seen};
+ghost use Rattle.sheet_set.specs.Planned.{planned, stepped};
+ghost use Rattle.sheet_set.specs.Room.{HasPlaces, HasRoom, IsAtPlace};
+ghost use Rattle.sheet_set.specs.StepOf.{AreSelectorsOf, step_keys};
 ghost use Rattle.sheet_set.specs.TellsMarks.{TellsMarks};
 ghost use Rattle.sheet_set.specs.View.{listed_seen};
 
@@ -21,10 +26,10 @@ use crate::room::make_room;
 use crate::sheet_keys::change_of;
 use crate::sheet_step::SheetStep;
 use crate::stepping::make;
-use crate::{SheetPlan, Sheets};
+use crate::{KeptSheet, SheetPlan, Sheets};
 use dom_edits::SheetEdit;
 use layer_order::Layers;
-use selector_types::SheetChange;
+use selector_types::{Selector, SheetChange};
 use std::alloc::Global;
 use stylo_base::{EditRefused, NoMemory};
 
@@ -69,15 +74,7 @@ impl Sheets {
             (number_in self.old.last (sheet_edit_seen edit.now)) plan.change) }
     {
         let step = step_of(alloc, &self.sheets, self.last, edit)?;
-        let layers = layers_after(alloc, &self.sheets, &step)?;
-        let change = change_of(
-            alloc,
-            &self.sheets,
-            &self.selectors,
-            &step,
-            &self.layers,
-            layers.as_ref(),
-        )?;
+        let (layers, change) = told_of(alloc, &self.sheets, &self.selectors, &self.layers, &step)?;
         make_room(
             &mut self.sheets,
             &mut self.rules,
@@ -147,4 +144,26 @@ impl Sheets {
         self.make(step, layers);
         Ok(change)
     }
+}
+
+/// The layers of all sheets after a step, and what it changes, as far as that tells whom it marks.
+fn told_of(
+    alloc: Global,
+    sheets: &[KeptSheet],
+    selectors: &[Vec<Selector>],
+    layers: &Layers,
+    step: &SheetStep,
+) -> Result<(Option<Layers>, SheetChange), NoMemory>
+    requires at { IsAtPlace sheets.now step.now }
+    requires selectors { AreSelectorsOf sheets.now selectors.now }
+    ensures layers { IfOk result (λ told. unwrap_or told.0 (layers_of_sheets (map kept_seen sheets.now))
+        ≡ layers_of_sheets (stepped step.now (map kept_seen sheets.now))) }
+    ensures keys { IfOk result (λ told. ∥ map key_seen told.1.keys.items
+        ≡ step_keys step.now (map kept_seen sheets.now) ∥₁) }
+    ensures swapped { IfOk result (λ told. told.1.swapped
+        ≡ option_map_or (λ l. swapped layers.now l) told.0 false) }
+{
+    let after = layers_after(alloc, sheets, step)?;
+    let change = change_of(alloc, sheets, selectors, step, layers, after.as_ref())?;
+    Ok((after, change))
 }

@@ -1,10 +1,11 @@
 //! The style sheets of a document.
 
-ghost use Rattle.std.specs.Prelude.{◌≡◌, ◌≤◌, length, map, vec_len};
+ghost use Rattle.std.specs.Prelude.{◌≡◌, ◌≤◌, IfOk, length, map, vec_len};
 ghost use Rattle.base_model.specs.Limits.{number_limit, sheet_limit};
 ghost use Rattle.edit_model.specs.SheetApply.{AreNumbered};
 ghost use Rattle.sheet_model.specs.Sources.{layers_of_sheets, rules_of_sheets};
 ghost use Rattle.sheet_set.specs.Kept.{kept_seen, taking};
+ghost use Rattle.sheet_set.specs.Positions.{positions_from};
 ghost use Rattle.sheet_set.specs.Ranks.{rank_seen};
 ghost use Rattle.sheet_set.specs.Rules.{AreSame, placed_at, rules_with};
 
@@ -44,7 +45,6 @@ pub struct Sheets {
 }
 
 impl Sheets {
-    ghost use Rattle.std.specs.Prelude.{IfOk};
     ghost use Rattle.layer_order.specs.View.{sheets_of};
     ghost use Rattle.sheet_set.specs.View.{listed_seen};
 
@@ -111,10 +111,11 @@ impl Sheets {
         ensures { IfOk result (λ made. listed_seen made
             ≡ record { listed = map kept_seen sheets.items; last = last }) }
     {
-        let layers = layers_of(alloc, &sheets)?;
-        let ranks = ranks_of(alloc, &layers, rules.as_slice())?;
-        let mut positions = Vec::with_capacity(alloc, rules.len())?;
-        put_positions(&mut positions, &sheets);
+        let RulePlaces {
+            layers,
+            ranks,
+            positions,
+        } = places_of(alloc, sheets.as_slice(), rules.as_slice())?;
         Ok(Sheets {
             sheets,
             last,
@@ -170,4 +171,35 @@ impl Sheets {
     {
         &self.layers
     }
+}
+
+/// The layers of a list of sheets, and of each of its rules the rank of its layer and the position of its sheet.
+#[derive(Drop)]
+struct RulePlaces {
+    layers: Layers,
+    ranks: Vec<u32>,
+    positions: Vec<u32>,
+}
+
+/// Where the rules of the enabled ones among sheets are.
+fn places_of(
+    alloc: Global,
+    sheets: &[KeptSheet],
+    rules: &[SheetRule],
+) -> Result<RulePlaces, NoMemory>
+    requires few { length sheets.now ≤ sheet_limit }
+    requires room { length (taking sheets.now) ≤ length rules.now }
+    ensures layers { IfOk result (λ made. made.layers ≡ layers_of_sheets (map kept_seen sheets.now)) }
+    ensures ranks { IfOk result (λ made. made.ranks.items ≡ map (rank_seen made.layers) rules.now) }
+    ensures positions { IfOk result (λ made. made.positions.items ≡ positions_from 0 sheets.now) }
+{
+    let layers = layers_of(alloc, sheets)?;
+    let ranks = ranks_of(alloc, &layers, rules)?;
+    let mut positions = Vec::with_capacity(alloc, rules.len())?;
+    put_positions(&mut positions, sheets);
+    Ok(RulePlaces {
+        layers,
+        ranks,
+        positions,
+    })
 }

@@ -13,7 +13,7 @@ use std::marker::Model;
 const FULL: u128 = 85_070_591_730_234_615_865_843_651_857_942_052_864;
 
 /// Up to 64 brackets that are open. Contracts see their list, the innermost first.
-#[derive(Debug, Drop)]
+#[derive(Drop)]
 pub(crate) struct Nested {
     /// A digit in base 4 for each, from 1 to 3, the innermost last.
     digits: u128,

@@ -1,5 +1,5 @@
 -- Colours in hexadecimal.
-use Rattle.std.proofs.Common.{◌≡◌, ℕ, ◌+◌, ◌<◌, Bool, true, false, List, [], ◌∷◌, Some, None, length, get_or, map, refl, sym, ap, ◌∙◌, arith}
+use Rattle.std.proofs.Common.{◌≡◌, ℕ, ◌+◌, ◌<◌, Bool, true, false, List, [], ◌∷◌, Option, Some, None, if◌then◌else◌, length, get_or, map, refl, sym, ap, ◌∙◌, arith}
 use Rattle.std.specs.Char.{digit_value, is_ascii_hexdigit}
 use Rattle.std.specs.List.{list_all}
 use Rattle.std.specs.Str.{IsAscii, IsUtf8, chars}
@@ -7,7 +7,7 @@ use Rattle.std.proofs.lemmas.Bool.{cond-true, cond-false}
 use Rattle.std.proofs.lemmas.Bool.Decides.{nat_tests}
 use Rattle.std.proofs.lemmas.Str.{chars-IsAscii, encodes-chars}
 use Rattle.std.proofs.lemmas.Str.Ascii.{IsAscii-nil, IsAscii-cons, encodes-IsAscii}
-use Rattle.value_model.specs.Color.{rgba}
+use Rattle.value_model.specs.Color.{Color, rgba}
 use Rattle.value_model.specs.HexColor.{color_of_digits, hex_color, pair}
 
 -- the number of the two digits at an index
@@ -20,6 +20,18 @@ eight_digits (r ∷ s ∷ g ∷ h ∷ b ∷ c ∷ a ∷ d ∷ []) red green blue
     let bs : List ℕ = r ∷ s ∷ g ∷ h ∷ b ∷ c ∷ a ∷ d ∷ [] in
     rw (is_red, is_green, is_blue, is_alpha) (sym (cond-true (list_all is_ascii_hexdigit bs) (color_of_digits (map digit_value bs)) None all))
 eight_digits bs red green blue alpha all e is_red is_green is_blue is_alpha = absurd (omega arith)
+
+either_way : (found : Option Color) (b : Bool) → (if b then found else found) ≡ found
+either_way found true = refl
+either_way found false = refl
+
+-- no colour has another number of digits
+pub other_digits : (bs : List ℕ) → (length bs ≡ 3 → ⊥) → (length bs ≡ 4 → ⊥) → (length bs ≡ 6 → ⊥) → (length bs ≡ 8 → ⊥) → None ≡ hex_color bs
+other_digits (a ∷ b ∷ c ∷ []) three four six eight = absurd (three (omega arith))
+other_digits (a ∷ b ∷ c ∷ d ∷ []) three four six eight = absurd (four (omega arith))
+other_digits (a ∷ b ∷ c ∷ d ∷ e ∷ f ∷ []) three four six eight = absurd (six (omega arith))
+other_digits (a ∷ b ∷ c ∷ d ∷ e ∷ f ∷ g ∷ h ∷ []) three four six eight = absurd (eight (omega arith))
+other_digits bs three four six eight = sym (either_way None (list_all is_ascii_hexdigit bs))
 
 digit_ascii : (b : ℕ) → is_ascii_hexdigit b ≡ true → b < 128
 digit_ascii b h = grind (arith, nat_tests)

@@ -11,7 +11,7 @@ use property_table::Value;
 use stylo_base::{Fixed, eq_ascii_case};
 
 /// What one of a unit is.
-#[derive(Clone, Copy, Debug)]
+#[derive(Clone, Copy)]
 pub(crate) enum Measure {
     /// So many parts of so many of a pixel.
     Pixel { parts: i64, of: i64 },
@@ -22,7 +22,7 @@ pub(crate) enum Measure {
 }
 
 /// A unit and its name, in lower-case ASCII.
-#[derive(Clone, Copy, Debug)]
+#[derive(Clone, Copy)]
 pub(crate) struct LengthUnit {
     pub name: &'static str,
     pub measure: Measure,

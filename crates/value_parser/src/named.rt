@@ -11,7 +11,7 @@ use property_table::Color;
 use stylo_base::eq_ascii_case;
 
 /// A colour and its name, in lower-case ASCII.
-#[derive(Clone, Copy, Debug)]
+#[derive(Clone, Copy)]
 pub(crate) struct Named {
     pub name: &'static str,
     pub color: Color,

@@ -8,32 +8,31 @@ use Rattle.sheet_set.proofs.Positioned.{positions-long}
 use Rattle.sheet_set.proofs.Ranked.{texts_of}
 use Rattle.sheet_set.proofs.sheets.Sheets.of_kept.Goals as goal
 
-pub put_positions-requires : goal.put_positions-requires
-put_positions-requires c =
+pub places_of-requires-clause-room : goal.places_of-requires-clause-room
+places_of-requires-clause-room c =
     let rules = c.args.rules in
     let lists = c.args.selectors in
     let same : length rules.items ≡ length lists.items = omega (arith, c.requires.paired, rules.ok, lists.ok) in
     let most = total-within rules.items lists.items c.args.sheets.items same c.requires.texts in
-    record {
-      few = omega (arith, c.requires.few, ap length c.deref-2.ensures.value);
-      room = omega (arith, most, ap (λ l. length (taking l)) c.deref-2.ensures.value, c.in_ok-positions.ensures.capacity, rules.ok);
-    }
+    omega (arith, most, ap (λ l. length (taking l)) c.as_slice.ensures.value, ap length c.as_slice-2.ensures.value)
 
 pub invariant_of-result : goal.invariant_of-result
 invariant_of-result c =
     let rules = c.args.rules in
     let lists = c.args.selectors in
     let sheets = c.args.sheets in
+    let made = c.in_ok-layers.field-0 in
+    let facts = c.in_ok-layers.ensures in
     let same : length rules.items ≡ length lists.items = omega (arith, c.requires.paired, rules.ok, lists.ok) in
-    let positions = c.put_positions.new.positions in
-    let are : positions.items ≡ positions_from 0 sheets.items = c.put_positions.ensures ∙ ap (positions_from 0) c.deref-2.ensures.value in
-    let long = positions-long rules.items lists.items sheets.items same c.requires.texts positions.items are in
+    let are : made.positions.items ≡ positions_from 0 sheets.items =
+    facts.positions ∙ ap (positions_from 0) c.as_slice.ensures.value in
+    let long = positions-long rules.items lists.items sheets.items same c.requires.texts made.positions.items are in
     record {
       paired = c.requires.paired;
-      ranked = c.in_ok-ranks.ensures ∙ ap (map (rank_seen c.in_ok-layers.layers)) c.as_slice.ensures.value;
-      placed = omega (arith, long, positions.ok, rules.ok);
-      of_texts = texts_of sheets.items rules.items lists.items positions.items c.requires.texts are;
-      layered = c.in_ok-layers.ensures ∙ ap (λ l. layers_of_sheets (map kept_seen l)) c.deref.ensures.value;
+      ranked = facts.ranks ∙ ap (map (rank_seen made.layers)) c.as_slice-2.ensures.value;
+      placed = omega (arith, long, made.positions.ok, rules.ok);
+      of_texts = texts_of sheets.items rules.items lists.items made.positions.items c.requires.texts are;
+      layered = facts.layers ∙ ap (λ l. layers_of_sheets (map kept_seen l)) c.as_slice.ensures.value;
       numbered = c.requires.numbered;
       few = c.requires.few;
       given = c.requires.given;

@@ -26,13 +26,13 @@ step_of-requires-clause-numbered c =
     subst (λ (sheets : List KeptSheet). AreNumbered (record { listed = map kept_seen sheets; last = old.last })) (sym c.deref.ensures.value)
     (∥∥₁_elim old.numbered (numbered-prop (listed_seen old)) (λ numbered. numbered))
 
-pub change_of-requires-clause-selectors : goal.change_of-requires-clause-selectors
-change_of-requires-clause-selectors c =
+pub told_of-requires-clause-selectors : goal.told_of-requires-clause-selectors
+told_of-requires-clause-selectors c =
     let old = c.args.self.now in
     let same : length old.rules.items ≡ length old.selectors.items = omega (arith, old.paired, old.rules.ok, old.selectors.ok) in
     let texts = taken_of old.sheets.items old.rules.items old.selectors.items old.positions.items same (omega (arith, old.placed, old.rules.ok, old.positions.ok)) old.of_texts in
     let all : AreSelectorsOf old.sheets.items old.selectors.items = selectors-all old.sheets.items old.rules.items old.selectors.items same texts in
-    subst (λ lists. AreSelectorsOf c.deref-3.result.now lists) (sym c.deref-4.ensures.value) (subst (λ sheets. AreSelectorsOf sheets old.selectors.items) (sym c.deref-3.ensures.value) all)
+    subst (λ lists. AreSelectorsOf c.deref-2.result.now lists) (sym c.deref-3.ensures.value) (subst (λ sheets. AreSelectorsOf sheets old.selectors.items) (sym c.deref-2.ensures.value) all)
 
 pub make_room-requires-clause-taking : goal.make_room-requires-clause-taking
 make_room-requires-clause-taking c =
@@ -53,7 +53,7 @@ returns-clause-fits c =
     c.deref.ensures.value c.in_ok-step.ensures in
     let later : unwrap_or c.in_ok-layers.layers (layers_of_sheets l.listed) ≡ layers_of_sheets (stepped step l.listed) =
     subst (λ sheets. unwrap_or c.in_ok-layers.layers (layers_of_sheets (map kept_seen sheets)) ≡ layers_of_sheets (stepped step (map kept_seen sheets)))
-    c.deref-2.ensures.value c.in_ok-layers.ensures in
+    c.deref-2.ensures.value c.in_ok-layers.ensures.layers in
     let same = c.make_room.ensures.sheets in
     let then : List KeptSheet → SheetList = λ sheets. planned step (record { listed = map kept_seen sheets; last = old.last }) in
     let numbered : AreNumbered (then old.sheets.items) = numbered-then l edit step fine to.is (∥∥₁_elim old.numbered (numbered-prop l) (λ n. n)) in
@@ -80,9 +80,9 @@ returns-clause-change c =
     c.deref.ensures.value c.in_ok-step.ensures in
     let later : unwrap_or c.in_ok-layers.layers (layers_of_sheets l.listed) ≡ layers_of_sheets (stepped step l.listed) =
     subst (λ sheets. unwrap_or c.in_ok-layers.layers (layers_of_sheets (map kept_seen sheets)) ≡ layers_of_sheets (stepped step (map kept_seen sheets)))
-    c.deref-2.ensures.value c.in_ok-layers.ensures in
-    let change = c.in_ok-change.change in
-    let keys = subst (λ sheets. ∥ map key_seen change.keys.items ≡ step_keys step (map kept_seen sheets) ∥₁) c.deref-3.ensures.value c.in_ok-change.ensures.keys in
+    c.deref-2.ensures.value c.in_ok-layers.ensures.layers in
+    let change = c.in_ok-layers.change in
+    let keys = subst (λ sheets. ∥ map key_seen change.keys.items ≡ step_keys step (map kept_seen sheets) ∥₁) c.deref-2.ensures.value c.in_ok-layers.ensures.keys in
     let turned : change.swapped ≡ option_map_or (λ k. swapped old.layers k) c.in_ok-layers.layers false =
-    c.in_ok-change.ensures.swapped ∙ ap (λ o. option_map_or (λ k. swapped old.layers k) o false) c.as_ref.ensures.value in
+    c.in_ok-layers.ensures.swapped in
     change-told (number_in old.last edit) l.listed step to.of old.layers c.in_ok-layers.layers old.layered later change keys turned
