@@ -1,4 +1,4 @@
-//! Tests of the public calls of stylo_base, io_edges, dom_tree and job_json, with ample memory.
+//! Tests of the public calls of stylo_base, io_edges, dom_tree, json_reader and job_json, with ample memory.
 #![tactic(auto)]
 
 #[cfg(test)]
@@ -11,5 +11,7 @@ mod errors;
 mod growing;
 #[cfg(test)]
 mod jobs;
+#[cfg(test)]
+mod readings;
 #[cfg(test)]
 mod texts;

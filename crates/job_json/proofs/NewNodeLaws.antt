@@ -27,7 +27,7 @@ use Rattle.job_json.specs.Limits.{Passed, within, attrs_past}
 use Rattle.job_json.specs.NewNodes.{limit_of, past_by_itself, kept_unless, new_nodes, new_nodes_in, passed_limit, TellsLimits}
 use Rattle.job_json.specs.Parts.{node_read}
 use Rattle.job_json.specs.Held.{Held, count_held, held_with, held_new, some_new, new_or, new_at_end, IsNewHeld}
-use Rattle.job_json.specs.Kept.{AreRead, judged_seen}
+use Rattle.job_json.specs.Kept.{AreRead, after_bad, judged_seen}
 use Rattle.job_json.proofs.CheckedLaws.{length-items_in, read_one}
 use Rattle.job_json.proofs.HeldLaws.{parent_of_node, first_and_rest}
 use Rattle.job_json.proofs.NodeListLaws.{IsNode, of_read, some_bad}
@@ -153,6 +153,11 @@ new_nodes_end d ds h is kept = ap of_items is ∙ sym (new_end ds kept.0 h kept.
 
 pub new_nodes_bad : (d : Data) (ds : List Data) (path : Characters) → as_array d ≡ Some (items_of ds) → items_in node_in 0 (items_of ds) ≡ Err path → new_nodes_in (Some d) ≡ Err path
 new_nodes_bad d ds path is e = ap of_items is ∙ ap (λ c. c >>= (λ nodes. Ok (new_nodes nodes))) (some_bad ds path e)
+
+pub new_nodes_read : (d : Data) (ds : List Data) (bad : Option Characters) (h : Held) → as_array d ≡ Some (items_of ds) → AreRead node_in bad (λ list. IsNewHeld list h) ds
+    → new_nodes_in (Some d) ≡ after_bad bad (new_at_end h)
+new_nodes_read d ds None h is kept = new_nodes_end d ds h is kept
+new_nodes_read d ds (Some path) h is kept = new_nodes_bad d ds path is kept
 
 pub no_new_nodes : (d : Data) → as_array d ≡ None → new_nodes_in (Some d) ≡ Err []
 no_new_nodes d is = ap of_items is

@@ -14,7 +14,7 @@ use Rattle.job_json.specs.Shape.{items_in, node_in, some_nodes}
 use Rattle.job_json.specs.Limits.{Passed, Within, within, attrs_past, items_or_none, nodes_passed}
 use Rattle.job_json.specs.Parts.{node_read, nodes_read}
 use Rattle.job_json.specs.Held.{Held, count_held, held_next, held_at_end, IsHeld}
-use Rattle.job_json.specs.Kept.{AreRead, judged_seen}
+use Rattle.job_json.specs.Kept.{AreRead, after_bad, judged_seen}
 use Rattle.job_json.proofs.CheckedLaws.{read_one}
 use Rattle.job_json.proofs.HeldLaws.{held_more, held_end}
 
@@ -75,6 +75,11 @@ nodes_bad d ds path is e = ap of_items is ∙ ap (λ c. finished c (items_of ds)
 
 pub nodes_end : (d : Data) (ds : List Data) (h : Held) → as_array d ≡ Some (items_of ds) → AreRead node_in None (λ list. IsHeld ds list h) ds → nodes_read (Some d) ≡ held_at_end h
 nodes_end d ds h is kept = ap of_items is ∙ sym (held_end ds kept.0 h kept.2 kept.1)
+
+pub nodes_all_read : (d : Data) (ds : List Data) (bad : Option Characters) (h : Held) → as_array d ≡ Some (items_of ds) → AreRead node_in bad (λ list. IsHeld ds list h) ds
+    → nodes_read (Some d) ≡ after_bad bad (held_at_end h)
+nodes_all_read d ds None h is kept = nodes_end d ds h is kept
+nodes_all_read d ds (Some path) h is kept = nodes_bad d ds path is kept
 
 pub no_nodes : (d : Data) → as_array d ≡ None → nodes_read (Some d) ≡ Err []
 no_nodes d is = ap of_items is

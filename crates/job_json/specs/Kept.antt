@@ -81,6 +81,11 @@ abbrev pub bad_or : {A : Type 0} → Option Characters → A → Checked A
 bad_or None a = Ok a
 bad_or (Some path) a = Err path
 
+-- a part whose first bad place may be found already
+abbrev pub after_bad : {A : Type 0} → Option Characters → Checked A → Checked A
+after_bad None part = part
+after_bad (Some path) part = Err path
+
 abbrev pub attrs_kept : AttrList → Checked (Within Attributes)
 attrs_kept attrs = bad_or attrs.bad (within attrs.passed (attributes_of attrs.list.items))
 
@@ -197,4 +202,26 @@ job_kept s = shaped (do
   nodes ← at_member (codes "nodes") s.nodes
   sheets ← at_member (codes "sheets") s.sheets
   batches ← at_member (codes "batches") s.batches
+  Ok (whole_job nodes sheets batches))
+
+-- what is left of it where the sheets have the right shape, where the nodes have it, and where the version is right
+abbrev pub job_of_sheets : Within (List Node) → Within (List SheetInput) → Checked (Within (List (List Edit)))
+    → Result Job JobFault
+job_of_sheets nodes sheets checked = shaped (do
+  batches ← at_member (codes "batches") checked
+  Ok (whole_job nodes sheets batches))
+
+abbrev pub job_of_nodes : Within (List Node) → Checked (Within (List SheetInput))
+    → Checked (Within (List (List Edit))) → Result Job JobFault
+job_of_nodes nodes sheets batches = shaped (do
+  sheets ← at_member (codes "sheets") sheets
+  batches ← at_member (codes "batches") batches
+  Ok (whole_job nodes sheets batches))
+
+abbrev pub job_of_parts : Checked (Within (List Node)) → Checked (Within (List SheetInput))
+    → Checked (Within (List (List Edit))) → Result Job JobFault
+job_of_parts nodes sheets batches = shaped (do
+  nodes ← at_member (codes "nodes") nodes
+  sheets ← at_member (codes "sheets") sheets
+  batches ← at_member (codes "batches") batches
   Ok (whole_job nodes sheets batches))

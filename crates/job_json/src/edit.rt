@@ -1,10 +1,11 @@
 //! One edit of a batch.
 
-ghost use Rattle.std.specs.Prelude.{◌≡◌, ◌<◌, length, None, IfOk, OnOk};
+ghost use Rattle.std.specs.Prelude.{◌≡◌, ◌≢◌, ◌<◌, length, codes, Some, None, Err, IfOk, OnOk};
+ghost use Rattle.serde_json.specs.Data.{Data, Members, no_members, put};
 ghost use Rattle.json_reader.specs.Taken.{taken, Says};
 ghost use Rattle.job_json.specs.Checked.{map_ok};
 ghost use Rattle.job_json.specs.Edits.{edit_in};
-ghost use Rattle.job_json.specs.KeptEdits.{lent_seen, insert_kept, remove_kept, move_kept, set_kept, unset_kept, state_kept, edit_kept};
+ghost use Rattle.job_json.specs.KeptEdits.{IsEditOf, lent_seen, insert_kept, remove_kept, move_kept, set_kept, unset_kept, state_kept, edit_kept};
 ghost use Rattle.job_json.specs.KeptEdits.{add_sheet_kept, remove_sheet_kept, replace_sheet_kept, enable_sheet_kept};
 
 use crate::checked::Checked;
@@ -127,9 +128,78 @@ impl<'a> KeepMembers<'a> for EditParts<'a> {
             "node" => self.node = whole(reader, depth)?,
             "name" => self.name = name_in(text(reader, depth)?),
             "value" => self.value = text(reader, depth)?,
+            _ => self.place_member(key, reader, depth)?,
+        }
+        Ok(())
+    }
+}
+
+impl<'a> EditParts<'a> {
+    /// An edit with no members.
+    fn new(alloc: Global) -> EditParts<'a>
+        ensures { IsEditOf result no_members }
+    {
+        EditParts {
+            alloc,
+            op: None,
+            node: None,
+            parent: None,
+            index: None,
+            nodes: Err(Text::new(alloc)),
+            name: None,
+            value: None,
+            state: None,
+            on: None,
+            sheet: None,
+            input: SheetParts::new(),
+        }
+    }
+
+    /// Takes the value of a member that says where an element goes, or of one that is rarer still.
+    fn place_member(
+        &mut self,
+        key: &'a str,
+        reader: &mut Reader<'a>,
+        depth: usize,
+    ) -> Result<(), Stop>
+        requires op { key.now ≢ codes "op" }
+        requires node { key.now ≢ codes "node" }
+        requires name { key.now ≢ codes "name" }
+        requires value { key.now ≢ codes "value" }
+        ensures ok { OnOk result ((d : Data) × (taken depth reader.old ≡ Some (d, reader.new))
+            × ((ms : Members) → IsEditOf self.old ms → IsEditOf self.new (put key.now d ms))) }
+        ensures shorter { OnOk result (length reader.new < length reader.old) }
+        ensures err { result ≡ Err Stop.NotJson → taken depth reader.old ≡ None }
+    {
+        match key {
             "parent" => self.parent = whole(reader, depth)?,
             "index" => self.index = whole(reader, depth)?,
             "nodes" => self.nodes = take_new_nodes(self.alloc, reader, depth)?,
+            _ => self.rare_member(key, reader, depth)?,
+        }
+        Ok(())
+    }
+
+    /// Takes the value of a member of a change of state or of an edit of the sheets.
+    fn rare_member(
+        &mut self,
+        key: &'a str,
+        reader: &mut Reader<'a>,
+        depth: usize,
+    ) -> Result<(), Stop>
+        requires op { key.now ≢ codes "op" }
+        requires node { key.now ≢ codes "node" }
+        requires name { key.now ≢ codes "name" }
+        requires value { key.now ≢ codes "value" }
+        requires parent { key.now ≢ codes "parent" }
+        requires index { key.now ≢ codes "index" }
+        requires nodes { key.now ≢ codes "nodes" }
+        ensures ok { OnOk result ((d : Data) × (taken depth reader.old ≡ Some (d, reader.new))
+            × ((ms : Members) → IsEditOf self.old ms → IsEditOf self.new (put key.now d ms))) }
+        ensures shorter { OnOk result (length reader.new < length reader.old) }
+        ensures err { result ≡ Err Stop.NotJson → taken depth reader.old ≡ None }
+    {
+        match key {
             "state" => self.state = state_named(text(reader, depth)?),
             "on" => self.on = boolean(reader, depth)?,
             "sheet" => self.sheet = whole(reader, depth)?,
@@ -150,20 +220,7 @@ pub(crate) fn take_edit<'a>(
     ensures shorter { OnOk result (length reader.new < length reader.old) }
     ensures err { result ≡ Err Stop.NotJson → taken depth reader.old ≡ None }
 {
-    let mut parts = EditParts {
-        alloc,
-        op: None,
-        node: None,
-        parent: None,
-        index: None,
-        nodes: Err(Text::new(alloc)),
-        name: None,
-        value: None,
-        state: None,
-        on: None,
-        sheet: None,
-        input: SheetParts::new(),
-    };
+    let mut parts = EditParts::new(alloc);
     if !object(reader, depth, &mut parts)? {
         return Ok(Err(Text::new(alloc)));
     }

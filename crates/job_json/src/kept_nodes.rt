@@ -23,6 +23,19 @@ pub(crate) struct KeptNodes {
 }
 
 impl KeptNodes {
+    /// None yet.
+    pub fn new() -> KeptNodes
+        ensures passed { result.passed ≡ None }
+        ensures list { result.list ≡ None }
+        ensures more { result.more ≡ 0 }
+    {
+        KeptNodes {
+            passed: None,
+            list: None,
+            more: 0,
+        }
+    }
+
     /// How many nodes there are.
     pub fn count(&self) -> Result<usize, NoMemory>
         ensures count { IfOk result (λ count. count ≡ count_held (held_of self.now)) }

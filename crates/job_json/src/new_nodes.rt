@@ -1,11 +1,11 @@
 //! The nodes of an insertion.
 
-ghost use Rattle.std.specs.Prelude.{◌≡◌, ◌<◌, length, Some, None, IfOk, OnOk};
+ghost use Rattle.std.specs.Prelude.{◌≡◌, ◌<◌, [], length, Some, None, IfOk, OnOk};
 ghost use Rattle.json_reader.specs.Taken.{taken, Says};
 ghost use Rattle.scene_model.specs.Nodes.{IsParentAt};
 ghost use Rattle.job_json.specs.NewNodes.{limit_told, new_nodes_in};
 ghost use Rattle.job_json.specs.Held.{count_held, held_new, new_at_end};
-ghost use Rattle.job_json.specs.Kept.{judged_seen, held_of};
+ghost use Rattle.job_json.specs.Kept.{AreNewNodesOf, after_bad, judged_seen, held_of};
 
 use crate::checked::{Checked, one_more};
 use crate::kept_nodes::{KeptNodes, append};
@@ -15,6 +15,7 @@ use dom_edits::{NewNodes, NodeLimit};
 use json::Reader;
 use json_reader::{KeepItems, Stop, array, pass};
 use std::alloc::Global;
+use std::mem::replace;
 use stylo_base::{Kind, NoMemory, Text};
 
 /// What is kept of the items of a list of nodes that are to be put in.
@@ -115,22 +116,48 @@ pub(crate) fn take_new_nodes(
     ensures shorter { OnOk result (length reader.new < length reader.old) }
     ensures err { result ≡ Err Stop.NotJson → taken depth reader.old ≡ None }
 {
-    let mut nodes = NewNodeItems {
-        alloc,
-        bad: None,
-        kept: KeptNodes {
-            passed: None,
-            list: None,
-            more: 0,
-        },
-        node: NodeParts::new(alloc),
-    };
-    if !array(reader, depth, &mut nodes)? {
-        return Ok(Err(Text::new(alloc)));
+    let mut nodes = NewNodeItems::new(alloc);
+    read_new_nodes(&mut nodes, reader, depth)
+}
+
+/// Takes the list into `kept`, which is empty, and makes the nodes of it.
+fn read_new_nodes<'a>(
+    kept: &mut NewNodeItems<'a>,
+    reader: &mut Reader<'a>,
+    depth: usize,
+) -> Result<Checked<NewNodes>, Stop>
+    requires { AreNewNodesOf kept.old [] }
+    ensures ok { IfOk result (λ nodes. Says (λ d. new_nodes_in (Some d)) nodes
+        (taken depth reader.old) reader.new) }
+    ensures shorter { OnOk result (length reader.new < length reader.old) }
+    ensures err { result ≡ Err Stop.NotJson → taken depth reader.old ≡ None }
+{
+    if !array(reader, depth, kept)? {
+        return Ok(Err(Text::new(kept.alloc)));
     }
-    let NewNodeItems { bad, kept, .. } = nodes;
-    match bad {
-        None => Ok(kept.finish_new(alloc)?),
-        Some(path) => Ok(Err(path)),
+    Ok(kept.finish()?)
+}
+
+impl<'a> NewNodeItems<'a> {
+    /// No items.
+    fn new(alloc: Global) -> NewNodeItems<'a>
+        ensures { AreNewNodesOf result [] }
+    {
+        NewNodeItems {
+            alloc,
+            bad: None,
+            kept: KeptNodes::new(),
+            node: NodeParts::new(alloc),
+        }
+    }
+
+    /// All nodes, or the first bad place. Both are taken out.
+    fn finish(&mut self) -> Result<Checked<NewNodes>, NoMemory>
+        ensures { IfOk result (λ nodes. nodes ≡ after_bad self.old.bad (new_at_end (held_of self.old.kept))) }
+    {
+        match replace(&mut self.bad, None) {
+            None => replace(&mut self.kept, KeptNodes::new()).finish_new(self.alloc),
+            Some(path) => Ok(Err(path)),
+        }
     }
 }

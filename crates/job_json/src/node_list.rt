@@ -1,12 +1,12 @@
 //! The list of nodes.
 
-ghost use Rattle.std.specs.Prelude.{◌≡◌, ◌<◌, length, Some, None, IfOk, OnOk};
+ghost use Rattle.std.specs.Prelude.{◌≡◌, ◌<◌, [], length, Some, None, IfOk, OnOk};
 ghost use Rattle.json_reader.specs.Taken.{taken, Says};
 ghost use Rattle.scene_model.specs.Nodes.{IsParentAt};
 ghost use Rattle.dom_tree.specs.Depths.{depths_of};
 ghost use Rattle.job_json.specs.Parts.{nodes_read};
 ghost use Rattle.job_json.specs.Held.{count_held, held_next, held_at_end, depth_below, node_within};
-ghost use Rattle.job_json.specs.Kept.{judged_seen, nodes_or_none, held_of};
+ghost use Rattle.job_json.specs.Kept.{AreNodesOf, after_bad, judged_seen, nodes_or_none, held_of};
 
 use crate::checked::{Checked, one_more};
 use crate::kept_nodes::{KeptNodes, append};
@@ -17,6 +17,7 @@ use dom_tree::{NodeInput, NodeList};
 use json::Reader;
 use json_reader::{KeepItems, Stop, array, pass};
 use std::alloc::Global;
+use std::mem::replace;
 use stylo_base::limits::{DEPTH_LIMIT, ELEMENT_LIMIT};
 use stylo_base::{Kind, NoMemory, Text};
 
@@ -133,22 +134,48 @@ pub(crate) fn take_nodes(
     ensures shorter { OnOk result (length reader.new < length reader.old) }
     ensures err { result ≡ Err Stop.NotJson → taken depth reader.old ≡ None }
 {
-    let mut nodes = Nodes {
-        alloc,
-        bad: None,
-        kept: KeptNodes {
-            passed: None,
-            list: None,
-            more: 0,
-        },
-        node: NodeParts::new(alloc),
-    };
-    if !array(reader, depth, &mut nodes)? {
-        return Ok(Err(Text::new(alloc)));
+    let mut nodes = Nodes::new(alloc);
+    read_nodes(&mut nodes, reader, depth)
+}
+
+/// Takes the list into `kept`, which is empty, and makes the nodes of it.
+fn read_nodes<'a>(
+    kept: &mut Nodes<'a>,
+    reader: &mut Reader<'a>,
+    depth: usize,
+) -> Result<Checked<Within<NodeList>>, Stop>
+    requires { AreNodesOf kept.old [] }
+    ensures ok { IfOk result (λ nodes. Says (λ d. nodes_read (Some d)) nodes
+        (taken depth reader.old) reader.new) }
+    ensures shorter { OnOk result (length reader.new < length reader.old) }
+    ensures err { result ≡ Err Stop.NotJson → taken depth reader.old ≡ None }
+{
+    if !array(reader, depth, kept)? {
+        return Ok(Err(Text::new(kept.alloc)));
     }
-    let Nodes { bad, kept, .. } = nodes;
-    match bad {
-        None => Ok(kept.finish(alloc)?),
-        Some(path) => Ok(Err(path)),
+    Ok(kept.finish()?)
+}
+
+impl<'a> Nodes<'a> {
+    /// No items.
+    fn new(alloc: Global) -> Nodes<'a>
+        ensures { AreNodesOf result [] }
+    {
+        Nodes {
+            alloc,
+            bad: None,
+            kept: KeptNodes::new(),
+            node: NodeParts::new(alloc),
+        }
+    }
+
+    /// The whole list, or the first bad place. Both are taken out.
+    fn finish(&mut self) -> Result<Checked<Within<NodeList>>, NoMemory>
+        ensures { IfOk result (λ nodes. nodes ≡ after_bad self.old.bad (held_at_end (held_of self.old.kept))) }
+    {
+        match replace(&mut self.bad, None) {
+            None => replace(&mut self.kept, KeptNodes::new()).finish(self.alloc),
+            Some(path) => Ok(Err(path)),
+        }
     }
 }

@@ -11,8 +11,6 @@ mod objects;
 mod passing;
 mod scalar;
 mod stop;
-#[cfg(test)]
-mod tests;
 
 pub use arrays::{KeepItems, array};
 pub use objects::{KeepMembers, object};

@@ -1,5 +1,4 @@
 use Rattle.std.proofs.Common.{◌≡◌, Err, Ok, Some, sym, ap, ◌∙◌, arith}
-use Rattle.serde_json.specs.Data.{Data}
 use Rattle.serde_json.specs.Read.{read as read_json}
 use Rattle.json_reader.specs.Taken.{taken}
 use Rattle.json_reader.proofs.WholeText.{read_whole, read_more, read_refused}

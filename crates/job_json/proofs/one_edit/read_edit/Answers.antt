@@ -1,7 +1,7 @@
-use Rattle.std.proofs.Common.{sym, ap, ◌∙◌, inl, inr, refl}
+use Rattle.std.proofs.Common.{sym, ap, ◌∙◌, inl}
 use Rattle.serde_json.specs.Read.{read as read_json}
-use Rattle.job_json.specs.EditRead.{edit_answer, edit_read_from}
-use Rattle.job_json.proofs.Readings.{no_reading, no_value, reading_is}
+use Rattle.job_json.specs.EditRead.{edit_read_from}
+use Rattle.job_json.proofs.Readings.{no_reading, reading_is}
 use Rattle.job_json.proofs.one_edit.read_edit.Goals as goal
 
 pub returns-in_default : goal.returns-in_default

@@ -1,12 +1,11 @@
-use Rattle.std.proofs.Common.{refl, sym, ap, ◌∙◌, option_map, option_and_then}
+use Rattle.std.proofs.Common.{refl, sym, ap, ◌∙◌, option_and_then}
 use Rattle.std.specs.Prelude.{codes}
 use Rattle.serde_json.specs.Find.{as_str, as_bool}
-use Rattle.job_json.specs.Words.{whole, name_of, name_said, state_named}
+use Rattle.job_json.specs.Words.{whole, name_of, name_said}
 use Rattle.job_json.specs.NewNodes.{new_nodes_in}
-use Rattle.job_json.specs.Edits.{state_answered, state_from}
-use Rattle.job_json.proofs.Puts.{here, there, beside}
+use Rattle.job_json.specs.Edits.{state_from}
+use Rattle.job_json.proofs.Puts.{here, beside}
 use Rattle.job_json.proofs.SheetLaws.{input_beside}
-use Rattle.job_json.proofs.EditLaws.{answered_seen}
 use Rattle.job_json.proofs.edit.EditPartsKeepMembers.member.Goals as goal
 
 pub returns-in_ok-self-in-op-clause-ok : goal.returns-in_ok-self-in-op-clause-ok
@@ -51,69 +50,6 @@ returns-in_ok-self-in-node-clause-ok c =
       },
     )
 
-pub returns-in_ok-self-in-parent-clause-ok : goal.returns-in_ok-self-in-parent-clause-ok
-returns-in_ok-self-in-parent-clause-ok c =
-    let key = c.args.key.now in
-    let done = c.in_ok-self-in-parent.ensures.ok in (
-      done.0,
-      done.1,
-      λ ms kept. record {
-        op = kept.op ∙ ap (option_and_then as_str) (beside key done.0 ms (codes "parent") (codes "op") c.in-parent.is refl);
-        node = kept.node ∙ ap (option_and_then whole) (beside key done.0 ms (codes "parent") (codes "node") c.in-parent.is refl);
-        parent = sym done.2 ∙ ap (option_and_then whole) (here key done.0 ms (codes "parent") c.in-parent.is);
-        index = kept.index ∙ ap (option_and_then whole) (beside key done.0 ms (codes "parent") (codes "index") c.in-parent.is refl);
-        nodes = kept.nodes ∙ ap new_nodes_in (beside key done.0 ms (codes "parent") (codes "nodes") c.in-parent.is refl);
-        name = kept.name ∙ ap (option_and_then name_of) (beside key done.0 ms (codes "parent") (codes "name") c.in-parent.is refl);
-        value = kept.value ∙ ap (option_and_then as_str) (beside key done.0 ms (codes "parent") (codes "value") c.in-parent.is refl);
-        state = kept.state ∙ ap state_from (beside key done.0 ms (codes "parent") (codes "state") c.in-parent.is refl);
-        on = kept.on ∙ ap (option_and_then as_bool) (beside key done.0 ms (codes "parent") (codes "on") c.in-parent.is refl);
-        sheet = kept.sheet ∙ ap (option_and_then whole) (beside key done.0 ms (codes "parent") (codes "sheet") c.in-parent.is refl);
-        input = input_beside _ key done.0 ms (codes "parent") c.in-parent.is refl refl refl kept.input;
-      },
-    )
-
-pub returns-in_ok-self-in-index-clause-ok : goal.returns-in_ok-self-in-index-clause-ok
-returns-in_ok-self-in-index-clause-ok c =
-    let key = c.args.key.now in
-    let done = c.in_ok-self-in-index.ensures.ok in (
-      done.0,
-      done.1,
-      λ ms kept. record {
-        op = kept.op ∙ ap (option_and_then as_str) (beside key done.0 ms (codes "index") (codes "op") c.in-index.is refl);
-        node = kept.node ∙ ap (option_and_then whole) (beside key done.0 ms (codes "index") (codes "node") c.in-index.is refl);
-        parent = kept.parent ∙ ap (option_and_then whole) (beside key done.0 ms (codes "index") (codes "parent") c.in-index.is refl);
-        index = sym done.2 ∙ ap (option_and_then whole) (here key done.0 ms (codes "index") c.in-index.is);
-        nodes = kept.nodes ∙ ap new_nodes_in (beside key done.0 ms (codes "index") (codes "nodes") c.in-index.is refl);
-        name = kept.name ∙ ap (option_and_then name_of) (beside key done.0 ms (codes "index") (codes "name") c.in-index.is refl);
-        value = kept.value ∙ ap (option_and_then as_str) (beside key done.0 ms (codes "index") (codes "value") c.in-index.is refl);
-        state = kept.state ∙ ap state_from (beside key done.0 ms (codes "index") (codes "state") c.in-index.is refl);
-        on = kept.on ∙ ap (option_and_then as_bool) (beside key done.0 ms (codes "index") (codes "on") c.in-index.is refl);
-        sheet = kept.sheet ∙ ap (option_and_then whole) (beside key done.0 ms (codes "index") (codes "sheet") c.in-index.is refl);
-        input = input_beside _ key done.0 ms (codes "index") c.in-index.is refl refl refl kept.input;
-      },
-    )
-
-pub returns-in_ok-self-in-nodes-clause-ok : goal.returns-in_ok-self-in-nodes-clause-ok
-returns-in_ok-self-in-nodes-clause-ok c =
-    let key = c.args.key.now in
-    let done = c.in_ok-self-in-nodes.ensures.ok in (
-      done.0,
-      done.1,
-      λ ms kept. record {
-        op = kept.op ∙ ap (option_and_then as_str) (beside key done.0 ms (codes "nodes") (codes "op") c.in-nodes.is refl);
-        node = kept.node ∙ ap (option_and_then whole) (beside key done.0 ms (codes "nodes") (codes "node") c.in-nodes.is refl);
-        parent = kept.parent ∙ ap (option_and_then whole) (beside key done.0 ms (codes "nodes") (codes "parent") c.in-nodes.is refl);
-        index = kept.index ∙ ap (option_and_then whole) (beside key done.0 ms (codes "nodes") (codes "index") c.in-nodes.is refl);
-        nodes = sym done.2 ∙ ap new_nodes_in (here key done.0 ms (codes "nodes") c.in-nodes.is);
-        name = kept.name ∙ ap (option_and_then name_of) (beside key done.0 ms (codes "nodes") (codes "name") c.in-nodes.is refl);
-        value = kept.value ∙ ap (option_and_then as_str) (beside key done.0 ms (codes "nodes") (codes "value") c.in-nodes.is refl);
-        state = kept.state ∙ ap state_from (beside key done.0 ms (codes "nodes") (codes "state") c.in-nodes.is refl);
-        on = kept.on ∙ ap (option_and_then as_bool) (beside key done.0 ms (codes "nodes") (codes "on") c.in-nodes.is refl);
-        sheet = kept.sheet ∙ ap (option_and_then whole) (beside key done.0 ms (codes "nodes") (codes "sheet") c.in-nodes.is refl);
-        input = input_beside _ key done.0 ms (codes "nodes") c.in-nodes.is refl refl refl kept.input;
-      },
-    )
-
 pub returns-in_ok-text-in-name-clause-ok : goal.returns-in_ok-text-in-name-clause-ok
 returns-in_ok-text-in-name-clause-ok c =
     let key = c.args.key.now in
@@ -153,91 +89,5 @@ returns-in_ok-self-in-value-clause-ok c =
         on = kept.on ∙ ap (option_and_then as_bool) (beside key done.0 ms (codes "value") (codes "on") c.in-value.is refl);
         sheet = kept.sheet ∙ ap (option_and_then whole) (beside key done.0 ms (codes "value") (codes "sheet") c.in-value.is refl);
         input = input_beside _ key done.0 ms (codes "value") c.in-value.is refl refl refl kept.input;
-      },
-    )
-
-pub returns-in_ok-text-in-state-clause-ok : goal.returns-in_ok-text-in-state-clause-ok
-returns-in_ok-text-in-state-clause-ok c =
-    let key = c.args.key.now in
-    let done = c.in_ok-text-in-state.ensures.ok in (
-      done.0,
-      done.1,
-      λ ms kept. record {
-        op = kept.op ∙ ap (option_and_then as_str) (beside key done.0 ms (codes "state") (codes "op") c.in-state.is refl);
-        node = kept.node ∙ ap (option_and_then whole) (beside key done.0 ms (codes "state") (codes "node") c.in-state.is refl);
-        parent = kept.parent ∙ ap (option_and_then whole) (beside key done.0 ms (codes "state") (codes "parent") c.in-state.is refl);
-        index = kept.index ∙ ap (option_and_then whole) (beside key done.0 ms (codes "state") (codes "index") c.in-state.is refl);
-        nodes = kept.nodes ∙ ap new_nodes_in (beside key done.0 ms (codes "state") (codes "nodes") c.in-state.is refl);
-        name = kept.name ∙ ap (option_and_then name_of) (beside key done.0 ms (codes "state") (codes "name") c.in-state.is refl);
-        value = kept.value ∙ ap (option_and_then as_str) (beside key done.0 ms (codes "state") (codes "value") c.in-state.is refl);
-        state =
-            sym (answered_seen _) ∙ ap (option_map state_answered) c.state_named-self.ensures
-            ∙ ap (λ o. option_map state_answered (option_and_then state_named o)) (sym done.2) ∙ ap state_from (here key done.0 ms (codes "state") c.in-state.is);
-        on = kept.on ∙ ap (option_and_then as_bool) (beside key done.0 ms (codes "state") (codes "on") c.in-state.is refl);
-        sheet = kept.sheet ∙ ap (option_and_then whole) (beside key done.0 ms (codes "state") (codes "sheet") c.in-state.is refl);
-        input = input_beside _ key done.0 ms (codes "state") c.in-state.is refl refl refl kept.input;
-      },
-    )
-
-pub returns-in_ok-self-in-on-clause-ok : goal.returns-in_ok-self-in-on-clause-ok
-returns-in_ok-self-in-on-clause-ok c =
-    let key = c.args.key.now in
-    let done = c.in_ok-self-in-on.ensures.ok in (
-      done.0,
-      done.1,
-      λ ms kept. record {
-        op = kept.op ∙ ap (option_and_then as_str) (beside key done.0 ms (codes "on") (codes "op") c.in-on.is refl);
-        node = kept.node ∙ ap (option_and_then whole) (beside key done.0 ms (codes "on") (codes "node") c.in-on.is refl);
-        parent = kept.parent ∙ ap (option_and_then whole) (beside key done.0 ms (codes "on") (codes "parent") c.in-on.is refl);
-        index = kept.index ∙ ap (option_and_then whole) (beside key done.0 ms (codes "on") (codes "index") c.in-on.is refl);
-        nodes = kept.nodes ∙ ap new_nodes_in (beside key done.0 ms (codes "on") (codes "nodes") c.in-on.is refl);
-        name = kept.name ∙ ap (option_and_then name_of) (beside key done.0 ms (codes "on") (codes "name") c.in-on.is refl);
-        value = kept.value ∙ ap (option_and_then as_str) (beside key done.0 ms (codes "on") (codes "value") c.in-on.is refl);
-        state = kept.state ∙ ap state_from (beside key done.0 ms (codes "on") (codes "state") c.in-on.is refl);
-        on = sym done.2 ∙ ap (option_and_then as_bool) (here key done.0 ms (codes "on") c.in-on.is);
-        sheet = kept.sheet ∙ ap (option_and_then whole) (beside key done.0 ms (codes "on") (codes "sheet") c.in-on.is refl);
-        input = input_beside _ key done.0 ms (codes "on") c.in-on.is refl refl refl kept.input;
-      },
-    )
-
-pub returns-in_ok-self-in-sheet-clause-ok : goal.returns-in_ok-self-in-sheet-clause-ok
-returns-in_ok-self-in-sheet-clause-ok c =
-    let key = c.args.key.now in
-    let done = c.in_ok-self-in-sheet.ensures.ok in (
-      done.0,
-      done.1,
-      λ ms kept. record {
-        op = kept.op ∙ ap (option_and_then as_str) (beside key done.0 ms (codes "sheet") (codes "op") c.in-sheet.is refl);
-        node = kept.node ∙ ap (option_and_then whole) (beside key done.0 ms (codes "sheet") (codes "node") c.in-sheet.is refl);
-        parent = kept.parent ∙ ap (option_and_then whole) (beside key done.0 ms (codes "sheet") (codes "parent") c.in-sheet.is refl);
-        index = kept.index ∙ ap (option_and_then whole) (beside key done.0 ms (codes "sheet") (codes "index") c.in-sheet.is refl);
-        nodes = kept.nodes ∙ ap new_nodes_in (beside key done.0 ms (codes "sheet") (codes "nodes") c.in-sheet.is refl);
-        name = kept.name ∙ ap (option_and_then name_of) (beside key done.0 ms (codes "sheet") (codes "name") c.in-sheet.is refl);
-        value = kept.value ∙ ap (option_and_then as_str) (beside key done.0 ms (codes "sheet") (codes "value") c.in-sheet.is refl);
-        state = kept.state ∙ ap state_from (beside key done.0 ms (codes "sheet") (codes "state") c.in-sheet.is refl);
-        on = kept.on ∙ ap (option_and_then as_bool) (beside key done.0 ms (codes "sheet") (codes "on") c.in-sheet.is refl);
-        sheet = sym done.2 ∙ ap (option_and_then whole) (here key done.0 ms (codes "sheet") c.in-sheet.is);
-        input = input_beside _ key done.0 ms (codes "sheet") c.in-sheet.is refl refl refl kept.input;
-      },
-    )
-
-pub returns-in_ok-member-in_default-clause-ok : goal.returns-in_ok-member-in_default-clause-ok
-returns-in_ok-member-in_default-clause-ok c =
-    let key = c.args.key.now in
-    let done = c.in_ok-member-in_default.ensures.ok in (
-      done.0,
-      done.1,
-      λ ms kept. record {
-        op = kept.op ∙ ap (option_and_then as_str) (there key done.0 ms (codes "op") c.in_default.not-op);
-        node = kept.node ∙ ap (option_and_then whole) (there key done.0 ms (codes "node") c.in_default.not-node);
-        parent = kept.parent ∙ ap (option_and_then whole) (there key done.0 ms (codes "parent") c.in_default.not-parent);
-        index = kept.index ∙ ap (option_and_then whole) (there key done.0 ms (codes "index") c.in_default.not-index);
-        nodes = kept.nodes ∙ ap new_nodes_in (there key done.0 ms (codes "nodes") c.in_default.not-nodes);
-        name = kept.name ∙ ap (option_and_then name_of) (there key done.0 ms (codes "name") c.in_default.not-name);
-        value = kept.value ∙ ap (option_and_then as_str) (there key done.0 ms (codes "value") c.in_default.not-value);
-        state = kept.state ∙ ap state_from (there key done.0 ms (codes "state") c.in_default.not-state);
-        on = kept.on ∙ ap (option_and_then as_bool) (there key done.0 ms (codes "on") c.in_default.not-on);
-        sheet = kept.sheet ∙ ap (option_and_then whole) (there key done.0 ms (codes "sheet") c.in_default.not-sheet);
-        input = done.2 ms kept.input;
       },
     )

@@ -1,7 +1,9 @@
+//! Values that are taken from JSON one at a time.
+
 ghost use Rattle.std.specs.Prelude.{⊤};
 
-use crate::{KeepItems, KeepMembers, Stop, array, boolean, object, pass, text, whole};
 use json::{Reader, Scratch};
+use json_reader::{KeepItems, KeepMembers, Stop, array, boolean, object, pass, text, whole};
 use std::test::Fail;
 
 /// How many items there are, or members.
