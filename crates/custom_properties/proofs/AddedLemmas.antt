@@ -10,7 +10,7 @@ use Rattle.custom_model.specs.Value.{CustomValue}
 use Rattle.custom_model.specs.Parts.{Parts, done, plain, reference, with_fallback, parts, references, references_in}
 use Rattle.custom_model.specs.Cycles.{references_of}
 use Rattle.custom_model.specs.Steps.{Step, token, alone, begins, ends, steps, steps_in}
-use Rattle.custom_properties.specs.declared.mark.Edge.{Edge}
+use Rattle.cycle_search.specs.declared.mark.Edge.{Edge}
 use Rattle.custom_properties.specs.Entry.{Entry}
 use Rattle.css_tokens.specs.Place.{place_in}
 use Rattle.custom_properties.specs.Graph.{edge_to, edges_to, edges_of}

@@ -6,7 +6,7 @@ use Rattle.base_model.specs.Text.{Characters}
 use Rattle.custom_model.specs.Cycles.{DeclaredValues, references_of, edges}
 use Rattle.custom_model.proofs.Among.{Among, among_left, among_right}
 use Rattle.custom_model.proofs.CycleLemmas.{is_declared}
-use Rattle.custom_properties.specs.declared.mark.Edge.{Edge}
+use Rattle.cycle_search.specs.declared.mark.Edge.{Edge}
 use Rattle.custom_properties.specs.Entry.{Entry}
 use Rattle.css_tokens.specs.Place.{place_in}
 use Rattle.custom_properties.specs.Graph.{edge_to, edges_to, edges_of, graph}

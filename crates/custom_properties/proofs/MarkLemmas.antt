@@ -9,9 +9,9 @@ use Rattle.custom_model.specs.Cycles.{DeclaredValues, edges, walks, is_cyclic}
 use Rattle.custom_model.proofs.Among.{Among}
 use Rattle.custom_model.proofs.WalkLemmas.{Walk, walk_of, walks_edge, walks_step, walks_join}
 use Rattle.custom_model.proofs.CycleLemmas.{cyclic_walk, is_cyclic_there_and_back}
-use Rattle.custom_properties.specs.declared.mark.Edge.{Edge}
-use Rattle.custom_properties.specs.declared.mark.Mark.{Mark}
-use Rattle.custom_properties.specs.Confirmed.{AreConfirmed, falls_from, falls, nears, goes_on, comes_by, arrives, stands, holds}
+use Rattle.cycle_search.specs.declared.mark.Edge.{Edge}
+use Rattle.cycle_search.specs.declared.mark.Mark.{Mark}
+use Rattle.cycle_search.specs.Confirmed.{AreConfirmed, falls_from, falls, nears, goes_on, comes_by, arrives, stands, holds}
 use Rattle.css_tokens.specs.Place.{place_in}
 use Rattle.custom_properties.specs.Graph.{graph}
 use Rattle.css_tokens.proofs.PlaceLemmas.{place_of_name}

@@ -17,8 +17,8 @@ use Rattle.custom_model.proofs.CycleLemmas.{cyclic_walk}
 use Rattle.custom_model.proofs.ExpandLemmas.{Agree, expansion_same}
 use Rattle.custom_model.proofs.ComputedLemmas.{computed-undeclared, computed-invalid, computed-cyclic, computed-declared}
 use Rattle.custom_properties.specs.declared.declared_map.DeclaredEntry.{DeclaredEntry}
-use Rattle.custom_properties.specs.declared.mark.Mark.{Mark}
-use Rattle.custom_properties.specs.Confirmed.{AreConfirmed, is_in_group}
+use Rattle.cycle_search.specs.declared.mark.Mark.{Mark}
+use Rattle.cycle_search.specs.Confirmed.{AreConfirmed, is_in_group}
 use Rattle.custom_properties.specs.Entries.{declared_entry}
 use Rattle.custom_properties.specs.Graph.{graph}
 use Rattle.custom_properties.specs.KnownView.{value_at, known_in}

@@ -3,7 +3,7 @@ use Rattle.std.specs.Prelude.{◌≡◌, ℕ, List, [], ◌∷◌, ◌++◌, len
 use Rattle.base_model.specs.Text.{Characters}
 use Rattle.custom_model.specs.Value.{CustomValue}
 use Rattle.custom_model.specs.Steps.{Step, token, alone, begins, ends, steps_in}
-use Rattle.custom_properties.specs.declared.mark.Edge.{Edge}
+use Rattle.cycle_search.specs.declared.mark.Edge.{Edge}
 use Rattle.custom_properties.specs.Entry.{Entry}
 use Rattle.custom_properties.specs.Graph.{edges_to}
 

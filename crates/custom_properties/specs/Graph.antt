@@ -5,7 +5,7 @@ use Rattle.base_model.specs.Text.{Characters}
 use Rattle.custom_model.specs.Cycles.{DeclaredValues, references_of}
 use Rattle.custom_properties.specs.Entry.{Entry}
 use Rattle.css_tokens.specs.Place.{place_in}
-use Rattle.custom_properties.specs.declared.mark.Edge.{Edge}
+use Rattle.cycle_search.specs.declared.mark.Edge.{Edge}
 
 abbrev pub edge_to : ℕ → Option ℕ → List Edge
 edge_to from None = []

@@ -1,6 +1,5 @@
 pub mod Entry
 pub mod Entries
-pub mod Confirmed
 pub mod Graph
 pub mod Added
 pub mod KnownView

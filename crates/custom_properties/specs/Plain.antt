@@ -4,7 +4,7 @@ use Rattle.std.specs.FinMap as finmap
 use Rattle.std.specs.List.{list_any}
 use Rattle.base_model.specs.Text.{Characters}
 use Rattle.custom_model.specs.Cycles.{DeclaredValues}
-use Rattle.custom_properties.specs.declared.mark.Edge.{Edge}
+use Rattle.cycle_search.specs.declared.mark.Edge.{Edge}
 
 -- the declared name at a place
 abbrev pub name_in : DeclaredValues → ℕ → Characters

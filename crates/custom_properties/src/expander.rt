@@ -14,7 +14,7 @@ use std::collections::VecDeque;
 use stylo_base::{NoMemory, Text};
 
 /// A fallback that is open.
-#[derive(Clone, Copy, Debug)]
+#[derive(Clone, Copy)]
 pub(crate) enum Fallback {
     /// Passed over.
     Passed,
@@ -24,7 +24,7 @@ pub(crate) enum Fallback {
 
 /// Expands a value in one pass over its steps. It holds the fallbacks that are open in a stack of
 /// its own, so it takes values of any depth.
-#[derive(Debug, Drop)]
+#[derive(Drop)]
 pub(crate) struct Expander {
     output: ExpansionOutput,
     /// The innermost first.

@@ -8,9 +8,9 @@ ghost use Rattle.custom_properties.specs.Entries.{declared_entry};
 ghost use Rattle.custom_properties.specs.Added.{AreAdded};
 ghost use Rattle.custom_properties.specs.Graph.{edge_to, edges_to, graph};
 
-use crate::mark::Edge;
 use crate::{DeclaredEntry, DeclaredMap};
 use css_tokens::{CustomValue, PartReader, PartStep};
+use cycle_search::Edge;
 use std::alloc::Global;
 use stylo_base::{NoMemory, Text};
 
@@ -66,10 +66,10 @@ fn add_steps(
         match reader.next()? {
             PartStep::Invalid => return Ok(false),
             PartStep::Finished => return Ok(true),
-            PartStep::Alone(name) => add_edge(edges, declared, from, name)?,
-            PartStep::Begins(name) => add_edge(edges, declared, from, name)?,
-            PartStep::Token(_) => {}
-            PartStep::Ends => {}
+            PartStep::Alone(name) | PartStep::Begins(name) => {
+                add_edge(edges, declared, from, name)?;
+            }
+            PartStep::Token(_) | PartStep::Ends => {}
         }
     }
 }

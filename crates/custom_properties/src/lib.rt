@@ -2,15 +2,12 @@
 //! (css-variables-1).
 #![tactic(auto)]
 
-mod components;
 mod computed;
-mod confirmed;
 mod declared_map;
 mod expander;
 mod expansion;
 mod graph;
 mod known;
-mod mark;
 mod merged;
 mod ordered;
 mod output;

@@ -3,7 +3,7 @@
 ghost use Rattle.std.specs.Prelude.{◌≡◌, ◌<◌, [], IfOk, length, map, replicate, slice_get, slice_index_or, slice_set, None};
 ghost use Rattle.std.specs.FinMap as finmap;
 ghost use Rattle.custom_model.specs.Computed.{computed as computed_value};
-ghost use Rattle.custom_properties.specs.Confirmed.{AreConfirmed, is_in_group};
+ghost use Rattle.cycle_search.specs.Confirmed.{AreConfirmed, is_in_group};
 ghost use Rattle.custom_properties.specs.Entries.{declared_entry};
 ghost use Rattle.custom_properties.specs.KnownView.{known_in};
 ghost use Rattle.custom_properties.specs.Off.{off_cycles_at};
@@ -12,9 +12,9 @@ ghost use Rattle.custom_properties.specs.Graph.{graph};
 
 use crate::computed::computed;
 use crate::known::Known;
-use crate::mark::{GraphMarks, Mark};
 use crate::{DeclaredEntry, DeclaredMap};
 use css_tokens::{CustomMap, CustomValue};
+use cycle_search::{GraphMarks, Mark};
 use std::alloc::Global;
 use stylo_base::NoMemory;
 

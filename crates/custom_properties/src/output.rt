@@ -10,7 +10,7 @@ use std::alloc::Global;
 use stylo_base::NoMemory;
 
 /// The tokens that are put so far, in normal form and without spans.
-#[derive(Debug, Drop)]
+#[derive(Drop)]
 pub(crate) struct ExpansionOutput {
     tokens: Vec<Token>,
     /// Whether whitespace is to stand before the next token.

@@ -14,10 +14,10 @@ ghost use Rattle.custom_properties.specs.Plain.{AreNext, flag_at, name_in};
 
 use crate::computed::computed;
 use crate::known::Known;
-use crate::mark::Edge;
 use crate::ordered::no_values;
 use crate::{DeclaredEntry, DeclaredMap};
 use css_tokens::{CustomMap, CustomValue};
+use cycle_search::Edge;
 use std::alloc::Global;
 use stylo_base::NoMemory;
 

@@ -3,15 +3,15 @@
 ghost use Rattle.std.specs.Prelude.{◌≡◌, ◌↔◌, IfOk, IsTrue, None, map, option_copied, unwrap_or};
 ghost use Rattle.std.specs.FinMap as finmap;
 ghost use Rattle.custom_model.specs.Computed.{computed, resolved};
+ghost use Rattle.custom_properties.specs.Graph.{graph};
 
 use crate::DeclaredMap;
-use crate::components::search;
-use crate::confirmed::are_confirmed;
 use crate::graph::graph;
 use crate::merged::merged;
 use crate::ordered::{values_apart, values_in_order};
 use crate::plain::values_plain;
 use css_tokens::{CustomMap, CustomValue};
+use cycle_search::{Edge, are_confirmed, search};
 use std::alloc::Global;
 use stylo_base::NoMemory;
 
@@ -59,12 +59,26 @@ fn values(
     if edges.is_empty() {
         return values_apart(alloc, declared, inherited);
     }
+    values_by_edges(alloc, declared, &edges, inherited)
+}
+
+/// The same, by the references of one to another: in an order that a search finds, or by the definition.
+fn values_by_edges(
+    alloc: Global,
+    declared: &DeclaredMap<'_>,
+    edges: &[Edge],
+    inherited: &CustomMap,
+) -> Result<Vec<Option<CustomValue>>, NoMemory>
+    requires { edges.now ≡ graph declared.now }
+    ensures { IfOk result (λ values. values.items
+        ≡ map (computed declared.now inherited.now) (finmap.keys declared.now)) }
+{
     let count = declared.entries().len();
-    let found = search(alloc, count, &edges)?;
-    if found.marks.len() == count && are_confirmed(&edges, &found.marks, &found.order) {
+    let found = search(alloc, count, edges)?;
+    if found.marks.len() == count && are_confirmed(edges, &found.marks, &found.order) {
         return values_in_order(alloc, declared, &found, inherited);
     }
-    values_plain(alloc, declared, &edges, inherited)
+    values_plain(alloc, declared, edges, inherited)
 }
 
 /// Whether each declared custom property has the value that is inherited.

@@ -57,15 +57,5 @@ fn values(rt: HostRuntime) -> Result<(), Fail> {
     let alloc = rt.alloc();
     let beside = resolved(alloc, "--c", "var(--d) x")?;
     assert_eq!(rt; beside.as_str(), "--c:y x;--d:y;");
-    let fallback = resolved(alloc, "--d", "var(--e, z)")?;
-    assert_eq!(rt; fallback.as_str(), "--d:z;");
-    Ok(())
-}
-
-#[test]
-fn cycle(rt: HostRuntime) -> Result<(), Fail> {
-    let alloc = rt.alloc();
-    let none = resolved(alloc, "--d", "var(--d, 1px)")?;
-    assert_eq!(rt; none.as_str(), "");
     Ok(())
 }

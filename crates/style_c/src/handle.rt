@@ -32,6 +32,14 @@ impl Model for Handle {
 
 unsafe impl Send for Handle {}
 
+/// A value of this type may go to another thread.
+fn may_be_handed<T: Send>() {}
+
+/// Asks it of a handle. Nothing calls this: that the crate is proved says that a handle may.
+fn handles_may_be_handed() {
+    may_be_handed::<Handle>();
+}
+
 impl Handle {
     fn none() -> Handle
         ensures { result.session ≡ None }

@@ -8,8 +8,6 @@ mod loose;
 mod opening;
 mod reading;
 mod restyling;
-#[cfg(test)]
-mod tests;
 mod told;
 
 ghost use Rattle.std.specs.Prelude.{◌≡◌};

@@ -1,9 +1,4 @@
-pub mod WordLemmas
-pub mod Told
-pub mod Fronts
-pub mod Written
 pub mod Printed
-pub mod KeptLemmas
 pub mod EditedLemmas
 pub mod SettledLemmas
 pub mod ServeLemmas
@@ -13,5 +8,4 @@ pub mod LineLemmas
 pub mod BatchText
 pub mod FirstScene
 mod Examples
-mod LineExamples
 mod ExampleCases

@@ -4,7 +4,7 @@ use Rattle.std.specs.Prelude.{encode_utf8_all}
 use Rattle.std.specs.List.{flat_map, concat}
 use Rattle.std.specs.declared.alloc.Global.{Global}
 use Rattle.std.specs.Io.KnownBytes.{Appends}
-use Rattle.std.proofs.KnownBytes.{Appends-nil, Appends-trans}
+use Rattle.std.proofs.KnownBytes.{Appends-trans}
 use Rattle.std.proofs.lemmas.Grind.{flat_map-append}
 use Rattle.std.proofs.lemmas.List.{length-map}
 use Rattle.base_model.specs.Text.{Characters}
@@ -16,23 +16,22 @@ use Rattle.session_model.specs.Batches as model
 use Rattle.session_model.specs.Batches.{accepted_among, edited_all, refused_from, report_of, reports_from}
 use Rattle.dom_edits.specs.declared.edits.Edit.{Edit as CodeEdit}
 use Rattle.dom_edits.specs.EditView.{edit_seen, refusal_answered}
-use Rattle.style_session.specs.Answers.{counts_of}
 use Rattle.style_session.specs.declared.counts.Counts.{Counts}
 use Rattle.report_text.specs.Lines.{batch_line, refused_line}
 use Rattle.report_text.specs.Elements.{element_lines, elements_bytes, line_at}
-use Rattle.style_cli.specs.Loops.{GrewByFront}
+use Rattle.style_lines.specs.Loops.{GrewByFront}
 use Rattle.style_cli.specs.Text.{batch_text, refused_lines, text_from}
-use Rattle.style_cli.specs.Printing.{answered, batches_seen, edits_seen, heading_bytes, refused_bytes}
+use Rattle.style_cli.specs.Printing.{IsHeadingOf, answered, batches_seen, edits_seen, heading_bytes, refused_bytes}
 use Rattle.style_cli.specs.declared.batch.Heading.{Heading}
 use Rattle.style_cli.specs.declared.batch.RefusedEdit.{RefusedEdit}
-use Rattle.style_cli.proofs.Fronts.{front_after}
-use Rattle.style_cli.proofs.Written.{IsWritten}
+use Rattle.style_lines.proofs.Fronts.{front_after}
+use Rattle.style_lines.proofs.Written.{IsWritten}
 
 flat_map-map : {X Y : Type 0} (f : Y → List ℕ) (g : X → Y) (xs : List X) → flat_map f (map g xs) ≡ flat_map (λ x. f (g x)) xs
 flat_map-map f g [] = refl
 flat_map-map f g (x ∷ xs) = ap (λ l. f (g x) ++ l) (flat_map-map f g xs)
 
-module _ (n : ℕ) (st now : Standing) (edits : List Edit) (heading : Heading) (accepted : heading.accepted ≡ accepted_among st edits) (refused : heading.refused.items ≡ map answered (refused_from 1 st edits)) (counts : heading.counts ≡ counts_of (edited_all st edits)) (is : now ≡ restyled (edited_all st edits)) where
+module _ (n : ℕ) (st now : Standing) (edits : List Edit) (heading : Heading) (told : IsHeadingOf st edits heading) (is : now ≡ restyled (edited_all st edits)) where
   abbrev after : Standing
   after = edited_all st edits
 
@@ -41,14 +40,14 @@ module _ (n : ℕ) (st now : Standing) (edits : List Edit) (heading : Heading) (
 
   counted_line : batch_line n (accepted_among st edits) (length list) (matched_count after) (cascaded_count after) ≡ batch_line n heading.accepted (length heading.refused.items) heading.counts.matched heading.counts.cascaded
   counted_line =
-      ap (λ a. batch_line n a (length list) (matched_count after) (cascaded_count after)) (sym accepted)
-      ∙ (ap (λ r. batch_line n heading.accepted r (matched_count after) (cascaded_count after)) (sym (ap length refused ∙ length-map list answered))
-      ∙ ap (λ (c : Counts). batch_line n heading.accepted (length heading.refused.items) c.matched c.cascaded) (sym counts))
+      ap (λ a. batch_line n a (length list) (matched_count after) (cascaded_count after)) (sym told.accepted)
+      ∙ (ap (λ r. batch_line n heading.accepted r (matched_count after) (cascaded_count after)) (sym (ap length told.refused ∙ length-map list answered))
+      ∙ ap (λ (c : Counts). batch_line n heading.accepted (length heading.refused.items) c.matched c.cascaded) (sym told.counts))
 
   refused_text : flat_map encode_utf8_all (refused_lines list) ≡ flat_map refused_bytes heading.refused.items
   refused_text =
       flat_map-map encode_utf8_all (λ (one : model.RefusedEdit). refused_line one.place (refusal_answered one.why)) list
-      ∙ (sym (flat_map-map refused_bytes answered list) ∙ ap (flat_map refused_bytes) (sym refused))
+      ∙ (sym (flat_map-map refused_bytes answered list) ∙ ap (flat_map refused_bytes) (sym told.refused))
 
   elements_text : flat_map encode_utf8_all (element_lines after.scene) ≡ elements_bytes now.scene
   elements_text =
@@ -83,11 +82,7 @@ next_batch a b n done now edits next others rest whole same split items is =
     subst (λ (s : Standing). IsWritten a b (text_from n (reports_from s (edits_seen edits ∷ batches_seen others))) whole) (sym same)
     (subst (λ bs. IsWritten a b (text_from n (reports_from done bs)) whole) (ap batches_seen split ∙ ap (λ es. edits_seen es ∷ batches_seen others) (sym items)) is)
 
--- a front of the first piece is a front of the whole
-pub front_first : (a b : Option (List ℕ)) (first rest whole : List ℕ) → whole ≡ first ++ rest → GrewByFront a b first → GrewByFront a b whole
-front_first a b first rest whole e grew = front_after a a b [] first rest whole e (Appends-nil a) grew
-
--- and a front of what comes last is one too
+-- a front of what comes last is a front of the whole
 pub front_last : (a b c : Option (List ℕ)) (first last whole : List ℕ) → whole ≡ first ++ last → Appends a b first → GrewByFront b c last → GrewByFront a c whole
 front_last a b c first last whole e done grew = front_after a b c first last [] whole (e ∙ ap (λ l. first ++ l) (sym (append-nil last))) done grew
 

@@ -28,7 +28,7 @@ use Rattle.report_text.specs.Lines.{element_line}
 use Rattle.report_text.proofs.AppendLemmas.{alone}
 use Rattle.sheet_model.specs.Sources.{sources_of}
 use Rattle.report_text.specs.Elements.{line_bytes, lines_bytes}
-use Rattle.style_cli.specs.KeptLines.{kept_line, kept_run}
+use Rattle.style_lines.specs.KeptLines.{kept_line, kept_run}
 use Rattle.style_cli.specs.Printing.{IsSettled, Serves, ServesAs}
 use Rattle.style_cli.proofs.SettledLemmas.{kept-settled}
 

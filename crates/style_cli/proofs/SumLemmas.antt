@@ -9,7 +9,6 @@ use Rattle.edit_model.specs.Edit.{Edit}
 use Rattle.session_model.specs.Standing.{Standing, elements_of, restyled, started}
 use Rattle.session_model.specs.Batches as model
 use Rattle.session_model.specs.Batches.{Report, accepted_among, edited_all, refused_from, report_of, reports, reports_from}
-use Rattle.style_session.specs.Answers.{counts_of}
 use Rattle.style_session.specs.declared.counts.Counts.{Counts}
 use Rattle.dom_edits.specs.declared.edits.Edit.{Edit as CodeEdit}
 use Rattle.dom_edits.specs.EditView.{refusal_answered}
@@ -17,11 +16,11 @@ use Rattle.report_text.specs.Lines.{refused_line}
 use Rattle.report_text.specs.declared.lines.Sums.{Sums}
 use Rattle.report_text.specs.Elements.{element_lines, elements_bytes, line_at}
 use Rattle.style_session.specs.SessionView.{scene_from}
-use Rattle.style_cli.specs.Printing.{answered, edits_seen, heading_bytes}
+use Rattle.style_cli.specs.Printing.{IsHeadingOf, answered, edits_seen, heading_bytes}
 use Rattle.layer_order.specs.declared.sheet_input.SheetInput.{SheetInput}
 use Rattle.job_json.specs.Draws.{drawn_list}
 use Rattle.job_json.specs.Gen.{drawn_batch, drawn_batches, drawn_nodes, generated, the_sheet}
-use Rattle.style_cli.specs.Sums.{batch_sums, both_sums, no_sums, sums_from, sums_of}
+use Rattle.style_cli.specs.Sums.{batch_sums, both_sums, heading_sums, no_sums, sums_from, sums_of}
 use Rattle.style_cli.specs.Text.{batch_text, refused_lines, report_lines, text_from}
 use Rattle.style_cli.specs.declared.batch.Heading.{Heading}
 use Rattle.style_cli.proofs.Printed.{batch_parts}
@@ -68,9 +67,9 @@ summed_job st list sheets draws seed nodes batches begun nodes_are sheets_are dr
     ∙ ap (λ d. sums_from 0 (reports_from (started (scene_from (drawn_nodes nodes seed).0 (the_sheet ∷ []))) (seen d))) draws_are)
 
 -- what is made of a batch is what it is counted as
-module _ (n : ℕ) (st now : Standing) (edits : List Edit) (heading : Heading) (accepted : heading.accepted ≡ accepted_among st edits) (refused : heading.refused.items ≡ map answered (refused_from 1 st edits)) (counts : heading.counts ≡ counts_of (edited_all st edits)) (is : now ≡ restyled (edited_all st edits)) where
+module _ (n : ℕ) (st now : Standing) (edits : List Edit) (heading : Heading) (told : IsHeadingOf st edits heading) (is : now ≡ restyled (edited_all st edits)) where
   refused_count : length heading.refused.items ≡ length (refused_from 1 st edits)
-  refused_count = ap length refused ∙ length-map (refused_from 1 st edits) answered
+  refused_count = ap length told.refused ∙ length-map (refused_from 1 st edits) answered
 
   element_count : length (element_lines (edited_all st edits).scene) ≡ length (elements_of now.scene)
   element_count =
@@ -86,10 +85,10 @@ module _ (n : ℕ) (st now : Standing) (edits : List Edit) (heading : Heading) (
       let refusals = length-map list (λ (one : model.RefusedEdit). refused_line one.place (refusal_answered one.why)) in
       omega (arith, both, refusals, refused_count, element_count)
 
-  pub batch_summed : (one : Sums) → one.accepted ≡ heading.accepted → one.refused ≡ length heading.refused.items → one.matched ≡ heading.counts.matched → one.cascaded ≡ heading.counts.cascaded → one.lines ≡ 1 + length heading.refused.items + length (elements_of now.scene) → one.bytes ≡ length (heading_bytes n heading) + length (elements_bytes now.scene) → one ≡ batch_sums n (report_of st edits)
-  batch_summed one a r m c l b =
-      let bytes = ap {B = ℕ} length (batch_parts n st now edits heading accepted refused counts is) ∙ length-append (heading_bytes n heading) (elements_bytes now.scene) in
-      same_sums one (batch_sums n (report_of st edits)) (a ∙ accepted) (r ∙ refused_count) (m ∙ ap (λ (k : Counts). k.matched) counts) (c ∙ ap (λ (k : Counts). k.cascaded) counts) (l ∙ sym line_count) (b ∙ sym bytes)
+  pub batch_summed : heading_sums n heading now.scene ≡ batch_sums n (report_of st edits)
+  batch_summed =
+      let bytes = ap {B = ℕ} length (batch_parts n st now edits heading told is) ∙ length-append (heading_bytes n heading) (elements_bytes now.scene) in
+      same_sums (heading_sums n heading now.scene) (batch_sums n (report_of st edits)) told.accepted refused_count (ap (λ (k : Counts). k.matched) told.counts) (ap (λ (k : Counts). k.cascaded) told.counts) (sym line_count) (sym bytes)
 
 -- the next batch is the first of those that are to be drawn still
 pub drawn_on : (nodes left more k state next : ℕ) (batch : List CodeEdit) → left ≡ suc more → batch ≡ (drawn_batch nodes state).0 → next ≡ (drawn_batch nodes state).1 → map edits_seen (drawn_list (λ _. drawn_batch nodes) left k state).0 ≡ edits_seen batch ∷ map edits_seen (drawn_list (λ _. drawn_batch nodes) more (k + 1) next).0

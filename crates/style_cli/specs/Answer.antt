@@ -10,9 +10,9 @@ use Rattle.stylo_base.specs.declared.refusal.Kind.TheVariants.{Input}
 use Rattle.style_cli.specs.declared.status.Status.{Status}
 use Rattle.style_cli.specs.declared.status.Status.TheVariants.{Done, ReadFault, Usage, NotJson, NotAJob, Limit}
 use Rattle.style_cli.specs.declared.status.Status.TheVariants.{WriteFault, NoMemory}
-use Rattle.style_cli.specs.declared.words.Line.{Line}
-use Rattle.style_cli.specs.declared.words.Line.TheVariants.{Run, Gen}
-use Rattle.style_cli.specs.Loops.{GrewByFront, LosesFront}
+use Rattle.style_lines.specs.declared.words.Line.{Line}
+use Rattle.style_lines.specs.declared.words.Line.TheVariants.{Run, Gen}
+use Rattle.style_lines.specs.Loops.{GrewByFront, LosesFront}
 use Rattle.style_cli.specs.Sums.{summary_text}
 use Rattle.style_cli.specs.Text.{text_of}
 

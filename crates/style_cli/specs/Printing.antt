@@ -7,11 +7,13 @@ use Rattle.value_model.specs.Style.{Style}
 use Rattle.edit_model.specs.Edit as model_edit
 use Rattle.session_model.specs.Standing.{Scene, Standing, elements_of, kept_at, styles_of}
 use Rattle.session_model.specs.Batches as model
+use Rattle.session_model.specs.Batches.{accepted_among, edited_all, refused_from}
 use Rattle.stylo_base.specs.declared.refusal.EditRefused.TheVariants.{NoMemory}
 use Rattle.dom_edits.specs.declared.edits.Edit.{Edit}
 use Rattle.dom_edits.specs.EditView.{edit_seen, refusal_answered}
+use Rattle.style_session.specs.Answers.{counts_of}
 use Rattle.report_text.specs.Lines.{batch_line, element_line, refused_line}
-use Rattle.style_cli.specs.KeptLines.{kept_length, kept_line}
+use Rattle.style_lines.specs.KeptLines.{kept_length, kept_line}
 use Rattle.style_cli.specs.declared.batch.Heading.{Heading}
 use Rattle.style_cli.specs.declared.batch.RefusedEdit.{RefusedEdit}
 
@@ -29,6 +31,12 @@ answered one = record { place = one.place; why = refusal_answered one.why }
 -- none was refused for want of memory
 abbrev pub AreRefused : List RefusedEdit → Type 0
 AreRefused list = AllByRecursion (λ (one : RefusedEdit). one.why ≢ NoMemory) list
+
+-- what is told of a batch before its elements, whose edits were made at this standing
+pub record IsHeadingOf (st : Standing) (edits : List model_edit.Edit) (heading : Heading) : Type 0 where
+  pub accepted : heading.accepted ≡ accepted_among st edits
+  pub refused : heading.refused.items ≡ map answered (refused_from 1 st edits)
+  pub counts : heading.counts ≡ counts_of (edited_all st edits)
 
 -- the line of a refused edit in UTF-8
 abbrev pub refused_bytes : RefusedEdit → List ℕ

@@ -1,10 +1,14 @@
 -- Sums over what is told of the batches of a job, and the line that is written of the job of a number.
 use Rattle.std.specs.Prelude.{ℕ, ◌+◌, List, [], ◌∷◌, length, encode_utf8_all}
+use Rattle.session_model.specs.Standing.{Scene, elements_of}
 use Rattle.session_model.specs.Batches.{Report}
+use Rattle.report_text.specs.Elements.{elements_bytes}
 use Rattle.report_text.specs.Lines.{summary_line}
 use Rattle.report_text.specs.declared.lines.Sums.{Sums}
 use Rattle.job_json.specs.Gen.{generated}
 use Rattle.job_json.specs.declared.Job.{Job}
+use Rattle.style_cli.specs.Printing.{heading_bytes}
+use Rattle.style_cli.specs.declared.batch.Heading.{Heading}
 use Rattle.style_cli.specs.Text.{batch_text, report_lines, reports_of}
 
 abbrev pub no_sums : Sums
@@ -29,6 +33,17 @@ batch_sums batch report = record {
   cascaded = report.cascaded;
   lines = length (report_lines batch report);
   bytes = length (batch_text batch report);
+}
+
+-- the same by what is told of a batch before its elements, and by the scene after it
+abbrev pub heading_sums : ℕ → Heading → Scene → Sums
+heading_sums batch heading scene = record {
+  accepted = heading.accepted;
+  refused = length heading.refused.items;
+  matched = heading.counts.matched;
+  cascaded = heading.counts.cascaded;
+  lines = 1 + length heading.refused.items + length (elements_of scene);
+  bytes = length (heading_bytes batch heading) + length (elements_bytes scene);
 }
 
 -- those of batches from this number on

@@ -11,8 +11,8 @@ ghost use Rattle.style_cli.specs.Printing.{AreRefused, IsSettled, ServesLengths,
 
 use crate::batch::{Heading, RefusedEdit};
 use crate::elements::style_of;
-use crate::lengths::Lengths;
 use report_text::{batch_line_len, element_line_len, refused_line_len};
+use style_lines::Lengths;
 use style_session::{Counts, Session};
 use stylo_base::NoMemory;
 

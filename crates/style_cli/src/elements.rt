@@ -9,14 +9,13 @@ ghost use Rattle.scene_model.specs.Lookups.{IsElement};
 ghost use Rattle.sheet_model.specs.Sources.{sources_of};
 ghost use Rattle.session_model.specs.Standing.{elements_of, style_in};
 ghost use Rattle.report_text.specs.Elements.{elements_bytes, line_bytes, lines_bytes};
-ghost use Rattle.style_cli.specs.Loops.{GrewByFront};
+ghost use Rattle.style_lines.specs.Loops.{GrewByFront};
 ghost use Rattle.style_cli.specs.Printing.{IsSettled, Serves};
 
-use crate::lines::Lines;
-use crate::writing::write_all;
 use io_edges::{Sink, SinkRefused};
 use report_text::push_element_line;
 use std::alloc::Global;
+use style_lines::{Lines, write_all};
 use style_session::{Session, StyleAnswer};
 use style_value::Style;
 use stylo_base::Text;

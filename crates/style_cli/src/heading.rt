@@ -4,14 +4,14 @@ ghost use Rattle.std.specs.Prelude.{◌≡◌, ◌≢◌, IsErrOf, OnErr, OnOk};
 ghost use Rattle.std.specs.List.{flat_map};
 ghost use Rattle.std.specs.Io.KnownBytes.{Appends};
 ghost use Rattle.io_edges.specs.Cause.{HasCause};
-ghost use Rattle.style_cli.specs.Loops.{GrewByFront};
+ghost use Rattle.style_lines.specs.Loops.{GrewByFront};
 ghost use Rattle.style_cli.specs.Printing.{AreRefused, heading_bytes, refused_bytes};
 
 use crate::batch::{Heading, RefusedEdit};
-use crate::writing::write_line;
 use io_edges::{Sink, SinkRefused};
 use report_text::{batch_line, push_refused_line};
 use std::alloc::Global;
+use style_lines::write_line;
 use style_session::Counts;
 use stylo_base::{EditRefused, Text};
 

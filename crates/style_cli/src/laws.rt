@@ -5,13 +5,13 @@ ghost use Rattle.std.specs.Prelude.{◌≡◌, ◌↔◌, ℕ, [], List, is_some
 ghost use Rattle.base_model.specs.LineFeeds.{line_feeds};
 ghost use Rattle.clap.specs.Words.{Text, fault_of};
 ghost use Rattle.job_json.specs.Gen.{generated};
-ghost use Rattle.style_cli.specs.Commands.{app};
+ghost use Rattle.style_lines.specs.Commands.{app};
 ghost use Rattle.style_cli.specs.Sums.{sums_of};
 ghost use Rattle.style_cli.specs.Text.{text_of};
-ghost use Rattle.style_cli.specs.Words.{line_of};
+ghost use Rattle.style_lines.specs.Words.{line_of};
 
 /// Words ask for something exactly where clap finds no fault with them.
-#[tactic(auto, using(crate::proofs::WordLemmas::line_is_faultless))]
+#[tactic(auto, using(style_lines::proofs::WordLemmas::line_is_faultless))]
 pub(crate) fn lines_are_faultless()
     ensures { (words : List Text) → (is_some (line_of words) ≡ true) ↔ (fault_of app words ≡ []) }
 {}

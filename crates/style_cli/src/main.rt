@@ -4,22 +4,16 @@
 
 mod batch;
 mod beginning;
-mod commands;
 mod counting;
 mod elements;
 mod heading;
-mod input;
 mod laws;
-mod lengths;
-mod lines;
 mod printing;
 mod status;
 mod summing;
 #[cfg(test)]
 mod tests;
 mod top;
-mod words;
-mod writing;
 
 use io_edges::{StdSink, StdSource};
 pub use status::Status;

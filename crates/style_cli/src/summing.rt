@@ -10,21 +10,20 @@ ghost use Rattle.job_json.specs.Gen.{drawn_batches, drawn_nodes, generated, the_
 ghost use Rattle.session_model.specs.Batches.{edited_all, report_of, reports_from};
 ghost use Rattle.session_model.specs.Standing.{restyled};
 ghost use Rattle.session_model.specs.StandingInvariant.{IsReached};
-ghost use Rattle.style_cli.specs.Loops.{GrewByFront};
-ghost use Rattle.style_cli.specs.Printing.{ServesLengths, edits_seen};
-ghost use Rattle.style_cli.specs.Sums.{batch_sums, both_sums, no_sums, sums_from, sums_of, summary_text};
+ghost use Rattle.style_lines.specs.Loops.{GrewByFront};
+ghost use Rattle.style_cli.specs.Printing.{AreRefused, IsSettled, ServesLengths, edits_seen};
+ghost use Rattle.style_cli.specs.Sums.{batch_sums, both_sums, heading_sums, no_sums, sums_from, sums_of, summary_text};
 
-use crate::batch::make_batch;
+use crate::batch::{Heading, make_batch};
 use crate::beginning::session_of;
 use crate::counting::{elements_len, heading_len, sum};
-use crate::lengths::Lengths;
-use crate::writing::write_line;
 use dom_edits::Edit;
 use io_edges::{Sink, SinkRefused};
 use job_json::{BatchDraws, BegunJob, begin_generated};
 use report_text::{Sums, summary_line};
 use std::alloc::Global;
 use std::thread::Threads;
+use style_lines::{Lengths, write_line};
 use style_session::{Counts, Session};
 use stylo_base::NoMemory;
 
@@ -77,10 +76,27 @@ fn summed<R: Threads + Sync>(
     let BegunJob {
         nodes,
         sheets,
-        mut batches,
+        batches,
     } = begun_job(alloc, wanted)?;
-    let mut session = session_of(alloc, nodes, sheets, workers, SHARE)?;
-    sum_batches(rt, alloc, &mut session, &mut batches, wanted.batches)
+    let session = session_of(alloc, nodes, sheets, workers, SHARE)?;
+    sum_over(rt, alloc, session, batches, wanted.batches)
+}
+
+/// Sums up what comes of so many drawn batches over the session in which they begin. It ends here.
+fn sum_over<R: Threads + Sync>(
+    rt: &R,
+    alloc: Global,
+    mut session: Session,
+    mut draws: BatchDraws,
+    batches: u32,
+) -> Result<Sums, NoMemory>
+    requires { IsReached session }
+    ensures { IfOk result (λ sums. sums ≡ sums_from 0 (reports_from session
+        ([] ∷ map edits_seen (drawn_batches draws.0 batches draws.1).0))) }
+{
+    let sums = sum_batches(rt, alloc, &mut session, &mut draws, batches);
+    drop(session);
+    sums
 }
 
 /// What the generated job begins with. It is not inlined, so that bench/gen can tell what it costs.
@@ -144,23 +160,59 @@ fn sum_batch<R: Threads + Sync>(
     ensures serves { OnOk result (ServesLengths session.new lengths.new.kept.items) }
     ensures shaped { OnOk result (AllByRecursion IsShapedEdit (edits_seen edits.now)) }
 {
+    let one = summed_batch(rt, alloc, session, lengths, number, edits)?;
+    *sums = both(*sums, one)?;
+    Ok(())
+}
+
+/// Makes the edits of a batch, restyles the session, forgets the lengths of what was cascaded, and counts what came of
+/// it.
+fn summed_batch<R: Threads + Sync>(
+    rt: &R,
+    alloc: Global,
+    session: &mut Session,
+    lengths: &mut Lengths,
+    number: u64,
+    edits: &[Edit],
+) -> Result<Sums, NoMemory>
+    requires reached { IsReached session.old }
+    requires serves { ServesLengths session.old lengths.old.kept.items }
+    ensures sums { IfOk result (λ one. one ≡ batch_sums number (report_of session.old (edits_seen edits.now))) }
+    ensures session { OnOk result (session.new ≡ restyled (edited_all session.old (edits_seen edits.now))) }
+    ensures serves { OnOk result (ServesLengths session.new lengths.new.kept.items) }
+    ensures shaped { OnOk result (AllByRecursion IsShapedEdit (edits_seen edits.now)) }
+{
     let heading = make_batch(rt, alloc, session, edits)?;
     lengths.forget(session.cascaded());
+    counted(session, lengths, number, &heading)
+}
+
+/// What a batch is counted as, by what is told of it before its elements.
+fn counted(
+    session: &Session,
+    lengths: &mut Lengths,
+    number: u64,
+    heading: &Heading,
+) -> Result<Sums, NoMemory>
+    requires refused { AreRefused heading.now.refused.items }
+    requires settled { IsSettled session.now }
+    requires serves { ServesLengths session.now lengths.old.kept.items }
+    ensures sums { IfOk result (λ one. one ≡ heading_sums number heading.now session.now.scene) }
+    ensures serves { OnOk result (ServesLengths session.now lengths.new.kept.items) }
+{
     let elements = session.doc().in_tree_order().len() as u64;
     let refused = heading.refused.len() as u64;
-    let told = heading_len(number, &heading)?;
+    let told = heading_len(number, heading)?;
     let bytes = sum(told, elements_len(session, lengths)?)?;
     let Counts { matched, cascaded } = heading.counts;
-    let one = Sums {
+    Ok(Sums {
         accepted: heading.accepted,
         refused,
         matched,
         cascaded,
         lines: 1 + refused + elements,
         bytes,
-    };
-    *sums = both(*sums, one)?;
-    Ok(())
+    })
 }
 
 /// Nothing summed up yet.

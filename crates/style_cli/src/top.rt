@@ -4,22 +4,21 @@ ghost use Rattle.std.specs.Prelude.{◌≡◌, ◌≢◌, ◌+◌, ◌≤◌, �
 ghost use Rattle.io_edges.specs.Cause.{HasCause, Rose};
 ghost use Rattle.stylo_base.specs.declared.refusal.Kind.{Kind};
 ghost use Rattle.job_json.specs.JobOf.{not_json, bad_shape};
-ghost use Rattle.style_cli.specs.Words.{line_of};
+ghost use Rattle.style_lines.specs.Words.{IsInRange, line_of};
 ghost use Rattle.style_cli.specs.Answer.{IsReadAs, IsPast, IsJob, IsLate, IsOf, IsPrinted, IsFrontPrinted, IsReadToEnd, IsAnswerTo, IsEarly, IsUnread, IsRefused, IsTold, due_text, input_of, job_of_input, reads_input};
 ghost use Rattle.std.specs.Io.KnownBytes.{Appends};
 ghost use Rattle.base_model.specs.Limits.{batch_limit, element_limit, input_limit, sheet_limit};
-ghost use Rattle.style_cli.specs.Loops.{GrewByFront, LosesAtMost};
+ghost use Rattle.style_lines.specs.Loops.{GrewByFront, LosesAtMost};
 ghost use Rattle.style_cli.specs.Sums.{summary_text};
 
-use crate::input::{InputError, read_all};
 use crate::printing::print_job;
 use crate::status::Status;
 use crate::summing::{Wanted, print_summary};
-use crate::words::{Line, WordsError, read_line};
 use io_edges::{Sink, SinkRefused, Source};
 use job_json::{Job, JobFault};
 use std::alloc::Global;
 use std::thread::Threads;
+use style_lines::{InputError, Line, WordsError, read_all, read_line};
 use stylo_base::Kind;
 use stylo_base::limits::INPUT_LIMIT;
 
@@ -91,7 +90,7 @@ pub fn run<R: Threads + Sync, S: Source, K: Sink>(
         → ¬ Rose (K.faults sink.old) (K.faults sink.new)
         → (result ≡ Status.Done) ⊎ (result ≡ Status.NoMemory) }
 {
-    match read_line(alloc, &words) {
+    match line_of(alloc, words) {
         Ok(Line::Run { workers, share }) => run_job(rt, alloc, workers, share, source, sink),
         Ok(
             Line::Gen {
@@ -111,6 +110,15 @@ pub fn run<R: Threads + Sync, S: Source, K: Sink>(
         Err(WordsError::NoLine) => Status::Usage,
         Err(WordsError::NoMemory) => Status::NoMemory,
     }
+}
+
+/// What the words ask for. They are given back before anything is read.
+fn line_of(alloc: Global, words: Vec<String>) -> Result<Line, WordsError>
+    ensures line { IfOk result (λ line. line_of (map string_bytes words.items) ≡ Some line) }
+    ensures none { result ≡ Err WordsError.NoLine → line_of (map string_bytes words.items) ≡ None }
+    ensures ranges { IfOk result IsInRange }
+{
+    read_line(alloc, &words)
 }
 
 /// Reads the job that the source has left, and writes its text.

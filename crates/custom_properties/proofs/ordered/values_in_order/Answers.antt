@@ -3,7 +3,7 @@ use Rattle.std.specs.FinMap as finmap
 use Rattle.std.proofs.lemmas.List.{length-replicate, length-set}
 use Rattle.std.proofs.lemmas.Option.{slice_get_read}
 use Rattle.css_tokens.specs.declared.custom.value.CustomValue.{CustomValue}
-use Rattle.custom_properties.specs.Confirmed.{is_in_group}
+use Rattle.cycle_search.specs.Confirmed.{is_in_group}
 use Rattle.custom_properties.proofs.EntryLemmas.{length_of_entries}
 use Rattle.custom_properties.proofs.GraphLemmas.{all_of}
 use Rattle.custom_properties.proofs.OrderLemmas.{AreRight, in_group_within, right_first, right_set, right_kept, right_whole, listed_value_seen}

@@ -1,6 +1,6 @@
 use Rattle.std.proofs.Common.{◌≡◌, ℕ, ◌<◌, length, get_or, slice_get, true, None, Some, ◌⊎◌}
 use Rattle.custom_model.specs.Computed.{computed as computed_value}
-use Rattle.custom_properties.specs.declared.mark.Mark.{Mark}
+use Rattle.cycle_search.specs.declared.mark.Mark.{Mark}
 use Rattle.custom_properties.proofs.GraphLemmas.{name_at, all_of}
 use Rattle.custom_properties.proofs.ordered.values_in_order.Given as goal
 

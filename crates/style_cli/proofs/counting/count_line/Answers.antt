@@ -3,7 +3,7 @@ use Rattle.std.specs.Prelude.{encode_utf8_all}
 use Rattle.scene_model.specs.Lookups.{tag_of}
 use Rattle.session_model.specs.Standing.{elements_of, style_in}
 use Rattle.report_text.specs.Lines.{element_line}
-use Rattle.style_cli.specs.KeptLines.{kept_length}
+use Rattle.style_lines.specs.KeptLines.{kept_length}
 use Rattle.style_cli.proofs.ServeLemmas.{serves-kept}
 use Rattle.style_cli.proofs.SettledLemmas.{kept-settled}
 use Rattle.style_cli.proofs.counting.count_line.Goals as goal

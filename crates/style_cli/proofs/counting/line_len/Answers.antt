@@ -1,6 +1,6 @@
 use Rattle.std.proofs.Common.{length, sym, ◌∙◌}
 use Rattle.session_model.specs.Standing.{style_in}
-use Rattle.style_cli.specs.KeptLines.{kept_length}
+use Rattle.style_lines.specs.KeptLines.{kept_length}
 use Rattle.style_cli.proofs.ServeLemmas.{kept_one}
 use Rattle.style_cli.proofs.SettledLemmas.{kept-settled}
 use Rattle.style_cli.proofs.counting.line_len.Goals as goal

@@ -9,7 +9,7 @@ use Rattle.session_model.specs.Standing.{elements_of}
 use Rattle.session_model.proofs.FlagLemmas.{each_number}
 use Rattle.report_text.specs.Elements.{elements_bytes, line_bytes, lines_bytes}
 use Rattle.style_cli.specs.Printing.{Serves}
-use Rattle.style_cli.proofs.Written.{IsWritten, flat_parts, front_more, nothing, one_more}
+use Rattle.style_lines.proofs.Written.{IsWritten, flat_parts, front_more, nothing, one_more}
 use Rattle.style_cli.proofs.elements.print_elements.Goals as goal
 
 pub printing-init : goal.printing-init

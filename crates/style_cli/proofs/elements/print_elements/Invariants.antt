@@ -4,7 +4,7 @@ use Rattle.scene_model.specs.Lookups.{IsElement}
 use Rattle.session_model.specs.Standing.{elements_of}
 use Rattle.report_text.specs.Elements.{elements_bytes, lines_bytes}
 use Rattle.style_cli.specs.Printing.{Serves}
-use Rattle.style_cli.proofs.Written.{IsWritten}
+use Rattle.style_lines.proofs.Written.{IsWritten}
 use Rattle.style_cli.proofs.elements.print_elements.Given as goal
 
 -- the lines before the rest are written, and those that are kept are right

@@ -6,9 +6,9 @@ use Rattle.scene_model.specs.Lookups.{IsElement}
 use Rattle.sheet_model.specs.Sources.{sources_of}
 use Rattle.session_model.specs.Standing.{elements_of}
 use Rattle.report_text.specs.Elements.{line_bytes, lines_bytes}
-use Rattle.style_cli.specs.Loops.{GrewByFront}
+use Rattle.style_lines.specs.Loops.{GrewByFront}
 use Rattle.style_cli.proofs.ServeLemmas.{run_bytes}
-use Rattle.style_cli.proofs.Written.{begun, flat_parts}
+use Rattle.style_lines.proofs.Written.{begun, flat_parts}
 use Rattle.style_cli.proofs.elements.print_some.Goals as goal
 
 pub returns-in_err-write_all-clause-err : goal.returns-in_err-write_all-clause-err

@@ -1,7 +1,7 @@
 use Rattle.std.proofs.Common.{refl, rules}
 use Rattle.base_model.proofs.Results.{on_err}
 use Rattle.style_cli.specs.Printing.{refused_bytes}
-use Rattle.style_cli.proofs.Fronts.{next_begun}
+use Rattle.style_lines.proofs.Fronts.{next_begun}
 use Rattle.style_cli.proofs.heading.print_refused.Goals as goal
 
 pub returns-in_err-print_one-clause-err : goal.returns-in_err-print_one-clause-err

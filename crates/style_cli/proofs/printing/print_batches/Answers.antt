@@ -7,7 +7,7 @@ use Rattle.session_model.proofs.BatchLemmas.{batch-reached}
 use Rattle.style_cli.specs.Printing.{batches_seen, edits_seen}
 use Rattle.style_cli.specs.Text.{batch_text, text_from}
 use Rattle.style_cli.proofs.Printed.{next_batch}
-use Rattle.style_cli.proofs.Written.{front_more, one_more}
+use Rattle.style_lines.proofs.Written.{front_more, one_more}
 use Rattle.style_cli.proofs.printing.print_batches.Goals as goal
 
 pub returns-in_err-print_batch-clause-err : goal.returns-in_err-print_batch-clause-err

@@ -3,7 +3,7 @@ use Rattle.session_model.specs.Batches.{reports_from}
 use Rattle.session_model.specs.StandingInvariant.{IsReached}
 use Rattle.style_cli.specs.Printing.{Serves, batches_seen, edits_seen}
 use Rattle.style_cli.specs.Text.{text_from}
-use Rattle.style_cli.proofs.Written.{IsWritten}
+use Rattle.style_lines.proofs.Written.{IsWritten}
 use Rattle.style_cli.proofs.printing.print_batches.Given as goal
 
 -- what comes of the next batch and of those behind it is to be written still

@@ -8,5 +8,5 @@ returns g c =
     let begun = c.in_ok-nodes.field-0 in
     let wanted = c.args.wanted in
     let made = c.in_ok-nodes.ensures in
-    IfOk-weaker c.sum_batches.result _ _
-    (λ sums is. is ∙ summed_job c.in_ok-session.session begun.nodes begun.sheets begun.batches wanted.seed wanted.nodes wanted.batches c.in_ok-session.ensures.session made.nodes made.sheets made.batches) c.sum_batches.ensures
+    IfOk-weaker c.sum_over.result _ _
+    (λ sums is. is ∙ summed_job c.in_ok-session.session begun.nodes begun.sheets begun.batches wanted.seed wanted.nodes wanted.batches c.in_ok-session.ensures.session made.nodes made.sheets made.batches) c.sum_over.ensures
