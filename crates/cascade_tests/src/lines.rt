@@ -1,11 +1,11 @@
 //! The printed lines.
 
-use property_table::{Color, Keyword, PropId, Value};
+use property_table::{Keyword, PropId, Value};
 use report_text::{Sums, batch_line, element_line, element_line_len, refused_line, summary_line};
 use std::alloc::Global;
 use std::test::Fail;
 use style_value::{Style, StyleDraft};
-use stylo_base::{EditRefused, Fixed, Kind, NoMemory, Text};
+use stylo_base::{EditRefused, Fixed, Kind, NoMemory};
 
 #[test]
 fn batch(rt: HostRuntime) -> Result<(), Fail> {
@@ -61,25 +61,5 @@ fn element(rt: HostRuntime) -> Result<(), Fail> {
         "4294967295 é→😀{display: none; margin-top: -1.5px}\n"
     );
     assert_eq!(rt; element_line_len(u32::MAX, "é→😀", &style), 56);
-    Ok(())
-}
-
-const HALF_LIME: Value = Value::Color(Color {
-    red: 0,
-    green: 255,
-    blue: 0,
-    alpha: 128,
-});
-
-fn printed(alloc: Global, value: Value) -> Result<Text, NoMemory> {
-    let mut text = Text::new(alloc);
-    value.write(&mut text)?;
-    Ok(text)
-}
-
-#[test]
-fn color(rt: HostRuntime) -> Result<(), Fail> {
-    let text = printed(rt.alloc(), HALF_LIME)?;
-    assert_eq!(rt; text.as_str(), "#00ff0080");
     Ok(())
 }

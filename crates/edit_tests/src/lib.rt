@@ -1,19 +1,6 @@
-//! Tests of the public calls on edits.
+//! A test of the call that tells whom an edit marks. What edits mark, touch and are refused for is tried by
+//! `checks/sessions` over the scripts of `checks/data/sessions/`, and by `checks/marked`.
 #![tactic(auto)]
 
 #[cfg(test)]
-mod applying;
-#[cfg(test)]
-mod chance;
-#[cfg(test)]
-mod changes;
-#[cfg(test)]
-mod definition;
-#[cfg(test)]
-mod growing;
-#[cfg(test)]
 mod marking;
-#[cfg(test)]
-mod scene;
-#[cfg(test)]
-mod sheet_marking;

@@ -5,5 +5,3 @@
 mod atoms;
 #[cfg(test)]
 mod lists;
-#[cfg(test)]
-mod matched;

@@ -1,5 +1,6 @@
-//! The caller of docs/CALLING.md that keeps a session.
+//! The caller of docs/CALLING.md that keeps a session, and what its calls are answered.
 
+use crate::counting::CountingGate;
 use dom_edits::{DocEdit, Edit};
 use dom_tree::{NodeInput, NodeList, States};
 use io_edges::OpenGate;
@@ -81,23 +82,92 @@ fn widths<R: Threads + Sync>(
     Ok((before, width(rt, alloc, session, 2)?))
 }
 
-/// The same of a session with a width for each class.
-fn widths_by_class<R: Threads + Sync>(
-    rt: &R,
-    alloc: Global,
-) -> Result<(Option<Value>, Option<Value>), EditRefused> {
-    let mut session = start(alloc, "p { width: 10px } .wide { width: 20px }")?;
-    widths(rt, alloc, &mut session)
-}
-
 /// This width.
 fn pixels(thousandths: i128) -> Option<Value> {
     Some(Value::Pixels(Fixed::clamp(thousandths)))
 }
 
+/// What a restyle counts, and how often its gate is passed.
+fn counted<R: Threads + Sync>(
+    rt: &R,
+    alloc: Global,
+    session: &mut Session,
+) -> Result<(u64, u64, u64), NoMemory> {
+    let gate = CountingGate::new();
+    let counts = session.restyle(rt, alloc, &gate)?;
+    Ok((counts.matched, counts.cascaded, gate.passes()))
+}
+
+/// The same, where what finds no memory is done once more.
+fn counted_again<R: Threads + Sync>(
+    rt: &R,
+    alloc: Global,
+    session: &mut Session,
+) -> Result<(u64, u64, u64), NoMemory> {
+    match counted(rt, alloc, session) {
+        Err(NoMemory) => counted(rt, alloc, session),
+        answer => answer,
+    }
+}
+
+/// Whether the element 2 is told as stale, and 3 as none.
+fn are_stale_and_none(session: &Session) -> bool {
+    matches!(session.style(2), StyleAnswer::Stale)
+        && matches!(session.style(3), StyleAnswer::NoNode)
+}
+
+/// The number that the refusal of an edit tells, where no element has it. Accepted: 0.
+fn number_of(answer: Result<(), EditRefused>) -> Result<u64, EditRefused> {
+    match answer {
+        Ok(()) => Ok(0),
+        Err(EditRefused::UnknownNode(number)) => Ok(number),
+        Err(why) => Err(why),
+    }
+}
+
+/// Whether the elements are told so before the first restyle, what is answered to the edit of an element that is not
+/// there, and what that restyle counts.
+type Answers = (bool, u64, (u64, u64, u64));
+
+/// These answers of a session.
+fn answers<R: Threads + Sync>(
+    rt: &R,
+    alloc: Global,
+    session: &mut Session,
+) -> Result<Answers, EditRefused> {
+    let told = are_stale_and_none(session);
+    let unknown = number_of(set_class(alloc, session, 3, "wide"))?;
+    Ok((told, unknown, counted_again(rt, alloc, session)?))
+}
+
+/// What is answered, and then the widths.
+type AnswersAndWidths = (Answers, (Option<Value>, Option<Value>));
+
+/// These of a session.
+fn answers_and_widths<R: Threads + Sync>(
+    rt: &R,
+    alloc: Global,
+    session: &mut Session,
+) -> Result<AnswersAndWidths, EditRefused> {
+    let answers = answers(rt, alloc, session)?;
+    Ok((answers, widths(rt, alloc, session)?))
+}
+
+/// The same of a session with a width for each class. No other function owns a session: what is let go at its end is
+/// dear to prove.
+fn all<R: Threads + Sync>(rt: &R, alloc: Global) -> Result<AnswersAndWidths, EditRefused> {
+    let mut session = start(alloc, "p { width: 10px } .wide { width: 20px }")?;
+    let told = answers_and_widths(rt, alloc, &mut session);
+    drop(session);
+    told
+}
+
+/// `rt try --test --fail-alloc N` has one allocation fail: a restyle that is tried again then is right. In
+/// `checks/c_tests/no_memory.c` each allocation of each call fails in turn.
 #[test]
-fn two_widths(rt: HostRuntime) -> Result<(), Fail> {
-    let found = widths_by_class(&rt, rt.alloc())?;
-    assert_eq!(rt; found, (pixels(10_000), pixels(20_000)));
+fn one_of_each_kind(rt: HostRuntime) -> Result<(), Fail> {
+    let (answers, widths) = all(&rt, rt.alloc())?;
+    assert_eq!(rt; answers, (true, 3, (2, 2, 2)));
+    assert_eq!(rt; widths, (pixels(10_000), pixels(20_000)));
     Ok(())
 }

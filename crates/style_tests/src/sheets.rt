@@ -1,9 +1,7 @@
 //! What is kept of sheets.
 
 use layer_order::Origin;
-use property_table::{Keyword, PropId, Value};
-use sheet_set::{Declared, SheetInput, Sheets, parse_style};
-use shorthands::{Given, Target};
+use sheet_set::{SheetInput, Sheets};
 use std::alloc::Global;
 use std::test::Fail;
 use stylo_base::{NoMemory, Text};
@@ -69,26 +67,5 @@ fn two_sheets(alloc: Global) -> Result<Box<Sheets>, NoMemory> {
 fn last_rule(rt: HostRuntime) -> Result<(), Fail> {
     let sheets = two_sheets(rt.alloc())?;
     assert_eq!(rt; last_place(&sheets), (2, 0, 4));
-    Ok(())
-}
-
-/// Whether it gives the property this keyword, and is important.
-fn is_important(one: &Declared, wanted: PropId, value: Keyword) -> bool {
-    match (&one.target, &one.given) {
-        (Target::Longhand(property), Given::Exactly(given)) => {
-            one.important && *property == wanted && *given == Value::Keyword(value)
-        }
-        _ => false,
-    }
-}
-
-#[test]
-fn style_attribute(rt: HostRuntime) -> Result<(), Fail> {
-    let list = parse_style(rt.alloc(), ";;display:block!important")?;
-    let is_kept = match list.as_slice() {
-        [one] => is_important(one, PropId::Display, Keyword::Block),
-        _ => false,
-    };
-    assert!(rt; is_kept);
     Ok(())
 }

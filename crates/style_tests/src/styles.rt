@@ -1,36 +1,27 @@
-//! The style of every element.
+//! The rules that match an element.
 
-use dom_tree::{Attr, Doc, NodeInput, NodeList, States};
+use dom_tree::{Doc, NodeInput, NodeList, States};
 use layer_order::Origin;
-use plain_style::{match_rules, style_all};
+use plain_style::match_rules;
 use property_table::COUNT;
 use sheet_set::{SheetInput, Sheets};
 use std::alloc::Global;
-use std::sync::Arc;
 use std::test::Fail;
-use style_value::Style;
 use stylo_base::{NoMemory, Text};
 
-/// `html` over `p` with a `style` attribute.
-fn pair(alloc: Global) -> Result<Box<Doc>, NoMemory> {
-    let html = NodeInput {
-        tag: "html",
+/// A node with a tag alone.
+fn node(tag: &str) -> NodeInput<'_> {
+    NodeInput {
+        tag,
         attrs: &[],
         states: States::default(),
-    };
-    let style = Attr {
-        name: "style",
-        value: "padding:1px",
-    };
-    let mut list = NodeList::of_root(alloc, html)?;
-    list.push(
-        0,
-        NodeInput {
-            tag: "p",
-            attrs: &[style],
-            states: States::default(),
-        },
-    )?;
+    }
+}
+
+/// `html` over `p`.
+fn pair(alloc: Global) -> Result<Box<Doc>, NoMemory> {
+    let mut list = NodeList::of_root(alloc, node("html"))?;
+    list.push(0, node("p"))?;
     Ok(Box::new(alloc, Doc::of_list(alloc, list)?)?)
 }
 
@@ -42,47 +33,6 @@ fn rules(alloc: Global, text: &str) -> Result<Box<Sheets>, NoMemory> {
         text: Text::of_str(alloc, text)?,
     };
     Ok(Box::new(alloc, Sheets::start(alloc, &[sheet])?)?)
-}
-
-/// The printed values of styles, each with a line feed.
-fn printed(alloc: Global, styles: &[Arc<Style>]) -> Result<Text, NoMemory> {
-    let mut text = Text::new(alloc);
-    for style in styles {
-        text.push_str(style.text())?;
-        text.push_str("\n")?;
-    }
-    Ok(text)
-}
-
-/// The printed values of each element.
-fn styled(alloc: Global, doc: &Doc, sheets: &Sheets) -> Result<Text, NoMemory> {
-    let styles = style_all(alloc, doc, sheets)?;
-    printed(alloc, &styles)
-}
-
-/// The same by one author sheet.
-fn styled_by(alloc: Global, doc: &Doc, sheet: &str) -> Result<Text, NoMemory> {
-    let sheets = rules(alloc, sheet)?;
-    styled(alloc, doc, &sheets)
-}
-
-/// The printed values of `html` and of `p` in it.
-fn texts(alloc: Global, sheet: &str) -> Result<Text, NoMemory> {
-    let doc = pair(alloc)?;
-    styled_by(alloc, &doc, sheet)
-}
-
-/// What `rem` stands for is the font size of the root, and at its own font size the initial one.
-#[test]
-fn root_size(rt: HostRuntime) -> Result<(), Fail> {
-    let text = texts(rt.alloc(), "html{font-size:2rem}p{padding:2rem;width:2rem}")?;
-    assert_eq!(rt;
-        text.as_str(),
-        "display: block; font-size: 32px\n\
-         width: 64px; padding-top: 1px; padding-right: 1px; padding-bottom: 1px; padding-left: 1px; \
-         font-size: 32px\n"
-    );
-    Ok(())
 }
 
 /// What matches `html`: the places among the declarations of the sheet.

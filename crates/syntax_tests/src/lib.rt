@@ -10,6 +10,4 @@ mod rules;
 #[cfg(test)]
 mod tokenizing;
 #[cfg(test)]
-mod values;
-#[cfg(test)]
 mod writer;
