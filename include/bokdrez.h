@@ -137,12 +137,13 @@ uint32_t bokdrez_style(bokdrez_session *session, uint64_t node, uint8_t *buffer,
  * DONE, NO_MEMORY, NO_SESSION, NO_ROOM, STALE. */
 uint32_t bokdrez_text(bokdrez_session *session, uint8_t *buffer, size_t room, uint64_t *needed);
 
-/* Copies the numbers of the elements that the last restyle cascaded, each once, in any order: none before the first.
- * Numbers of elements that were removed since may be among them.
+/* Copies the numbers of the elements that the last restyle cascaded, each once, in tree order as it was then: none before
+ * the first. One that was removed since stays on the list.
  * DONE, NO_SESSION, NO_ROOM. `room` and `needed` count numbers. */
 uint32_t bokdrez_changed(bokdrez_session *session, uint32_t *numbers, size_t room, uint64_t *needed);
 
-/* Gives back all that the session has. Nothing happens where there is none. */
+/* Gives back all that the session has. Nothing happens where there is none. That all memory is given back is tried by
+ * checks/c_interface, not proved. */
 void bokdrez_close(bokdrez_session *session);
 
 #ifdef __cplusplus

@@ -14,6 +14,7 @@ mod edit;
 mod edit_items;
 mod generating;
 mod kept_nodes;
+pub mod laws;
 mod limits;
 mod name;
 mod new_nodes;

@@ -1,6 +1,7 @@
 //! What is printed for a batch, for a refused edit and for an element, each line with its line feed.
 
 ghost use Rattle.std.specs.Prelude.{◌≡◌, ◌≢◌, ◌++◌, IfOk, OnOk, codes, decimal, true};
+ghost use Rattle.std.specs.Io.{StartsWith};
 ghost use Rattle.std.specs.Str.{chars};
 ghost use Rattle.stylo_base.specs.Ascii.{is_all_ascii};
 ghost use Rattle.stylo_base.specs.KindName.{name_of};
@@ -79,10 +80,12 @@ pub fn refused_line(alloc: Global, place: u64, why: &EditRefused) -> Result<Text
     Ok(line)
 }
 
-/// Appends the line of a refused edit to `line`. Out of memory, it may hold a part of the line.
+/// Appends the line of a refused edit to `line`. Out of memory, it begins with what it held, and a part of the line
+/// may stand behind that.
 pub fn push_refused_line(line: &mut Text, place: u64, why: &EditRefused) -> Result<(), NoMemory>
     requires { why.now ≢ EditRefused.NoMemory }
-    ensures { OnOk result (line.new ≡ line.old ++ refused_line place why.now) }
+    ensures ok { OnOk result (line.new ≡ line.old ++ refused_line place why.now) }
+    ensures begins { StartsWith line.new line.old }
 {
     push_count(line, "refused ", place)?;
     push_refusal(line, why)?;
@@ -92,7 +95,8 @@ pub fn push_refused_line(line: &mut Text, place: u64, why: &EditRefused) -> Resu
 /// Appends why an edit is refused, behind a colon.
 fn push_refusal(line: &mut Text, why: &EditRefused) -> Result<(), NoMemory>
     requires { why.now ≢ EditRefused.NoMemory }
-    ensures { OnOk result (line.new ≡ line.old ++ (codes ": " ++ refusal_text why.now)) }
+    ensures ok { OnOk result (line.new ≡ line.old ++ (codes ": " ++ refusal_text why.now)) }
+    ensures begins { StartsWith line.new line.old }
 {
     match why {
         EditRefused::UnknownNode(number) => push_count(line, ": unknown node ", *number),
@@ -105,7 +109,8 @@ fn push_refusal(line: &mut Text, why: &EditRefused) -> Result<(), NoMemory>
 
 /// Appends the kind of a limit and its number, behind a colon.
 fn push_limit(line: &mut Text, kind: Kind, most: u64) -> Result<(), NoMemory>
-    ensures { OnOk result (line.new ≡ line.old ++ (codes ": limit " ++ (name_of kind ++ (codes " " ++ decimal most)))) }
+    ensures ok { OnOk result (line.new ≡ line.old ++ (codes ": limit " ++ (name_of kind ++ (codes " " ++ decimal most)))) }
+    ensures begins { StartsWith line.new line.old }
 {
     line.push_str(": limit ")?;
     line.push_str(kind.name())?;
@@ -123,14 +128,16 @@ pub fn element_line(alloc: Global, number: u32, tag: &str, style: &Style) -> Res
 }
 
 /// Appends the line of an element to `line`. A text that is cleared and used again takes no memory
-/// for a line that is no longer than those before. Out of memory, it may hold a part of the line.
+/// for a line that is no longer than those before. Out of memory, it begins with what it held, and a
+/// part of the line may stand behind that.
 pub fn push_element_line(
     line: &mut Text,
     number: u32,
     tag: &str,
     style: &Style,
 ) -> Result<(), NoMemory>
-    ensures { OnOk result (line.new ≡ line.old ++ element_line number (chars tag.now) style.now) }
+    ensures ok { OnOk result (line.new ≡ line.old ++ element_line number (chars tag.now) style.now) }
+    ensures begins { StartsWith line.new line.old }
 {
     line.push_number(u64::from(number))?;
     line.push_str(" ")?;
@@ -143,7 +150,8 @@ pub fn push_element_line(
 /// Appends the properties whose value is not the standing one, and the custom ones, to the line. Their
 /// texts are kept with the style.
 fn push_declarations(line: &mut Text, style: &Style) -> Result<(), NoMemory>
-    ensures { OnOk result (line.new ≡ line.old ++ printed_declarations style.now) }
+    ensures ok { OnOk result (line.new ≡ line.old ++ printed_declarations style.now) }
+    ensures begins { StartsWith line.new line.old }
 {
     let own = style.text();
     let custom = style.custom().text();
@@ -171,7 +179,8 @@ pub(crate) fn separator(before: &str, after: &str) -> &'static str
 #[inline]
 fn push_count(line: &mut Text, before: &str, count: u64) -> Result<(), NoMemory>
     requires { is_all_ascii before.now ≡ true }
-    ensures { OnOk result (line.new ≡ line.old ++ (before.now ++ decimal count)) }
+    ensures ok { OnOk result (line.new ≡ line.old ++ (before.now ++ decimal count)) }
+    ensures begins { StartsWith line.new line.old }
 {
     line.push_str(before)?;
     line.push_number(count)

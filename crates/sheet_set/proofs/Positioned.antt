@@ -1,17 +1,17 @@
 -- Rules that are given the positions of their sheets.
-use Rattle.std.proofs.Common.{◌≡◌, ℕ, zero, suc, ◌+◌, ◌<◌, List, [], ◌∷◌, ◌++◌, length, map, drop, get_or, replicate, true, false, Bool, cond, refl, sym, ap, ◌∙◌, arith, append_assoc, length-append}
+use Rattle.std.proofs.Common.{◌≡◌, ℕ, zero, suc, ◌+◌, ◌<◌, List, [], ◌∷◌, ◌++◌, length, map, drop, get_or, replicate, true, false, Bool, cond, refl, sym, ap, subst, ◌∙◌, arith, append_assoc, length-append}
 use Rattle.std.specs.Prelude.{Vec}
 use Rattle.std.specs.declared.alloc.Global.{Global}
 use Rattle.std.proofs.lemmas.Bool.{cond-true, cond-false}
 use Rattle.std.proofs.lemmas.List.{length-replicate}
 use Rattle.base_model.specs.Sheet.{Sheet}
 use Rattle.sheet_model.specs.StyleRules.{style_rules_in}
-use Rattle.sheet_model.specs.Sources.{PlacedRule, edition_of, enabled_among, rules_from}
+use Rattle.sheet_model.specs.Sources.{PlacedRule, edition_of, enabled_among, rules_from, rules_of_sheets}
 use Rattle.sheet_set.specs.declared.sheet_rule.SheetRule.{SheetRule}
 use Rattle.sheet_set.specs.declared.kept_sheet.KeptSheet.{KeptSheet}
 use Rattle.selector_types.specs.declared.selector.Selector.{Selector}
 use Rattle.sheet_set.specs.Kept.{kept_seen, taking}
-use Rattle.sheet_set.specs.Positions.{positions_from}
+use Rattle.sheet_set.specs.Positions.{AreRulesOf, positions_from}
 use Rattle.sheet_set.specs.Rules.{AreSame, placed_at, put_at, rules_at, rules_with}
 use Rattle.sheet_set.proofs.Left.{item_at}
 use Rattle.sheet_set.proofs.MovedRules.{total-least, total-within}
@@ -87,3 +87,9 @@ module _ (sheets : List KeptSheet) (i : ℕ) (kept : KeptSheet) (below : i < len
       let rest : List KeptSheet = drop (i + 1) sheets in
       ap (λ l. old ++ l) (sym (cond-false kept.enabled (its ++ positions_from (position + 1) rest) (positions_from position rest) off))
       ∙ ap (λ l. old ++ positions_from position l) (sym (item_at sheets i kept below is))
+
+-- and so they are the rules of the sheets
+pub rules-of : (positions : List ℕ) (sheets : List KeptSheet) (rules : List SheetRule) (lists : List (Vec Selector Global)) → positions ≡ positions_from 0 sheets
+    → AreSame (placed_at positions (rules_with rules lists)) (rules_of_sheets (map kept_seen sheets)) → AreRulesOf sheets rules lists
+rules-of positions sheets rules lists are texts =
+    subst (λ ps. AreSame (placed_at ps (rules_with rules lists)) (rules_of_sheets (map kept_seen sheets))) are texts

@@ -5,7 +5,7 @@ ghost use Rattle.base_model.specs.Limits.{number_limit, sheet_limit};
 ghost use Rattle.edit_model.specs.SheetApply.{AreNumbered};
 ghost use Rattle.sheet_model.specs.Sources.{layers_of_sheets, rules_of_sheets};
 ghost use Rattle.sheet_set.specs.Kept.{kept_seen, taking};
-ghost use Rattle.sheet_set.specs.Positions.{positions_from};
+ghost use Rattle.sheet_set.specs.Positions.{AreRulesOf, positions_from};
 ghost use Rattle.sheet_set.specs.Ranks.{rank_seen};
 ghost use Rattle.sheet_set.specs.Rules.{AreSame, placed_at, rules_with};
 
@@ -36,6 +36,7 @@ pub struct Sheets {
     ghost paired: { vec_len rules ≡ vec_len selectors },
     ghost ranked: { ranks.items ≡ map (rank_seen layers) rules.items },
     ghost placed: { vec_len positions ≡ vec_len rules },
+    ghost positioned: { positions.items ≡ positions_from 0 sheets.items },
     ghost of_texts: { AreSame (placed_at positions.items (rules_with rules.items selectors.items))
         (rules_of_sheets (map kept_seen sheets.items)) },
     ghost layered: { layers ≡ layers_of_sheets (map kept_seen sheets.items) },
@@ -134,9 +135,10 @@ impl Sheets {
         &self.sheets
     }
 
-    /// The rules, in order.
+    /// The rules of the enabled sheets, in their order.
     pub fn rules(&self) -> &[SheetRule]
-        ensures { result.now ≡ self.now.rules.items }
+        ensures list { result.now ≡ self.now.rules.items }
+        ensures of_sheets { AreRulesOf self.now.sheets.items result.now self.now.selectors.items }
     {
         &self.rules
     }
@@ -145,6 +147,7 @@ impl Sheets {
     pub fn selectors(&self) -> &[Vec<Selector>]
         ensures list { result.now ≡ self.now.selectors.items }
         ensures paired { length result.now ≡ length self.now.rules.items }
+        ensures of_sheets { AreRulesOf self.now.sheets.items self.now.rules.items result.now }
     {
         &self.selectors
     }
@@ -161,13 +164,15 @@ impl Sheets {
     pub fn positions(&self) -> &[u32]
         ensures list { result.now ≡ self.now.positions.items }
         ensures paired { length result.now ≡ length self.now.rules.items }
+        ensures of_sheets { result.now ≡ positions_from 0 self.now.sheets.items }
     {
         &self.positions
     }
 
-    /// The cascade layers.
+    /// The cascade layers of the enabled sheets.
     pub fn layers(&self) -> &Layers
-        ensures { result.now ≡ self.now.layers }
+        ensures layers { result.now ≡ self.now.layers }
+        ensures of_sheets { result.now ≡ layers_of_sheets (map kept_seen self.now.sheets.items) }
     {
         &self.layers
     }

@@ -1,12 +1,11 @@
 -- What a call tells C: its status, why a job or an edit is refused, bytes for a buffer, and what the handle has then.
 use Rattle.std.specs.Prelude.{◌≡◌, ℕ, ◌==◌, ◌≤◌, nat_le, nat_lt, ◌⊎◌, ◌&&◌, List, [], length, take, encode_utf8_all, if◌then◌else◌}
-use Rattle.std.specs.Prelude.{nat_eq, not, true, false, Bool, Option, Some, None, Result, Ok, Err}
+use Rattle.std.specs.Prelude.{not, true, false, Bool, Option, Some, None, Result, Ok, Err}
 use Rattle.std.specs.Str.{chars, is_utf8}
 use Rattle.base_model.specs.Limits.{input_limit}
-use Rattle.std.specs.List.{IsDistinct, list_any}
+use Rattle.std.specs.List.{list_any}
 use Rattle.base_model.specs.Text.{Characters}
-use Rattle.scene_model.specs.Lookups.{IsElement, is_element, numbers}
-use Rattle.scene_model.specs.Numbers.{is_in}
+use Rattle.scene_model.specs.Lookups.{is_element, numbers}
 use Rattle.sheet_model.specs.Sources.{sources_of}
 use Rattle.report_text.specs.Elements.{elements_bytes, line_bytes}
 use Rattle.stylo_base.specs.declared.refusal.Kind.{Kind}
@@ -198,15 +197,10 @@ abbrev pub IsTextOf : Standing → Option Characters → Type 0
 IsTextOf st None = is_any_open st ≡ true
 IsTextOf st (Some text) = (is_any_open st ≡ false) × (encode_utf8_all text ≡ elements_bytes st.scene)
 
--- The elements that the last restyle cascaded, each once in a list, in any order. What is on it beside these was
--- removed since.
-pub record AreRecent (st : Standing) (list : List ℕ) : Type 0 where
-  pub same : (x : ℕ) → IsElement (elements_of st.scene) x → is_in x list ≡ is_in x st.recent
-  pub once : IsDistinct nat_eq list
-
+-- the numbers of the elements that the last restyle cascaded, for a buffer of so much room
 abbrev pub AreChanged : Option Standing → ℕ → ℕ → List ℕ → ℕ → Type 0
 AreChanged None status room buffer needed = (status ≡ 9) × (needed ≡ 0)
 AreChanged (Some st) status room buffer needed =
-    (list : List ℕ) × (AreRecent st list × ((needed ≡ length list)
-    × ((status ≡ (if nat_le (length list) room then 0 else 10))
-    × (length list ≤ room → take (length list) buffer ≡ list))))
+    (needed ≡ length st.recent)
+    × ((status ≡ (if nat_le (length st.recent) room then 0 else 10))
+    × (length st.recent ≤ room → take (length st.recent) buffer ≡ st.recent))

@@ -52,8 +52,8 @@ pub extern "C" fn bokdrez_text(
     status
 }
 
-/// Copies the numbers of the elements that the last restyle cascaded, in any order. Numbers of elements that were
-/// removed since may be among them.
+/// Copies the numbers of the elements that the last restyle cascaded, in tree order as it was then. One that was
+/// removed since stays on the list.
 #[unsafe(no_mangle)]
 pub extern "C" fn bokdrez_changed(
     alloc: Global,

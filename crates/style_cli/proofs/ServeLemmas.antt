@@ -26,11 +26,7 @@ use Rattle.session_model.proofs.ListedLemmas.{among-numbers, listed-other}
 use Rattle.session_model.proofs.RestyleLemmas.{kept-others}
 use Rattle.report_text.specs.Lines.{element_line}
 use Rattle.report_text.proofs.AppendLemmas.{alone}
-use Rattle.sheet_model.specs.Sources.{sources_of}
-use Rattle.report_text.specs.Elements.{line_bytes, lines_bytes}
-use Rattle.style_lines.specs.KeptLines.{kept_line, kept_run}
-use Rattle.style_cli.specs.Printing.{IsSettled, Serves, ServesAs}
-use Rattle.style_cli.proofs.SettledLemmas.{kept-settled}
+use Rattle.style_cli.specs.Printing.{ServesAs}
 
 -- what is kept is of elements
 
@@ -113,7 +109,7 @@ weaker_one (Some a) old one left is = subst (λ o. IsOne o one) left is
 no_one : {A : Type 0} (o : Option A) (one : A) → o ≡ None → IsOne o one
 no_one o one none = subst (λ p. IsOne p one) (sym none) tt
 
-pub serves-restyled : {A : Type 0} (told : List ℕ → A) (st : Standing) → IsReached st → (kept left : ℕ → Option A) (listed : List ℕ) → ServesAs told st kept → ((x : ℕ) → IsElement (elements_of st.scene) x → is_in x listed ≡ is_in x (restyled st).recent) → ((x : ℕ) → is_in x listed ≡ true → left x ≡ None) → ((x : ℕ) → IfSome (left x) (λ one. kept x ≡ Some one)) → ServesAs told (restyled st) left
+pub serves-restyled : {A : Type 0} (told : List ℕ → A) (st : Standing) → IsReached st → (kept left : ℕ → Option A) (listed : List ℕ) → ServesAs told st kept → listed ≡ (restyled st).recent → ((x : ℕ) → is_in x listed ≡ true → left x ≡ None) → ((x : ℕ) → IfSome (left x) (λ one. kept x ≡ Some one)) → ServesAs told (restyled st) left
 serves-restyled told st reached kept left listed serves recent gone stays = λ x style is.
     let there = kept_there (restyled st) (by_restyle st reached) x style is in
     by x style is there (is_in x listed) refl
@@ -121,15 +117,15 @@ serves-restyled told st reached kept left listed serves recent gone stays = λ x
     by : (x : ℕ) (style : Style) → kept_at (restyled st) x ≡ Some style → IsElement (elements_of st.scene) x → (b : Bool) → is_in x listed ≡ b → IsOne (left x) (told (bytes_with x (tag_of (elements_of st.scene) x) style))
     by x style is there true e = no_one (left x) (told (bytes_with x (tag_of (elements_of st.scene) x) style)) (gone x e)
     by x style is there false e =
-        let not_cascaded : is_cascaded st x ≡ false = sym (among-numbers (elements_of st.scene) (is_cascaded st) x there) ∙ (sym (recent x there) ∙ e) in
+        let not_cascaded : is_cascaded st x ≡ false = sym (among-numbers (elements_of st.scene) (is_cascaded st) x there) ∙ (ap (is_in x) (sym recent) ∙ e) in
         let before : kept_at st x ≡ Some style = sym (kept-others st (sound-reached st reached) (keeps-reached st reached) x there not_cascaded) ∙ is in
         weaker_one (left x) (kept x) (told (bytes_with x (tag_of (elements_of st.scene) x) style)) (stays x) (serves x style before)
 
 -- a batch and its restyle
-pub serves-batch : {A : Type 0} (told : List ℕ → A) (st now : Standing) → IsReached st → (edits : List Edit) → AllByRecursion IsShapedEdit edits → now ≡ restyled (edited_all st edits) → (kept left : ℕ → Option A) (listed : List ℕ) → ServesAs told st kept → ((x : ℕ) → IsElement (elements_of now.scene) x → is_in x listed ≡ is_in x now.recent) → ((x : ℕ) → is_in x listed ≡ true → left x ≡ None) → ((x : ℕ) → IfSome (left x) (λ one. kept x ≡ Some one)) → ServesAs told now left
+pub serves-batch : {A : Type 0} (told : List ℕ → A) (st now : Standing) → IsReached st → (edits : List Edit) → AllByRecursion IsShapedEdit edits → now ≡ restyled (edited_all st edits) → (kept left : ℕ → Option A) (listed : List ℕ) → ServesAs told st kept → listed ≡ now.recent → ((x : ℕ) → is_in x listed ≡ true → left x ≡ None) → ((x : ℕ) → IfSome (left x) (λ one. kept x ≡ Some one)) → ServesAs told now left
 serves-batch told st now reached edits w is kept left listed serves recent gone stays =
     let after = edited_all st edits in
-    let same = subst (λ (s : Standing). (x : ℕ) → IsElement (elements_of s.scene) x → is_in x listed ≡ is_in x s.recent) is recent in
+    let same = recent ∙ ap (λ (s : Standing). s.recent) is in
     subst (λ s. ServesAs told s left) (sym is) (serves-restyled told after (edited_all-reached st edits reached w) kept left listed (serves-edited told st reached edits w kept serves) same gone stays)
 
 -- a line is made
@@ -159,18 +155,3 @@ serves-kept told st old new n own one serves kept made is others = λ x style at
 pub kept_one : {A : Type 0} (told : List ℕ → A) (st : Standing) (kept : ℕ → Option A) (x : ℕ) (style : Style) (one : A) → ServesAs told st kept → kept_at st x ≡ Some style → kept x ≡ Some one → one ≡ told (encode_utf8_all (element_line x (tag_of (elements_of st.scene) x) style))
 kept_one told st kept x style one serves at is =
     subst (λ o. IsOne o (told (bytes_with x (tag_of (elements_of st.scene) x) style))) is (serves x style at)
-
--- and a run of lines is those of its elements
-pub run_bytes : (st : Standing) (lines : List (Option (List ℕ))) (xs run : List ℕ) → IsSettled st → IsSound st.scene.document → Serves st lines → AllByRecursion (IsElement (elements_of st.scene)) xs
-    → kept_run lines xs ≡ Some run → run ≡ lines_bytes st.scene xs
-run_bytes st lines [] run settled sound serves all is = cc
-run_bytes st lines (x ∷ xs) run settled sound serves all is =
-    by (kept_line lines x) (kept_run lines xs) refl refl (λ rest f. run_bytes st lines xs rest settled sound serves all.1 f)
-  where
-    by : (o p : Option (List ℕ)) → kept_line lines x ≡ o → kept_run lines xs ≡ p → ((rest : List ℕ) → kept_run lines xs ≡ Some rest → rest ≡ lines_bytes st.scene xs) → run ≡ lines_bytes st.scene (x ∷ xs)
-    by None p e f others = absurd (cc)
-    by (Some line) None e f others = absurd (cc)
-    by (Some line) (Some rest) e f others =
-        let own = kept_one (λ l. l) st (kept_line lines) x (style_in st.scene x) line serves (kept-settled st settled sound x all.0) e in
-        let whole : line ++ rest ≡ run = cc in
-        sym whole ∙ (ap (λ l. l ++ rest) own ∙ ap (λ l. line_bytes (elements_of st.scene) (sources_of st.scene.sheets) x ++ l) (others rest f))

@@ -106,8 +106,6 @@ fn edit_one(
         ++ map answered (onto_refused place (scene_applied session.old.scene (edit_seen edit.now)) [])) }
     ensures shaped { IsShapedEdit (edit_seen edit.now) }
 {
-    // The count is not asked: the call tells that new nodes are a list.
-    let _count = new_count(edit);
     match session.edit(alloc, edit) {
         Ok(()) => Ok(()),
         Err(EditRefused::NoMemory) => Err(NoMemory),
@@ -115,16 +113,6 @@ fn edit_one(
             refused.push(RefusedEdit { place, why })?;
             Ok(())
         }
-    }
-}
-
-/// How many nodes an edit puts in. Those that are not kept don't count.
-fn new_count(edit: &Edit) -> usize
-    ensures { IsShapedEdit (edit_seen edit.now) }
-{
-    match edit {
-        Edit::Document(edit) => edit.new_count(),
-        Edit::Sheets(_) => 0,
     }
 }
 

@@ -34,8 +34,6 @@ pub(crate) fn session_of(
 {
     let rules = rules_of(alloc, sheets)?;
     let doc = grown(alloc, nodes)?;
-    // The order is not asked: the call tells that the document is sound.
-    let _order = doc.in_tree_order();
     Session::of_parts(alloc, doc, rules, workers, share)
 }
 

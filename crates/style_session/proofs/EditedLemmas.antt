@@ -1,6 +1,5 @@
 -- An accepted edit of a document: what it makes of the standing of a session.
-use Rattle.std.proofs.Common.{◌≡◌, ℕ, ◌<◌, ◌≤◌, List, filter, filter_map, Bool, true, false, ◌||◌, Option, Some, None, refl, sym, ap, subst, ◌∙◌, arith}
-use Rattle.std.specs.List.{range_with_len}
+use Rattle.std.proofs.Common.{◌≡◌, ℕ, ◌<◌, ◌≤◌, List, filter, Bool, true, false, ◌||◌, Option, Some, None, refl, sym, ap, subst, ◌∙◌, arith}
 use Rattle.std.proofs.lemmas.Bool.{false≢true, or_right}
 use Rattle.base_model.proofs.Lists.{each_any}
 use Rattle.scene_model.specs.Lookups.{numbers, is_element, IsElement}
@@ -17,7 +16,7 @@ use Rattle.edit_model.specs.Apply.{after, applied, is_fresh, refusal}
 use Rattle.edit_model.specs.Marked.{is_marked}
 use Rattle.edit_model.proofs.Accepted.{fresh-after, of_move}
 use Rattle.session_model.specs.Marking.{marking_selectors}
-use Rattle.session_model.specs.Standing.{Scene, Standing, change_of, changed, scene_applied, with_document, edited_by, edited}
+use Rattle.session_model.specs.Standing.{Scene, change_of, changed, scene_applied, with_document, edited_by, edited}
 use Rattle.session_model.specs.StandingInvariant.{AllKeep}
 use Rattle.session_model.specs.Walk.{placed_styles}
 use Rattle.session_model.proofs.EditLemmas.{covered-edit, sound-edit}
@@ -25,7 +24,6 @@ use Rattle.session_model.proofs.FlagLemmas.{flags-changed}
 use Rattle.session_model.proofs.KeepsLemmas.{keep-changed}
 use Rattle.session_model.proofs.ListedLemmas.{among-numbers}
 use Rattle.session_model.proofs.SlotLemmas.{placed-changed}
-use Rattle.invalidation_map.proofs.SetLemmas.{or_no}
 use Rattle.style_session.specs.SessionView.{elements_in}
 use Rattle.style_session.specs.Sessions.{AreGiven}
 use Rattle.style_session.proofs.SessionLemmas.{each_element, same_parts, standing_with}
@@ -92,11 +90,6 @@ module _ (old new : Document) (edit : DocEdit) (is : Changes old new edit) where
       filter_same (λ x. is_in x now) (λ x. is_in x list || adds x) (numbers new.elements) (each_any (λ x. is_in x now ≡ (is_in x list || adds x)) grown (numbers new.elements))
       ∙ flags-changed (λ x. is_in x list) adds old.elements new.elements old.last given is.anew
 
-  list_stays : (list : List ℕ) → AreGiven old.last list → elements_in new list ≡ filter (λ x. is_in x (elements_in old list)) (numbers new.elements)
-  list_stays list given =
-      list_grows (λ x. false) list list given (λ x. or_no (is_in x list))
-      ∙ filter_same (λ x. is_in x (elements_in old list) || false) (λ x. is_in x (elements_in old list)) (numbers new.elements) (each_any (λ x. (is_in x (elements_in old list) || false) ≡ is_in x (elements_in old list)) (λ x. sym (or_no (is_in x (elements_in old list)))) (numbers new.elements))
-
   abbrev AreFreshNow : (ℕ → Bool) → (ℕ → Bool) → Type 0
   AreFreshNow fresh now = (x : ℕ) → IsElement new.elements x → now x ≡ (fresh x || is_fresh old edit x)
 
@@ -132,12 +125,12 @@ module _ (scene : Scene) (new : Document) (edit : DocEdit) (w : IsShaped edit) (
   pub sound-edited : IsSound new
   sound-edited = sound-edit scene sound (of_document edit) w later scene_accepted
 
-  module _ (marks now recent : List ℕ) (fresh fresh_now : ℕ → Bool) (slot : ℕ → Option Style) (marks_given : AreGiven old.last marks) (recent_given : AreGiven old.last recent) (none : (x : ℕ) → old.last < x → slot x ≡ None) (marked : (x : ℕ) → is_in x now ≡ (is_in x marks || is_marked old.elements new.elements (marking_selectors scene.sheets) x)) (freshened : (x : ℕ) → IsElement new.elements x → fresh_now x ≡ (fresh x || is_fresh old edit x)) where
+  module _ (marks now recent : List ℕ) (fresh fresh_now : ℕ → Bool) (slot : ℕ → Option Style) (marks_given : AreGiven old.last marks) (none : (x : ℕ) → old.last < x → slot x ≡ None) (marked : (x : ℕ) → is_in x now ≡ (is_in x marks || is_marked old.elements new.elements (marking_selectors scene.sheets) x)) (freshened : (x : ℕ) → IsElement new.elements x → fresh_now x ≡ (fresh x || is_fresh old edit x)) where
     changed_with : standing_with later now fresh_now slot recent ≡ changed (standing_with scene marks fresh slot recent) (change_of scene (of_document edit) later)
     changed_with =
         same_parts later _ _ _ _ _ _ _ _
         (list_grows old new edit is (is_marked old.elements new.elements (marking_selectors scene.sheets)) marks now marks_given marked)
-        (fresh_grows old new edit is fresh fresh_now freshened) (kept_stays old new edit is slot none) (list_stays old new edit is recent recent_given)
+        (fresh_grows old new edit is fresh fresh_now freshened) (kept_stays old new edit is slot none) refl
 
     pub edited-with : standing_with later now fresh_now slot recent ≡ edited (standing_with scene marks fresh slot recent) (of_document edit)
     edited-with =

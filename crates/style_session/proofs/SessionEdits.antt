@@ -1,5 +1,5 @@
 -- Edits of the document of a session.
-use Rattle.std.proofs.Common.{◌≡◌, ℕ, ◌<◌, ◌≤◌, List, [], map, length, Bool, true, false, Option, Some, None, ◌||◌, ◌&&◌, Result, Ok, Err, OnOk, OnErr, refl, sym, ap, subst, ◌∙◌, option_map, unwrap_or, arith}
+use Rattle.std.proofs.Common.{◌≡◌, ℕ, ◌<◌, List, map, length, Bool, true, false, Option, Some, None, ◌||◌, ◌&&◌, Result, Ok, Err, OnOk, OnErr, refl, sym, ap, subst, ◌∙◌, option_map, unwrap_or, arith}
 use Rattle.std.specs.Prelude.{IfErr, IfSome}
 use Rattle.std.specs.declared.sync.Arc.{Arc}
 use Rattle.std.proofs.Math.Bool.{or_assoc}
@@ -144,11 +144,11 @@ module _ {A : Type 0} (old new : Document) (sheets : Sheets) (prepared : Option 
 
   pub edited-seen : standing_seen new sheets now.items (is_fresh_in later) kept recent ≡ edited (standing_seen old sheets marks.items (is_fresh_in fresh) kept recent) (of_document edit)
   edited-seen =
-      edited-with (scene_seen old sheets) new edit w was.sound h marks.items now.items recent (is_fresh_in fresh) (is_fresh_in later) (slot_at kept) was.marks_given was.recent_given none_above (marked-now old new sheets marks.items now.items marked) fresh_now
+      edited-with (scene_seen old sheets) new edit w was.sound h marks.items now.items recent (is_fresh_in fresh) (is_fresh_in later) (slot_at kept) was.marks_given none_above (marked-now old new sheets marks.items now.items marked) fresh_now
 
   keeps : AllKeep (standing_seen new sheets now.items (is_fresh_in later) kept recent)
   keeps =
-      keeps-edited (scene_seen old sheets) new edit w was.sound h marks.items now.items recent (is_fresh_in fresh) (is_fresh_in later) (slot_at kept) was.marks_given was.recent_given none_above (marked-now old new sheets marks.items now.items marked) fresh_now was.keeps
+      keeps-edited (scene_seen old sheets) new edit w was.sound h marks.items now.items recent (is_fresh_in fresh) (is_fresh_in later) (slot_at kept) was.marks_given none_above (marked-now old new sheets marks.items now.items marked) fresh_now was.keeps
 
   -- an element that is not fresh now was one before, and not fresh
   places : (x : ℕ) → IsElement new.elements x → is_fresh_in later x ≡ false → x < length kept
@@ -189,7 +189,6 @@ module _ {A : Type 0} (old new : Document) (sheets : Sheets) (prepared : Option 
       can_mark = can;
       places = places;
       marks_given = marks_given;
-      recent_given = given_still recent was.recent_given;
       gone_given = gone_given;
       absent = absent;
       keeps = keeps;
@@ -220,7 +219,6 @@ module _ {A : Type 0} (old : Document) (sheets : Sheets) (prepared : Option Prep
         can_mark = subst (λ (d : Document). IfSome marking_later (CanMark d (sources_seen sheets) now)) same can;
         places = λ x there calm. was.places x there (ap (λ (f : ℕ → Bool). f x) (same_fresh fresh later still) ∙ calm);
         marks_given = subst (AreGiven old.last) (sym marks_same) was.marks_given;
-        recent_given = was.recent_given;
         gone_given = λ x above. false_from_ne_true (is_in x left) (λ there. false≢true (sym (no-element old was.sound x above) ∙ too.of_old x there (was.gone_given x above)));
         absent = λ x out here. was.absent x out (false_from_ne_true (is_in x gone) (λ before. false≢true (sym here ∙ too.stays x before)));
         keeps = subst AllKeep (sym refused-same) was.keeps;
@@ -230,7 +228,7 @@ module _ {A : Type 0} (old : Document) (sheets : Sheets) (prepared : Option Prep
 
 -- an edit of the code, done or not
 
-pub edit-seen : {A T E : Type 0} (result : Result T E) (old new : Document) (sheets : Sheets) (prepared : Option Prepared) (marking : Option Marking) (marks now : Members) (fresh later : Fresh) (gone left : List ℕ) (kept : List (Option (Arc Style A))) (recent : List ℕ) (cache : StyleCache) (edit : DocEdit) → IsSession old sheets prepared marking marks fresh gone kept recent cache → OnOk result (IsShaped (doc_edit_seen edit)) → OnOk result (applied old (doc_edit_seen edit) ≡ accepted new) → OnOk result (AreMarkedToo old.elements new.elements (sources_seen sheets) marks.items now.items) → OnOk result (AreFreshToo old new (doc_edit_seen edit) fresh later) → OnOk result (standing_seen new sheets now.items (is_fresh_in later) kept recent ≡ edited (standing_seen old sheets marks.items (is_fresh_in fresh) kept recent) (of_document (doc_edit_seen edit)))
+pub edit-seen : {A T E : Type 0} (result : Result T E) (old new : Document) (sheets : Sheets) (prepared : Option Prepared) (marking : Option Marking) (marks now : Members) (fresh later : Fresh) (gone left : List ℕ) (kept : List (Option (Arc Style A))) (recent : List ℕ) (cache : StyleCache) (edit : DocEdit) → IsSession old sheets prepared marking marks fresh gone kept recent cache → IsShaped (doc_edit_seen edit) → OnOk result (applied old (doc_edit_seen edit) ≡ accepted new) → OnOk result (AreMarkedToo old.elements new.elements (sources_seen sheets) marks.items now.items) → OnOk result (AreFreshToo old new (doc_edit_seen edit) fresh later) → OnOk result (standing_seen new sheets now.items (is_fresh_in later) kept recent ≡ edited (standing_seen old sheets marks.items (is_fresh_in fresh) kept recent) (of_document (doc_edit_seen edit)))
 edit-seen (Ok x) old new sheets prepared marking marks now fresh later gone left kept recent cache edit was w h marked freshened =
     edited-seen old new sheets prepared marking marks now fresh later gone left kept recent cache (doc_edit_seen edit) w was h marked freshened
 edit-seen (Err e) old new sheets prepared marking marks now fresh later gone left kept recent cache edit was w h marked freshened = tt
@@ -241,7 +239,7 @@ edit-refused (Err e) old new sheets prepared marking marks now fresh later gone 
     ap (λ (d : Document). standing_seen d sheets now.items (is_fresh_in later) kept recent) same
     ∙ refused-same old sheets prepared marking marks now fresh later gone gone kept recent cache was marks_same still
 
-pub edit-session : {A T E : Type 0} (result : Result T E) (old new : Document) (sheets : Sheets) (prepared : Option Prepared) (marking later : Option Marking) (marks now : Members) (fresh fresh_later : Fresh) (gone left : List ℕ) (kept : List (Option (Arc Style A))) (recent : List ℕ) (cache : StyleCache) (edit : DocEdit) → IsSession old sheets prepared marking marks fresh gone kept recent cache → OnOk result (IsShaped (doc_edit_seen edit)) → OnOk result (applied old (doc_edit_seen edit) ≡ accepted new) → OnOk result (AreMarkedToo old.elements new.elements (sources_seen sheets) marks.items now.items) → OnOk result (AreFreshToo old new (doc_edit_seen edit) fresh fresh_later) → OnOk result (AreGoneToo old new gone left) → OnErr result (new ≡ old) → OnErr result (now.items ≡ marks.items) → OnErr result (IsFreshStill fresh fresh_later) → OnErr result (AreGoneToo old old gone left) → IfSome later (CanMark new (sources_seen sheets) now) → IsSession new sheets prepared later now fresh_later left kept recent cache
+pub edit-session : {A T E : Type 0} (result : Result T E) (old new : Document) (sheets : Sheets) (prepared : Option Prepared) (marking later : Option Marking) (marks now : Members) (fresh fresh_later : Fresh) (gone left : List ℕ) (kept : List (Option (Arc Style A))) (recent : List ℕ) (cache : StyleCache) (edit : DocEdit) → IsSession old sheets prepared marking marks fresh gone kept recent cache → IsShaped (doc_edit_seen edit) → OnOk result (applied old (doc_edit_seen edit) ≡ accepted new) → OnOk result (AreMarkedToo old.elements new.elements (sources_seen sheets) marks.items now.items) → OnOk result (AreFreshToo old new (doc_edit_seen edit) fresh fresh_later) → OnOk result (AreGoneToo old new gone left) → OnErr result (new ≡ old) → OnErr result (now.items ≡ marks.items) → OnErr result (IsFreshStill fresh fresh_later) → OnErr result (AreGoneToo old old gone left) → IfSome later (CanMark new (sources_seen sheets) now) → IsSession new sheets prepared later now fresh_later left kept recent cache
 edit-session (Ok x) old new sheets prepared marking later marks now fresh fresh_later gone left kept recent cache edit was w h marked freshened taken _ _ _ _ can =
     session-edited old new sheets prepared marking marks now fresh fresh_later gone left kept recent cache (doc_edit_seen edit) w was h marked freshened taken later can
 edit-session (Err e) old new sheets prepared marking later marks now fresh fresh_later gone left kept recent cache edit was _ _ _ _ _ same marks_same still taken can =

@@ -4,13 +4,12 @@ use Rattle.std.specs.List.{AllByRecursion, IsDistinct, list_any, cons_option}
 use Rattle.std.specs.Option.{option_or}
 use Rattle.base_model.proofs.Lists.{each_any, each-map}
 use Rattle.scene_model.specs.Element.{Element}
-use Rattle.scene_model.specs.Lookups.{numbers, is_element, IsElement}
+use Rattle.scene_model.specs.Lookups.{numbers, IsElement}
 use Rattle.scene_model.specs.Ancestors.{ancestors}
 use Rattle.scene_model.specs.Document.{Document}
 use Rattle.scene_model.specs.Numbers.{is_in}
 use Rattle.scene_model.specs.Valid.{IsValid}
 use Rattle.scene_model.proofs.Climbing.{ancestors_each}
-use Rattle.scene_model.proofs.Found.{is_element-numbers}
 use Rattle.scene_model.proofs.Lists.{each-filter, each_weaker, filter_nothing, filter_same}
 use Rattle.change_model.specs.Sound.{IsSound}
 use Rattle.value_model.specs.Style.{Style}
@@ -34,7 +33,7 @@ standing_with scene marks fresh slot recent =
       marked = elements_in scene.document marks;
       fresh = filter fresh (numbers (elements_of scene));
       kept = placed_styles slot scene.document;
-      recent = elements_in scene.document recent;
+      recent = recent;
     }
 
 pub same_parts : (scene : Scene) (m n f g : List ℕ) (k l : List (ℕ × Style)) (r s : List ℕ) → m ≡ n → f ≡ g → k ≡ l → r ≡ s → ◌≡◌ {A = Standing} (record { scene = scene; marked = m; fresh = f; kept = k; recent = r }) (record { scene = scene; marked = n; fresh = g; kept = l; recent = s })
@@ -72,7 +71,7 @@ no_styles slot h (x ∷ xs) =
 
 pub started-with : (scene : Scene) (marks : List ℕ) (fresh : ℕ → Bool) (slot : ℕ → Option Style) (recent : List ℕ) → marks ≡ [] → ((x : ℕ) → fresh x ≡ true) → ((x : ℕ) → slot x ≡ None) → recent ≡ [] → standing_with scene marks fresh slot recent ≡ started scene
 started-with scene marks fresh slot recent m f h r =
-    same_parts scene _ _ _ _ _ _ _ _ (elements_none scene.document marks m) (all_pass fresh (numbers (elements_of scene)) f) (no_styles slot h (rising scene.document)) (elements_none scene.document recent r)
+    same_parts scene _ _ _ _ _ _ _ _ (elements_none scene.document marks m) (all_pass fresh (numbers (elements_of scene)) f) (no_styles slot h (rising scene.document)) r
 
 -- what was cascaded last is not asked
 pub keeps-lent : (scene : Scene) (marks : List ℕ) (fresh : ℕ → Bool) (slot : ℕ → Option Style) (recent other : List ℕ) → AllKeep (standing_with scene marks fresh slot recent) → AllKeep (standing_with scene marks fresh slot other)
@@ -111,11 +110,9 @@ module _ (scene : Scene) (marks : List ℕ) (fresh : ℕ → Bool) (slot : ℕ �
 
 -- after a restyle nothing is marked or fresh, each element has its style, and those that it cascaded are listed
 module _ (scene : Scene) (none : List ℕ) (calm : ℕ → Bool) (m : none ≡ []) (f : (x : ℕ) → calm x ≡ false) where
-  pub restyled-of : (marks : List ℕ) (fresh : ℕ → Bool) (slot : ℕ → Option Style) (recent : List ℕ) (now : ℕ → Option Style) (list : List ℕ) → ((x : ℕ) → IsElement (elements_of scene) x → now x ≡ Some (style_in scene x)) → ((x : ℕ) → IsElement (elements_of scene) x → is_in x list ≡ is_cascaded (standing_with scene marks fresh slot recent) x) → standing_with scene none calm now list ≡ restyled (standing_with scene marks fresh slot recent)
+  pub restyled-of : (marks : List ℕ) (fresh : ℕ → Bool) (slot : ℕ → Option Style) (recent : List ℕ) (now : ℕ → Option Style) (list : List ℕ) → ((x : ℕ) → IsElement (elements_of scene) x → now x ≡ Some (style_in scene x)) → list ≡ filter (is_cascaded (standing_with scene marks fresh slot recent)) (numbers (elements_of scene)) → standing_with scene none calm now list ≡ restyled (standing_with scene marks fresh slot recent)
   restyled-of marks fresh slot recent now list h k =
-      let st = standing_with scene marks fresh slot recent in
-      same_parts scene _ _ _ _ _ _ _ _ (elements_none scene.document none m) (none_pass calm (numbers (elements_of scene)) f) (placed-styles now scene h)
-      (filter_same (λ x. is_in x list) (is_cascaded st) (numbers (elements_of scene)) (each_element (elements_of scene) (λ x. is_in x list ≡ is_cascaded st x) k))
+      same_parts scene _ _ _ _ _ _ _ _ (elements_none scene.document none m) (none_pass calm (numbers (elements_of scene)) f) (placed-styles now scene h) k
 
 -- a restyle with nothing marked or fresh
 
@@ -131,7 +128,7 @@ module _ (scene : Scene) (marks : List ℕ) (fresh : ℕ → Bool) (slot : ℕ �
   idle-with now list same n =
       restyled-of scene marks fresh m f marks fresh slot recent now list
       (λ x there. same x there ∙ (sym (listed-placed slot scene.document sound x there) ∙ kept-idle calm sound.valid all none_matched x there))
-      (λ x there. ap (is_in x) n ∙ sym (cascaded-idle calm sound.valid all none_matched x there))
+      (n ∙ sym (filter_nothing (is_cascaded calm) (numbers (elements_of scene)) (each_element (elements_of scene) (λ x. is_cascaded calm x ≡ false) (cascaded-idle calm sound.valid all none_matched))))
 
   none_counted : (p : ℕ → Bool) → ((x : ℕ) → IsElement (elements_of scene) x → p x ≡ false) → length (filter p (numbers (elements_of scene))) ≡ 0
   none_counted p h = ap length (filter_nothing p (numbers (elements_of scene)) (each_element (elements_of scene) (λ x. p x ≡ false) h))
@@ -160,14 +157,13 @@ module _ (scene : Scene) (marks : List ℕ) (fresh : ℕ → Bool) (slot : ℕ �
   all_cascaded x there =
       ap (λ b. b || (parent_differs anew x || root_size_differs anew)) (all_matched x there)
 
-  pub first-with : (none : List ℕ) (calm : ℕ → Bool) → none ≡ [] → ((x : ℕ) → calm x ≡ false) → (now : ℕ → Option Style) (list : List ℕ) → ((x : ℕ) → IsElement (elements_of scene) x → now x ≡ Some (style_in scene x)) → list ≡ numbers (elements_of scene) → standing_with scene none calm now list ≡ restyled anew
-  first-with none calm m c now list h e =
-      restyled-of scene none calm m c marks fresh slot recent now list h
-      (λ x there. ap (is_in x) e ∙ (sym (is_element-numbers (elements_of scene) x) ∙ (there ∙ sym (all_cascaded x there))))
-
   all_elements : (p : ℕ → Bool) → ((x : ℕ) → IsElement (elements_of scene) x → p x ≡ true) → filter p (numbers (elements_of scene)) ≡ numbers (elements_of scene)
   all_elements p h =
       filter_same p (λ x. true) (numbers (elements_of scene)) (each_element (elements_of scene) (λ x. p x ≡ true) h) ∙ every (numbers (elements_of scene))
+
+  pub first-with : (none : List ℕ) (calm : ℕ → Bool) → none ≡ [] → ((x : ℕ) → calm x ≡ false) → (now : ℕ → Option Style) (list : List ℕ) → ((x : ℕ) → IsElement (elements_of scene) x → now x ≡ Some (style_in scene x)) → list ≡ numbers (elements_of scene) → standing_with scene none calm now list ≡ restyled anew
+  first-with none calm m c now list h e =
+      restyled-of scene none calm m c marks fresh slot recent now list h (e ∙ sym (all_elements (is_cascaded anew) all_cascaded))
 
   pub first-matched : length (numbers (elements_of scene)) ≡ matched_count anew
   first-matched = sym (ap length (all_elements (is_matched anew) all_matched))
@@ -227,8 +223,7 @@ module _ (scene : Scene) (marks : List ℕ) (fresh : ℕ → Bool) (slot : ℕ �
 
   pub restyled-with : (none : List ℕ) (calm : ℕ → Bool) → none ≡ [] → ((x : ℕ) → calm x ≡ false) → (now : ℕ → Option Style) (list : List ℕ) → ((x : ℕ) → IsElement (elements_of scene) x → now x ≡ option_or (result_at found x) (slot x)) → list ≡ map number_of found → standing_with scene none calm now list ≡ restyled st
   restyled-with none calm m f now list h e =
-      restyled-of scene none calm m f marks fresh slot recent now list (placed_now now h)
-      (λ x there. ap (is_in x) (e ∙ found-numbers) ∙ among-numbers (elements_of scene) (is_cascaded st) x there)
+      restyled-of scene none calm m f marks fresh slot recent now list (placed_now now h) (e ∙ found-numbers)
 
 -- what a restyle leaves keeps its style, and what it did not cascade keeps the style that it had
 

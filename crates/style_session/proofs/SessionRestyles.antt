@@ -11,11 +11,9 @@ use Rattle.std.proofs.lemmas.Option.{IfSome_then}
 use Rattle.base_model.proofs.Lists.{each_weaker}
 use Rattle.scene_model.specs.Document.{Document}
 use Rattle.scene_model.specs.Element.{Element}
-use Rattle.scene_model.specs.Lookups.{IsElement, is_element, numbers}
+use Rattle.scene_model.specs.Lookups.{IsElement, is_element}
 use Rattle.scene_model.specs.Numbers.{is_in}
-use Rattle.scene_model.proofs.Found.{is_element-numbers}
 use Rattle.scene_model.proofs.Lists.{filter-map}
-use Rattle.change_model.specs.Sound.{IsSound}
 use Rattle.value_model.specs.Style.{Style}
 use Rattle.invalidation_map.specs.Members.{Members}
 use Rattle.invalidation_map.specs.Steps.{HasRoom}
@@ -25,15 +23,14 @@ use Rattle.sheet_set.specs.declared.sheets.Sheets.{Sheets}
 use Rattle.plain_style.specs.Fits.{Fits}
 use Rattle.plain_style.specs.Prepared.{IsPrepared}
 use Rattle.plain_style.specs.declared.prepared.Prepared.{Prepared}
-use Rattle.session_model.specs.Standing.{Standing, is_cascaded, kept_at, restyled}
+use Rattle.session_model.specs.Standing.{Standing, kept_at, restyled}
 use Rattle.session_model.specs.StandingInvariant.{AllKeep}
-use Rattle.session_model.proofs.ListedLemmas.{among-filter}
 use Rattle.session_model.specs.Walk as walk
 use Rattle.session_model.specs.Walk.{result_at, results}
 use Rattle.style_session.specs.Answers.{counts_of, styled_seen}
 use Rattle.style_session.specs.FirstWalking.{AreAll}
 use Rattle.style_session.specs.SessionView.{is_fresh_in, is_gone, scene_seen, slot_at, standing_seen}
-use Rattle.style_session.specs.Sessions.{AreGiven, AreReady, IsSession}
+use Rattle.style_session.specs.Sessions.{AreReady, IsSession}
 use Rattle.style_session.specs.Settled.{AreSettled}
 use Rattle.style_session.specs.declared.counts.Counts.{Counts}
 use Rattle.style_session.specs.declared.first_walk.FirstStyles.{FirstStyles}
@@ -41,8 +38,8 @@ use Rattle.style_session.specs.declared.fresh.Fresh.{Fresh}
 use Rattle.style_session.specs.declared.marking.Marking.{Marking}
 use Rattle.style_session.specs.declared.style_cache.StyleCache.{StyleCache}
 use Rattle.style_session.specs.declared.styled.Styled.{Styled}
-use Rattle.style_session.proofs.SessionStarts.{all-fresh, no-element, none-fresh, none_given, none_twice}
-use Rattle.style_session.proofs.SessionLemmas.{first-cascaded, first-matched, first-with, found-cascaded, found-elements, found-matched, found-numbers, found-once, idle-cascaded, idle-matched, idle-with, keeps-lent, keeps-restyled, number_of, others-restyled, restyled-with, standing_with}
+use Rattle.style_session.proofs.SessionStarts.{all-fresh, none-fresh, none_given, none_twice}
+use Rattle.style_session.proofs.SessionLemmas.{first-cascaded, first-matched, first-with, found-cascaded, found-elements, found-matched, found-once, idle-cascaded, idle-matched, idle-with, keeps-lent, keeps-restyled, number_of, others-restyled, restyled-with}
 
 same_counts : (a b : Counts) → a.matched ≡ b.matched → a.cascaded ≡ b.cascaded → a ≡ b
 same_counts a b e f = λ i. record { matched = e i; cascaded = f i }
@@ -81,11 +78,6 @@ no_result doc x none (one ∷ found) h = by (one.number == x) refl (no_result do
     by false e rest =
         ap (λ b. option_map (λ (s : walk.Styled). s.style) (cond b (Some one) (find (λ (s : walk.Styled). s.number == x) found))) e ∙ rest
 
--- numbers of elements are given
-some-given : (d : Document) → IsSound d → (p : ℕ → Bool) (list : List ℕ) → list ≡ filter p (numbers d.elements) → AreGiven d.last list
-some-given d sound p list is x above =
-    ap (is_in x) is ∙ (among-filter p x (numbers d.elements) ∙ ap (λ b. b && p x) (sym (is_element-numbers d.elements x) ∙ no-element d sound x above))
-
 -- what a list holds of what it is seen as
 
 each_seen : {X Y : Type 0} (P : Y → Type 0) (f : X → Y) (xs : List X) → AllByRecursion P (map f xs) → AllByRecursion (λ x. P (f x)) xs
@@ -104,13 +96,12 @@ module _ {A : Type 0} (document : Document) (sheets : Sheets) (prepared : Option
 
   -- what a restyle leaves, once each element has its style
   module _ {B : Type 0} (now : Members) (later : Fresh) (settled : AreSettled now later) (styles : List (Option (Arc Style B))) (numbers : List ℕ) (done : standing_seen document sheets now.items (is_fresh_in later) styles numbers ≡ restyled st) where
-    pub session-anew : (known : StyleCache) (left : List ℕ) → left ≡ [] → now.room ≡ marks.room → HasRoom document.elements (length styles) → ((x : ℕ) → is_element document.elements x ≡ false → slot_at styles x ≡ None) → AreGiven document.last numbers → IsDistinct nat_eq numbers → AreReady (sources_seen sheets) prepared known → IsSession document sheets prepared marking now later left styles numbers known
-    session-anew known left empty room places absent given once fits = record {
+    pub session-anew : (known : StyleCache) (left : List ℕ) → left ≡ [] → now.room ≡ marks.room → HasRoom document.elements (length styles) → ((x : ℕ) → is_element document.elements x ≡ false → slot_at styles x ≡ None) → IsDistinct nat_eq numbers → AreReady (sources_seen sheets) prepared known → IsSession document sheets prepared marking now later left styles numbers known
+    session-anew known left empty room places absent once fits = record {
       sound = was.sound;
       can_mark = IfSome_then marking was.can_mark (λ made can. record { rows = can.rows; room = can.room; marks_room = λ x there. subst (λ n. x < n) (sym room) (can.marks_room x there) });
       places = λ x there _. places x there;
       marks_given = none_given document.last now.items settled.marked;
-      recent_given = given;
       gone_given = none_given document.last left empty;
       absent = λ x out _. absent x out;
       keeps = keeps-restyled st (standing_seen document sheets now.items (is_fresh_in later) styles numbers) was.sound done;
@@ -142,7 +133,7 @@ module _ {A : Type 0} (document : Document) (sheets : Sheets) (prepared : Option
         session-anew marks fresh settled styles now (idle-seen styles now (dropped-there document.elements gone (slot_at kept) (slot_at styles) dropped) n) cache left empty refl
         (λ x there. subst (λ places. x < places) (sym long) (was.places x there (none x)))
         (λ x out. dropped-absent document.elements gone (slot_at kept) (slot_at styles) dropped x out (was.absent x out))
-        (none_given document.last now n) (none_twice now n) was.ready
+        (none_twice now n) was.ready
 
   -- the first one
   module _ (all : fresh.all ≡ true) (made : FirstStyles) (is : AreAll (scene_seen document sheets) made) where
@@ -152,10 +143,6 @@ module _ {A : Type 0} (document : Document) (sheets : Sheets) (prepared : Option
 
     pub first-once : IsDistinct nat_eq made.numbers.items
     first-once = subst (IsDistinct nat_eq) (sym is.order) was.sound.valid.distinct
-
-    pub first-given : AreGiven document.last made.numbers.items
-    first-given x above =
-        ap (is_in x) is.order ∙ (sym (is_element-numbers document.elements x) ∙ no-element document was.sound x above)
 
     pub first-counts : (counts : Counts) → counts.matched ≡ length made.numbers.items → counts.cascaded ≡ length made.numbers.items → counts ≡ counts_of st
     first-counts counts m l =
@@ -220,14 +207,9 @@ module _ {A : Type 0} (document : Document) (sheets : Sheets) (prepared : Option
             dropped-absent document.elements gone (slot_at put) (slot_at styles) dropped x out
             (λ in_place. placed x ∙ (ap (λ o. option_or o (slot_at kept x)) (no_result document.elements x out (map styled_seen styled) elements) ∙ was.absent x out in_place))
 
-        given : AreGiven document.last numbers
-        given =
-            let scene = scene_seen document sheets in
-            some-given document was.sound (is_cascaded (standing_with scene marks.items some (slot_at kept) [])) numbers (named_seen ∙ found-numbers scene marks.items some (slot_at kept) [] was.sound keeps-seen (map styled_seen styled) is)
-
         pub session-restyled : (known : StyleCache) (left : List ℕ) → left ≡ [] → now.room ≡ marks.room → HasRoom document.elements (length styles) → AreReady (sources_seen sheets) prepared known → IsSession document sheets prepared marking now later left styles numbers known
         session-restyled known left empty room places fits =
-            session-anew now later settled styles numbers restyled-seen known left empty room places absent given
+            session-anew now later settled styles numbers restyled-seen known left empty room places absent
             (subst (IsDistinct nat_eq) (sym named_seen) (found-once (scene_seen document sheets) marks.items some (slot_at kept) [] was.sound keeps-seen (map styled_seen styled) is))
             fits
 
@@ -240,7 +222,6 @@ session-cached document sheets prepared marking marks fresh gone kept now recent
       can_mark = was.can_mark;
       places = was.places;
       marks_given = was.marks_given;
-      recent_given = was.recent_given;
       gone_given = was.gone_given;
       absent = was.absent;
       keeps = was.keeps;
@@ -255,7 +236,6 @@ session-ready document sheets prepared ready marking marks fresh gone kept recen
   can_mark = was.can_mark;
   places = was.places;
   marks_given = was.marks_given;
-  recent_given = was.recent_given;
   gone_given = was.gone_given;
   absent = was.absent;
   keeps = was.keeps;

@@ -1,5 +1,5 @@
 -- The start of a session.
-use Rattle.std.proofs.Common.{◌≡◌, ℕ, ◌<◌, ◌==◌, ◌+◌, nat_eq, List, [], ◌∷◌, map, length, true, false, not, ◌&&◌, ◌||◌, Option, None, refl, sym, ap, subst, ◌∙◌, suc, arith}
+use Rattle.std.proofs.Common.{◌≡◌, ℕ, ◌<◌, ◌==◌, nat_eq, List, [], length, true, false, not, ◌&&◌, ◌||◌, Option, None, sym, ap, subst, ◌∙◌, arith}
 use Rattle.std.specs.List.{IsDistinct}
 use Rattle.std.specs.declared.sync.Arc.{Arc}
 use Rattle.std.proofs.lemmas.Bool.{and_parts, false≢true, false_from_ne_true, not-true}
@@ -64,7 +64,6 @@ session-started document sheets marks fresh gone kept recent cache sound m r g f
   can_mark = tt;
   places = λ x there calm. absurd (false≢true (sym calm ∙ all-fresh fresh f x));
   marks_given = none_given document.last marks.items m;
-  recent_given = none_given document.last recent r;
   gone_given = none_given document.last gone g;
   absent = λ x _ _. empty x;
   keeps = subst AllKeep (sym (started-seen document sheets marks.items recent fresh kept m r f empty)) (keep-started (scene_seen document sheets));

@@ -8,7 +8,7 @@ use Rattle.std.proofs.lemmas.Option.{IfSome_then}
 use Rattle.std.specs.List.Sorted.{IsPermutation}
 use Rattle.scene_model.specs.Document.{Document}
 use Rattle.scene_model.specs.Element.{Element}
-use Rattle.scene_model.specs.Lookups.{is_element, IsElement, numbers}
+use Rattle.scene_model.specs.Lookups.{is_element, numbers}
 use Rattle.scene_model.specs.Numbers.{is_in}
 use Rattle.scene_model.proofs.Lists.{filter_same}
 use Rattle.value_model.specs.Style.{Style}
@@ -24,7 +24,7 @@ use Rattle.invalidation_map.specs.Rows.{rows_of}
 use Rattle.invalidation_map.specs.RowView.{rows_in}
 use Rattle.invalidation_map.proofs.SetLemmas.{or_no}
 use Rattle.sheet_set.specs.Fits.{AreSameSheets}
-use Rattle.sheet_set.specs.View.{kept_seen, listed_seen, sources_seen}
+use Rattle.sheet_set.specs.View.{listed_seen, sources_seen}
 use Rattle.sheet_set.specs.declared.sheets.Sheets.{Sheets}
 use Rattle.plain_style.specs.declared.prepared.Prepared.{Prepared}
 use Rattle.session_model.specs.Marking.{selectors_of}
@@ -98,7 +98,7 @@ module _ {A : Type 0} (document : Document) (old new : Sheets) (prepared : Optio
     pub scene-accepted : scene_applied before (of_sheets edit) ≡ accepted later
     scene-accepted = ap (with_sheets before) (sym h)
 
-    -- of the elements each is marked or fresh, keeps its style and was cascaded as the definition says
+    -- of the elements each is marked or fresh and keeps its style as the definition says
 
     marks_grow : elements_in document now.items ≡ filter (λ x. is_in x (elements_in document marks.items) || adds x) (numbers doc)
     marks_grow =
@@ -115,16 +115,11 @@ module _ {A : Type 0} (document : Document) (old new : Sheets) (prepared : Optio
     none_above : (x : ℕ) → document.last < x → slot_at kept x ≡ None
     none_above x above = was.absent x (no-element document was.sound x above) (was.gone_given x above)
 
-    recent_stays : elements_in document recent ≡ filter (λ x. is_in x (elements_in document recent)) (numbers doc)
-    recent_stays =
-        filter_same (λ x. is_in x recent) (λ x. is_in x (elements_in document recent)) (numbers doc)
-        (each_element doc (λ x. is_in x recent ≡ is_in x (elements_in document recent)) (λ x there. sym (among-numbers doc (λ y. is_in y recent) x there)))
-
     changed-with : standing_seen document new now.items (is_fresh_in fresh) kept recent ≡ changed st (change_of before (of_sheets edit) later)
     changed-with =
         same_parts later _ _ _ _ _ _ _ _ marks_grow fresh_stays
         (sym (placed-changed (slot_at kept) document document (omega arith) none_above (λ x there out. absurd (false≢true (sym out ∙ there)))))
-        recent_stays
+        refl
 
     pub sheets-edited-seen : standing_seen document new now.items (is_fresh_in fresh) kept recent ≡ edited st (of_sheets edit)
     sheets-edited-seen = changed-with ∙ ap (edited_by st (of_sheets edit)) (sym scene-accepted)
@@ -137,7 +132,6 @@ module _ {A : Type 0} (document : Document) (old new : Sheets) (prepared : Optio
       marks_given = λ x above.
           marked x
           ∙ (ap (λ b. b || adds x) (was.marks_given x above) ∙ none_out (is_element doc x) _ (no-element document was.sound x above));
-      recent_given = was.recent_given;
       gone_given = was.gone_given;
       absent = was.absent;
       keeps = subst AllKeep (sym changed-with)
@@ -165,7 +159,6 @@ module _ {A : Type 0} (document : Document) (old new : Sheets) (prepared : Optio
       can_mark = can;
       places = was.places;
       marks_given = λ x above. ap (is_in x) marks_same ∙ was.marks_given x above;
-      recent_given = was.recent_given;
       gone_given = was.gone_given;
       absent = was.absent;
       keeps = subst AllKeep (sym sheets-refused-seen) was.keeps;

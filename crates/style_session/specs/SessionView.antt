@@ -47,7 +47,7 @@ abbrev pub is_fresh_in : Fresh → ℕ → Bool
 is_fresh_in fresh x = fresh.all || is_in x fresh.set.items
 
 -- A document, its sheets, the numbers that are marked, which are fresh, the styles that are kept by number, and the
--- numbers that the last restyle cascaded.
+-- elements that the last restyle cascaded.
 abbrev pub standing_seen : {A : Type 0} → Document → Sheets → List ℕ → (ℕ → Bool) → List (Option (Arc Style A))
     → List ℕ → Standing
 standing_seen document sheets marks is_fresh kept recent =
@@ -56,5 +56,5 @@ standing_seen document sheets marks is_fresh kept recent =
       marked = elements_in document marks;
       fresh = filter is_fresh (numbers document.elements);
       kept = placed_styles (slot_at kept) document;
-      recent = elements_in document recent;
+      recent = recent;
     }

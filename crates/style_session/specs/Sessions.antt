@@ -58,7 +58,6 @@ pub record IsSession {A : Type 0} (document : Document) (sheets : Sheets) (prepa
   pub can_mark : IfSome marking (CanMark document (sources_seen sheets) marks)
   pub places : (x : ℕ) → IsElement document.elements x → is_fresh_in fresh x ≡ false → x < length kept
   pub marks_given : AreGiven document.last marks.items
-  pub recent_given : AreGiven document.last recent
   pub gone_given : AreGiven document.last gone
   pub absent : (x : ℕ) → is_element document.elements x ≡ false → is_in x gone ≡ false → slot_at kept x ≡ None
   pub keeps : AllKeep (standing_seen document sheets marks.items (is_fresh_in fresh) kept recent)

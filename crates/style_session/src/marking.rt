@@ -60,6 +60,7 @@ impl Marking {
         edit: &DocEdit,
     ) -> Result<(), EditRefused>
         requires sound { IsSound doc.old }
+        requires shaped { IsShaped (doc_edit_seen edit.now) }
         requires room { HasRoom doc.old.elements self.old.marker }
         requires marks { HasRoom doc.old.elements marks.old.room }
         ensures accepted { OnOk result (applied doc.old (doc_edit_seen edit.now) ≡ accepted doc.new) }
@@ -67,7 +68,6 @@ impl Marking {
             (rows_in self.old.dependencies) marks.old.items marks.new.items) }
         ensures fresh { OnOk result (AreFreshToo doc.old doc.new (doc_edit_seen edit.now) fresh.old fresh.new) }
         ensures gone { OnOk result (AreGoneToo doc.old doc.new gone.old.items gone.new.items) }
-        ensures shaped { IsShaped (doc_edit_seen edit.now) }
         ensures refused { IfErr result (λ why. why ≡ unwrap_or (option_map refusal_answered
             (model_refusal doc.old (doc_edit_seen edit.now))) out_of_memory) }
         ensures kept { OnErr result (doc.new ≡ doc.old) }
@@ -78,8 +78,6 @@ impl Marking {
         ensures marks { HasRoom doc.new.elements marks.new.room }
         ensures same { self.new.dependencies ≡ self.old.dependencies }
     {
-        // The count is not asked: the call tells that new nodes are a list.
-        let _count = edit.new_count();
         make_room(alloc, doc, &mut self.marker, marks, fresh, gone, edit)?;
         // From here on only the edit itself takes memory.
         take_away(doc, &mut self.marker, gone, edit);
@@ -111,7 +109,7 @@ pub(crate) fn edit_marked(
         marks.old.items marks.new.items) }
     ensures fresh { OnOk result (AreFreshToo doc.old doc.new (doc_edit_seen edit.now) fresh.old fresh.new) }
     ensures gone { OnOk result (AreGoneToo doc.old doc.new gone.old.items gone.new.items) }
-    ensures shaped { OnOk result (IsShaped (doc_edit_seen edit.now)) }
+    ensures shaped { IsShaped (doc_edit_seen edit.now) }
     ensures refused { IfErr result (λ why. why ≡ unwrap_or (option_map refusal_answered
         (model_refusal doc.old (doc_edit_seen edit.now))) out_of_memory) }
     ensures kept { OnErr result (doc.new ≡ doc.old) }
@@ -120,6 +118,8 @@ pub(crate) fn edit_marked(
     ensures left { OnErr result (AreGoneToo doc.old doc.old gone.old.items gone.new.items) }
     ensures can_mark { IfSome marking.new (CanMark doc.new (sources_seen sheets.now) marks.new) }
 {
+    // The count is not asked: the call tells that new nodes are a list.
+    let _count = edit.new_count();
     if let Some(made) = marking {
         return made.edit(alloc, doc, marks, fresh, gone, edit);
     }

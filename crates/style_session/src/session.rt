@@ -5,9 +5,11 @@ ghost use Rattle.std.specs.List.{IsDistinct};
 ghost use Rattle.base_model.specs.Limits.{element_limit, sheet_limit};
 ghost use Rattle.scene_model.specs.Lookups.{IsElement};
 ghost use Rattle.scene_model.specs.Numbers.{is_in};
+ghost use Rattle.edit_model.specs.Edit.{IsShapedEdit};
 ghost use Rattle.edit_model.specs.Refusal.{accepted};
 ghost use Rattle.dom_edits.specs.EditView.{edit_seen};
 ghost use Rattle.session_model.specs.Standing.{edited, elements_of, kept_at, restyled, scene_applied, started};
+ghost use Rattle.session_model.specs.StandingInvariant.{IsReached};
 ghost use Rattle.style_session.specs.Answers.{IsAnswer, counts_of, refusal_of};
 ghost use Rattle.style_session.specs.SessionView.{scene_from, scene_seen};
 
@@ -53,7 +55,7 @@ pub struct Session {
     gone: ElementSet,
     /// By number: the style that the element had at the last restyle, if it was there. Empty before the first.
     kept: Vec<Option<Arc<Style>>>,
-    /// The elements that the last restyle cascaded.
+    /// The elements that the last restyle cascaded, in tree order.
     recent: Vec<u32>,
     cache: StyleCache,
 }
@@ -90,7 +92,8 @@ impl Session {
         requires sheets { length sheets.now ≤ sheet_limit }
         requires workers { (1 ≤ workers) × (workers ≤ 64) }
         requires share { share ≤ 64 }
-        ensures { IfOk result (λ session. session ≡ started (scene_from nodes.now sheets.now)) }
+        ensures started { IfOk result (λ session. session ≡ started (scene_from nodes.now sheets.now)) }
+        ensures reached { IfOk result IsReached }
     {
         let doc = Doc::start(alloc, nodes)?;
         let sheets = Sheets::start(alloc, sheets)?;
@@ -107,7 +110,8 @@ impl Session {
     ) -> Result<Session, NoMemory>
         requires workers { (1 ≤ _workers) × (_workers ≤ 64) }
         requires share { _share ≤ 64 }
-        ensures { IfOk result (λ session. session ≡ started (scene_seen doc sheets)) }
+        ensures started { IfOk result (λ session. session ≡ started (scene_seen doc sheets)) }
+        ensures reached { IfOk result IsReached }
     {
         let begun = Beginning::of(alloc, &doc)?;
         let Beginning {
@@ -137,6 +141,8 @@ impl Session {
         ensures accepted { OnOk result
             (scene_applied self.old.scene (edit_seen edit.now) ≡ accepted self.new.scene) }
         ensures ok { OnOk result (self.new ≡ edited self.old (edit_seen edit.now)) }
+        ensures shaped { IsShapedEdit (edit_seen edit.now) }
+        ensures reached { IsReached self.old → IsReached self.new }
         ensures refused { IfErr result (λ why. why ≡ refusal_of self.old.scene (edit_seen edit.now)) }
         ensures kept { OnErr result (self.new ≡ self.old) }
     {
@@ -177,6 +183,7 @@ impl Session {
         ensures counts { IfOk result (λ counts. counts ≡ counts_of self.old) }
         ensures others { OnOk result ((x : ℕ) → IsElement (elements_of self.new.scene) x
             → is_in x self.new.recent ≡ false → kept_at self.new x ≡ kept_at self.old x) }
+        ensures reached { IsReached self.old → IsReached self.new }
         ensures kept { OnErr result (self.new ≡ self.old) }
     {
         self.restyle_alone(alloc, gate)
@@ -184,6 +191,18 @@ impl Session {
 
     /// The same on the calling thread, for a program that has no others.
     pub fn restyle_alone<G: Gate>(&mut self, alloc: Global, gate: &G) -> Result<Counts, NoMemory>
+        ensures ok { OnOk result (self.new ≡ restyled self.old) }
+        ensures counts { IfOk result (λ counts. counts ≡ counts_of self.old) }
+        ensures others { OnOk result ((x : ℕ) → IsElement (elements_of self.new.scene) x
+            → is_in x self.new.recent ≡ false → kept_at self.new x ≡ kept_at self.old x) }
+        ensures reached { IsReached self.old → IsReached self.new }
+        ensures kept { OnErr result (self.new ≡ self.old) }
+    {
+        self.style_again(alloc, gate)
+    }
+
+    /// What both restyles do.
+    fn style_again<G: Gate>(&mut self, alloc: Global, gate: &G) -> Result<Counts, NoMemory>
         ensures ok { OnOk result (self.new ≡ restyled self.old) }
         ensures counts { IfOk result (λ counts. counts ≡ counts_of self.old) }
         ensures others { OnOk result ((x : ℕ) → IsElement (elements_of self.new.scene) x
@@ -253,11 +272,10 @@ impl Session {
         &self.doc
     }
 
-    /// The numbers of the elements that the last restyle cascaded, each once, in any order. Numbers of elements
-    /// that were removed since may be among them.
+    /// The numbers of the elements that the last restyle cascaded, each once, in tree order as it was then. One that
+    /// was removed since stays on the list.
     pub fn cascaded(&self) -> &[u32]
-        ensures elements { (x : ℕ) → IsElement (elements_of self.now.scene) x
-            → is_in x result.now ≡ is_in x self.now.recent }
+        ensures list { result.now ≡ self.now.recent }
         ensures once { IsDistinct nat_eq result.now }
     {
         self.recent.as_slice()

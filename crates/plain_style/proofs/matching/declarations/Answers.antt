@@ -32,19 +32,19 @@ loop-one-preserved c =
       | in-Some+in_ok-add_declarations w ↦ (let rule = w.in-Some.rule.now in
           let below : one.rule < length rs = search the_rules in
           let is : rule ≡ get_or rs one.rule rule = search the_rules in
-          let at : slice_get sheets.rules.items one.rule ≡ Some rule = ap (λ l. slice_get l one.rule) (sym c.rules-rules.ensures) ∙ (slice_get-get_or rs one.rule rule below ∙ ap Some (sym is)) in
-          let (list, beside) = slice_get_some ls one.rule (omega (arith, below, ap length c.rules-rules.ensures, sheets.paired, sheets.rules.ok, sheets.selectors.ok)) in
+          let at : slice_get sheets.rules.items one.rule ≡ Some rule = ap (λ l. slice_get l one.rule) (sym c.rules-rules.ensures.list) ∙ (slice_get-get_or rs one.rule rule below ∙ ap Some (sym is)) in
+          let (list, beside) = slice_get_some ls one.rule (omega (arith, below, ap length c.rules-rules.ensures.list, sheets.paired, sheets.rules.ok, sheets.selectors.ok)) in
           let ps = c.positions-positions.result.now in
           let position = get_or ps one.rule 0 in
           let stands : slice_get sheets.positions.items one.rule ≡ Some position =
           ap (λ l. slice_get l one.rule) (sym c.positions-positions.ensures.list)
-          ∙ slice_get-get_or ps one.rule 0 (omega (arith, below, ap length c.rules-rules.ensures, c.positions-positions.ensures.paired)) in
+          ∙ slice_get-get_or ps one.rule 0 (omega (arith, below, ap length c.rules-rules.ensures.list, c.positions-positions.ensures.paired)) in
           let own = put_at position (placed_rule_of rule list.items) in
           let placed : slice_get (rules_of sheets) one.rule ≡ Some own = rule_at sheets one.rule position rule list stands at beside in
-          let ranked : get_or c.ranks-ranks.result.now one.rule 0 ≡ rank_seen sheets.layers rule = ap (λ l. get_or l one.rule 0) (c.ranks-ranks.ensures.list ∙ ap (map (rank_seen sheets.layers)) (sym c.rules-rules.ensures)) ∙ (get_or-map (rank_seen sheets.layers) rs one.rule rule 0 below ∙ ap (rank_seen sheets.layers) (sym is)) in
+          let ranked : get_or c.ranks-ranks.result.now one.rule 0 ≡ rank_seen sheets.layers rule = ap (λ l. get_or l one.rule 0) (c.ranks-ranks.ensures.list ∙ ap (map (rank_seen sheets.layers)) (sym c.rules-rules.ensures.list)) ∙ (get_or-map (rank_seen sheets.layers) rs one.rule rule 0 below ∙ ap (rank_seen sheets.layers) (sym is)) in
           one_more (rule_declares sources) old _ _ _ _ one (all_matched sheets.layers own one.specificity own.first_index own.declarations) here (declares_at sources own one placed) (ap (λ v. flat_map matched_of v.items) w.list-is ∙ w.in_ok-add_declarations.ensures sheets.layers list.items ranked) c.loop-one.invariant)
       | in_default w ↦ (let past : length rs ≤ one.rule = search the_rules in
-          let none : slice_get (rules_of sheets) one.rule ≡ None = no_rule_at sheets one.rule (omega (arith, past, ap length c.rules-rules.ensures)) in
+          let none : slice_get (rules_of sheets) one.rule ≡ None = no_rule_at sheets one.rule (omega (arith, past, ap length c.rules-rules.ensures.list)) in
           one_more (rule_declares sources) old _ _ _ _ one [] here (declares_none sources one none) (ap (λ v. flat_map matched_of v.items) w.list-is ∙ sym (append-nil old)) c.loop-one.invariant)
     ]
 

@@ -30,4 +30,4 @@ loop-number-preserved c =
     ap (λ tag. element_line x tag style) (c.tag.ensures ∙ ap (λ (d : Document). tag_of d.elements x) c.doc-in-loop-number.ensures)
     ∙ ap (element_line x (tag_of (elements_of st.scene) x)) c.in-Kept.ensures.1.1 in
     one_line st items i x c.loop-number.text c.push_element_line.new.line below (get_any items i below) c.in-Kept.ensures.1.0
-    (c.in_ok-push_element_line.ensures ∙ ap (λ l. c.loop-number.text ++ l) line) c.loop-number.invariant
+    (c.in_ok-push_element_line.ensures.ok ∙ ap (λ l. c.loop-number.text ++ l) line) c.loop-number.invariant

@@ -18,7 +18,7 @@ returns-clause-serves g c =
     let n = c.args.number in
     let at = kept-settled st c.requires.settled c.requires.sound n c.requires.element in
     let tag = c.tag.ensures ∙ ap (λ (d : Document). tag_of d.elements n) c.doc.ensures in
-    let made = made_line n c.clear.new.self c.push_element_line.new.line (chars c.tag.result.now) (tag_of (elements_of st.scene) n) c.style_of.result.now (style_in st.scene n) c.clear.ensures c.in_ok-push_element_line.ensures tag c.style_of.ensures in
+    let made = made_line n c.clear.new.self c.push_element_line.new.line (chars c.tag.result.now) (tag_of (elements_of st.scene) n) c.style_of.result.now (style_in st.scene n) c.clear.ensures c.in_ok-push_element_line.ensures.ok tag c.style_of.ensures in
     let text = c.as_str.ensures.bytes ∙ ap encode_utf8_all made in
     let bytes = c.as_bytes-bytes.ensures.value ∙ text in
     on_ok c.write_all.result (Serves st c.if-keeps.lines) (elim c.if-keeps.branch [

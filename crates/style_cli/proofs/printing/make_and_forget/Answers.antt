@@ -12,4 +12,4 @@ pub returns-clause-serves : goal.returns-clause-serves
 returns-clause-serves g c =
     let made = c.in_ok-heading.ensures in
     serves-batch (λ l. l) c.args.session.now c.make_batch.new.session c.requires.reached (edits_seen c.args.edits.now) made.shaped made.session
-    (kept_line c.args.lines.now) (kept_line c.forget.new.self) c.cascaded.result.now c.requires.serves c.cascaded.ensures.elements c.forget.ensures.gone c.forget.ensures.left
+    (kept_line c.args.lines.now) (kept_line c.forget.new.self) c.cascaded.result.now c.requires.serves c.cascaded.ensures.list c.forget.ensures.gone c.forget.ensures.left

@@ -15,7 +15,7 @@ pub counted-requires-clause-serves : goal.counted-requires-clause-serves
 counted-requires-clause-serves g c =
     let made = c.in_ok-heading.ensures in
     serves-batch length c.args.session.now c.make_batch.new.session c.requires.reached (edits_seen c.args.edits.now) made.shaped made.session
-    (kept_length c.args.lengths.now.kept.items) (kept_length c.forget.new.self.kept.items) c.cascaded.result.now c.requires.serves c.cascaded.ensures.elements c.forget.ensures.gone c.forget.ensures.left
+    (kept_length c.args.lengths.now.kept.items) (kept_length c.forget.new.self.kept.items) c.cascaded.result.now c.requires.serves c.cascaded.ensures.list c.forget.ensures.gone c.forget.ensures.left
 
 pub returns-clause-sums : goal.returns-clause-sums
 returns-clause-sums g c =

@@ -59,6 +59,7 @@ invariant_of-self c =
       paired = omega (arith, kept.paired, made.rules.ok, made.selectors.ok);
       ranked = c.put_layers.ensures.ranks ∙ ap (map (rank_seen layers)) c.deref-2.ensures.value;
       placed = omega (arith, long, positions.ok, made.rules.ok);
+      positioned = are;
       of_texts = texts_of made.sheets.items made.rules.items made.selectors.items positions.items kept.texts are;
       layered = c.put_layers.ensures.layers ∙ (c.requires.layers ∙ ap layers_of_sheets (sym c.make.ensures.list));
       numbered = ∣ subst AreNumbered after c.requires.numbered ∣₁;

@@ -31,6 +31,7 @@ invariant_of-result c =
       paired = c.requires.paired;
       ranked = facts.ranks ∙ ap (map (rank_seen made.layers)) c.as_slice-2.ensures.value;
       placed = omega (arith, long, made.positions.ok, rules.ok);
+      positioned = are;
       of_texts = texts_of sheets.items rules.items lists.items made.positions.items c.requires.texts are;
       layered = facts.layers ∙ ap (λ l. layers_of_sheets (map kept_seen l)) c.as_slice.ensures.value;
       numbered = c.requires.numbered;

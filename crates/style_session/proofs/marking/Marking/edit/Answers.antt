@@ -10,4 +10,4 @@ freshen-requires-clause-there c =
 
 pub returns-clause-marked : goal.returns-clause-marked
 returns-clause-marked c =
-    adds-marks c.args.doc.now c.apply.new.doc c.args.edit.now c.in_ok-touched.touched (rows_in c.args.self.now.dependencies) c.args.marks.now.items c.make_room.new.marks c.mark.new.marks c.requires.sound c.new_count-count.ensures.shaped c.in_ok-touched.ensures.ok c.in_ok-touched.ensures.touched c.make_room.ensures.marks c.mark.ensures.marked
+    adds-marks c.args.doc.now c.apply.new.doc c.args.edit.now c.in_ok-touched.touched (rows_in c.args.self.now.dependencies) c.args.marks.now.items c.make_room.new.marks c.mark.new.marks c.requires.sound c.requires.shaped c.in_ok-touched.ensures.ok c.in_ok-touched.ensures.touched c.make_room.ensures.marks c.mark.ensures.marked
