@@ -71,6 +71,7 @@ impl<W: Write + Drop> Sink for StdSink<W> {
     ghost faults = { λ s. s.faults };
 
     /// After a fault the writer may have taken bytes all the same.
+    #[inline(always)]
     fn write(&mut self, piece: &[u8]) -> Result<usize, SinkRefused>
         ensures bound { WritesAtMost result piece.now }
         ensures progress { IfOk result (λ n. 0 < length piece.now → 0 < n) }

@@ -1,14 +1,13 @@
 //! The lines of the elements.
 
-ghost use Rattle.std.specs.Prelude.{◌≡◌, ◌<◌, ◌≤◌, IfOk, IsErrOf, OnErr, OnOk, length, take};
-ghost use Rattle.std.specs.List.{AllByRecursion};
+ghost use Rattle.std.specs.Prelude.{◌≡◌, IsErrOf, OnErr, OnOk};
 ghost use Rattle.std.specs.Io.KnownBytes.{Appends};
 ghost use Rattle.change_model.specs.Sound.{IsSound};
 ghost use Rattle.io_edges.specs.Cause.{HasCause};
 ghost use Rattle.scene_model.specs.Lookups.{IsElement};
 ghost use Rattle.sheet_model.specs.Sources.{sources_of};
 ghost use Rattle.session_model.specs.Standing.{elements_of, style_in};
-ghost use Rattle.report_text.specs.Elements.{elements_bytes, line_bytes, lines_bytes};
+ghost use Rattle.report_text.specs.Elements.{elements_bytes, line_bytes};
 ghost use Rattle.style_lines.specs.Loops.{GrewByFront};
 ghost use Rattle.style_cli.specs.Printing.{IsSettled, Serves};
 
@@ -41,48 +40,41 @@ pub(crate) fn print_elements<K: Sink>(
 {
     lines.count_anew();
     let mut line = Text::new(alloc);
-    let mut rest = session.doc().in_tree_order();
     // The proof calls the loop by this label.
-    'printing: while !rest.is_empty() {
-        let count = print_some(session, rest, &mut line, lines, keeps, sink)?;
-        rest = rest.split_at(count).1;
+    'printing: for number in session.doc().in_tree_order() {
+        print_line(session, *number, &mut line, lines, keeps, sink)?;
     }
     Ok(())
 }
 
-/// Writes the lines of the first of these elements, and says of how many: of those whose lines are kept
-/// and stand one behind the other, by one write, or else of one.
-fn print_some<K: Sink>(
+/// Writes the line of an element: as it is kept, or made, and kept then if it is to be.
+#[inline]
+fn print_line<K: Sink>(
     session: &Session,
-    numbers: &[u32],
+    number: u32,
     line: &mut Text,
     lines: &mut Lines,
     keeps: bool,
     sink: &mut K,
-) -> Result<usize, SinkRefused>
-    requires some { 0 < length numbers.now }
-    requires elements { AllByRecursion (IsElement (elements_of session.now.scene)) numbers.now }
+) -> Result<(), SinkRefused>
+    requires element { IsElement (elements_of session.now.scene) number }
     requires sound { IsSound session.now.scene.document }
     requires settled { IsSettled session.now }
     requires serves { Serves session.now lines.old }
-    ensures count { IfOk result (λ count. count ≤ length numbers.now) }
-    ensures progress { IfOk result (λ count. 0 < count) }
-    ensures ok { IfOk result (λ count. Appends (K.held sink.old) (K.held sink.new)
-        (lines_bytes session.now.scene (take count numbers.now))) }
+    ensures ok { OnOk result (Appends (K.held sink.old) (K.held sink.new)
+        (line_bytes (elements_of session.now.scene) (sources_of session.now.scene.sheets) number)) }
     ensures err { OnErr result (GrewByFront (K.held sink.old) (K.held sink.new)
-        (lines_bytes session.now.scene numbers.now)) }
+        (line_bytes (elements_of session.now.scene) (sources_of session.now.scene.sheets) number)) }
     ensures serves { OnOk result (Serves session.now lines.new) }
     ensures cause { HasCause (K.faults sink.old) (K.faults sink.new) (IsErrOf result SinkRefused.Failed) }
 {
-    let (count, kept) = lines.run(numbers);
-    if count > 0 {
-        let bytes = kept.len();
-        write_all(sink, kept)?;
-        lines.count(bytes);
-        return Ok(count);
-    }
-    print_element(session, numbers[0], line, lines, keeps, sink)?;
-    Ok(1)
+    let Some(kept) = lines.line(number) else {
+        return print_element(session, number, line, lines, keeps, sink);
+    };
+    let bytes = kept.len();
+    write_all(sink, kept)?;
+    lines.count(bytes);
+    Ok(())
 }
 
 /// Makes the line of an element in the text that is lent for it, keeps it if it is to be, and writes it.

@@ -58,45 +58,70 @@ const HOVERED: &[u8] = b"{\"version\":1,\"nodes\":[{\"tag\":\"html\"},{\"tag\":\
     {\"op\":\"set\",\"node\":7,\"name\":\"k\",\"value\":\"x\"}],\
     [{\"op\":\"state\",\"node\":2,\"state\":\"hover\",\"on\":false}],[]]}";
 
-/// What each write takes: a line, or lines that are kept and stand one behind the other.
-const HOVERED_WRITES: [&str; 17] = [
+/// What each write takes: a line.
+const HOVERED_WRITES: [&str; 21] = [
     "batch 0: 0 accepted, 0 refused, 3 matched, 3 cascaded\n",
     "1 html{display: block}\n",
     "2 p{}\n",
     "3 i{}\n",
     "batch 1: 1 accepted, 0 refused, 1 matched, 1 cascaded\n",
-    "1 html{display: block}\n2 p{}\n",
+    "1 html{display: block}\n",
+    "2 p{}\n",
     "3 i{color: #ff0000}\n",
     "batch 2: 1 accepted, 1 refused, 0 matched, 0 cascaded\n",
     "refused 2: unknown node 7\n",
-    "1 html{display: block}\n2 p{}\n",
+    "1 html{display: block}\n",
+    "2 p{}\n",
     "3 i{color: #ff0000}\n",
     "batch 3: 1 accepted, 0 refused, 1 matched, 1 cascaded\n",
-    "1 html{display: block}\n2 p{}\n",
+    "1 html{display: block}\n",
+    "2 p{}\n",
     "3 i{}\n",
     "batch 4: 0 accepted, 0 refused, 0 matched, 0 cascaded\n",
-    "1 html{display: block}\n2 p{}\n",
+    "1 html{display: block}\n",
+    "2 p{}\n",
     "3 i{}\n",
 ];
 
-/// Whether the sink holds what comes before each write of the batches where that write fails, and all of
-/// it where none does.
-fn ends_before_each_write<R: Threads + Sync + AllocGlobal>(rt: &R) -> Result<bool, Fail> {
+/// `html` over `p`, with two batches that change nothing: the lines that follow are all kept ones.
+const STILL: &[u8] = b"{\"version\":1,\"nodes\":[{\"tag\":\"html\"},{\"tag\":\"p\",\"parent\":0}],\
+    \"batches\":[[],[]]}";
+
+const STILL_WRITES: [&str; 9] = [
+    "batch 0: 0 accepted, 0 refused, 2 matched, 2 cascaded\n",
+    "1 html{display: block}\n",
+    "2 p{}\n",
+    "batch 1: 0 accepted, 0 refused, 0 matched, 0 cascaded\n",
+    "1 html{display: block}\n",
+    "2 p{}\n",
+    "batch 2: 0 accepted, 0 refused, 0 matched, 0 cascaded\n",
+    "1 html{display: block}\n",
+    "2 p{}\n",
+];
+
+/// Whether the sink holds what comes before each write of a job where that write fails, and all of it
+/// where none does.
+fn ends_before_each_write<R: Threads + Sync + AllocGlobal>(
+    rt: &R,
+    job: &[u8],
+    writes: &[&str],
+) -> Result<bool, Fail> {
     let mut front = String::new(rt.alloc());
     let mut write = 1u64;
-    for piece in &HOVERED_WRITES {
-        if !gives(rt, &LINE, HOVERED, write, (6, front.as_str()))? {
+    for piece in writes {
+        if !gives(rt, &LINE, job, write, (6, front.as_str()))? {
             return Ok(false);
         }
         front.push_str(piece)?;
         write = write.wrapping_add(1);
     }
-    gives(rt, &LINE, HOVERED, write, (0, front.as_str()))
+    gives(rt, &LINE, job, write, (0, front.as_str()))
 }
 
 #[test]
 fn each_write_of_batches_fails(rt: HostRuntime) -> Result<(), Fail> {
-    let ended = ends_before_each_write(&rt)?;
-    assert!(rt; ended);
+    let hovered = ends_before_each_write(&rt, HOVERED, &HOVERED_WRITES)?;
+    let still = ends_before_each_write(&rt, STILL, &STILL_WRITES)?;
+    assert!(rt; hovered && still);
     Ok(())
 }

@@ -55,3 +55,8 @@ next_begun f xs k d a b c piece below is first next =
 pub none_written : (a : Option (List ℕ)) (whole : List ℕ) → GrewByFront a a whole
 none_written None whole = (0, omega arith, tt)
 none_written (Some x) whole = (0, omega arith, sym (append-nil x))
+
+-- a piece of which the first n bytes are written, and then a front of the rest
+pub rest_begun : (a b c : Option (List ℕ)) (piece rest : List ℕ) (n : ℕ) → rest ≡ drop n piece → Appends a b (take n piece) → GrewByFront b c rest → GrewByFront a c piece
+rest_begun a b c piece rest n is first then =
+    front_after a b c (take n piece) rest [] piece (sym (ap (λ l. take n piece ++ l) (append-nil rest ∙ is) ∙ take-append-drop n piece)) first then

@@ -1,11 +1,11 @@
 -- Lines that are kept at places among bytes, and lines that are forgotten.
-use Rattle.std.proofs.Common.{◌≡◌, ◌≢◌, ◌⊎◌, inl, inr, ℕ, zero, suc, ◌+◌, ◌-◌, ◌<◌, ◌≤◌, ◌==◌, Bool, true, false, List, [], ◌∷◌, ◌++◌, length, map, take, drop, get_or, set, replicate, Option, Some, None, IfSome, sym, ap, ◌∙◌, subst, refl, arith, ◌||◌, length-drop, if◌then◌else◌, option_and_then, option_map, append-nil, append_assoc}
+use Rattle.std.proofs.Common.{◌≡◌, ◌≢◌, ◌⊎◌, inl, inr, ℕ, zero, suc, ◌+◌, ◌-◌, ◌<◌, ◌≤◌, ◌==◌, Bool, true, false, List, [], ◌∷◌, ◌++◌, length, map, take, drop, get_or, set, replicate, Option, Some, None, IfSome, sym, ap, ◌∙◌, subst, refl, arith, ◌||◌, length-drop, if◌then◌else◌}
 use Rattle.std.proofs.lemmas.Bool.{eqb-true, eqb-false}
-use Rattle.std.proofs.lemmas.List.{drop-append-le, drop-drop, get_or-set_other, get_or-set_same, take-append-le, take_all, take_more}
-use Rattle.std.proofs.Math.Seq.{drop-append_seam, take-add}
+use Rattle.std.proofs.lemmas.List.{drop-append-le, get_or-set_other, get_or-set_same, take-append-le, take_all}
+use Rattle.std.proofs.Math.Seq.{drop-append_seam}
 use Rattle.scene_model.specs.Numbers.{is_in}
 use Rattle.style_lines.specs.declared.lines.Place.{Place}
-use Rattle.style_lines.specs.KeptLines.{AreWithin, StandsAt, kept_line, kept_run, line_in, some_length}
+use Rattle.style_lines.specs.KeptLines.{AreWithin, kept_line, line_in, some_length}
 
 abbrev no_place : Place
 no_place = record { start = 0; len = 0 }
@@ -136,71 +136,3 @@ some_own n = by (n == 0)
     by : (b : Bool) → IfSome (if b then None else Some n) (λ kept. kept ≡ n)
     by true = tt
     by false = refl
-
--- lines that stand one behind the other
-
-empty_run : (run : List ℕ) → Some [] ≡ Some run → [] ≡ run
-empty_run run is = cc
-
--- one more
-pub run_more : (lines : List (Option (List ℕ))) (xs : List ℕ) (x : ℕ) (run line : List ℕ) → kept_run lines xs ≡ Some run → kept_line lines x ≡ Some line → kept_run lines (xs ++ x ∷ []) ≡ Some (run ++ line)
-run_more lines [] x run line is at =
-    ap (option_and_then (λ l. option_map (λ r. l ++ r) (kept_run lines []))) at ∙ ap Some (append-nil line ∙ ap (λ r. r ++ line) (empty_run run is))
-run_more lines (y ∷ xs) x run line is at = by (kept_line lines y) (kept_run lines xs) refl refl (λ r f. run_more lines xs x r line f at)
-  where
-    by : (o p : Option (List ℕ)) → kept_line lines y ≡ o → kept_run lines xs ≡ p → ((r : List ℕ) → kept_run lines xs ≡ Some r → kept_run lines (xs ++ x ∷ []) ≡ Some (r ++ line)) → kept_run lines (y ∷ (xs ++ x ∷ [])) ≡ Some (run ++ line)
-    by None p e f rest = absurd (cc)
-    by (Some l) None e f rest = absurd (cc)
-    by (Some l) (Some r) e f rest =
-        let whole : l ++ r ≡ run = cc in
-        ap (option_and_then (λ k. option_map (λ q. k ++ q) (kept_run lines (xs ++ x ∷ [])))) e
-        ∙ (ap (option_map (λ q. l ++ q)) (rest r f)
-        ∙ ap Some (sym (append_assoc l r line) ∙ ap (λ q. q ++ line) whole))
-
--- two parts of bytes, one behind the other
-pub parts_meet : (bytes : List ℕ) (start end past : ℕ) → start ≤ end → end ≤ past → take (end - start) (drop start bytes) ++ take (past - end) (drop end bytes) ≡ take (past - start) (drop start bytes)
-parts_meet bytes start end past first second =
-    let there : drop (end - start) (drop start bytes) ≡ drop end bytes = drop-drop (end - start) start bytes ∙ ap (λ n. drop n bytes) (omega (arith, first)) in
-    let both : past - start ≡ end - start + (past - end) = omega (arith, first, second) in
-    sym (ap (λ n. take n (drop start bytes)) both ∙ (take-add (end - start) (past - end) (drop start bytes) ∙ ap (λ l. take (end - start) (drop start bytes) ++ take (past - end) l) there))
-
-module _ (bytes : List ℕ) (places : List Place) (numbers : List ℕ) (count : ℕ) (place : Place) (within : AreWithin bytes places) (below : count < length numbers) (at : StandsAt places (get_or numbers count 0) place) where
-  abbrev lines : List (Option (List ℕ))
-  lines = map (line_in bytes) places
-
-  pub fits : place.start + place.len ≤ length bytes
-  fits = subst (λ (p : Place). p.start + p.len ≤ length bytes) (at.is no_place) (within_at bytes places (get_or numbers count 0) within)
-
-  own : kept_line lines (get_or numbers count 0) ≡ Some (take place.len (drop place.start bytes))
-  own =
-      kept_in bytes places (get_or numbers count 0)
-      ∙ (ap (line_in bytes) (at.is no_place)
-      ∙ ap (λ b. if b then None else Some (take place.len (drop place.start bytes))) at.some)
-
-  -- a run goes on with one more line
-  more : (run : List ℕ) → kept_run lines (take count numbers) ≡ Some run → kept_run lines (take (count + 1) numbers) ≡ Some (run ++ take place.len (drop place.start bytes))
-  more run is =
-      ap (kept_run lines) (take_more numbers count 0 below) ∙ run_more lines (take count numbers) (get_or numbers count 0) run (take place.len (drop place.start bytes)) is own
-
-  long : (past : ℕ) → past ≡ place.start + place.len → place.len ≡ past - place.start
-  long past is = omega (arith, is)
-
-  nothing : kept_run lines (take 0 numbers) ≡ Some []
-  nothing = none_taken numbers
-    where
-      none_taken : (ns : List ℕ) → kept_run lines (take 0 ns) ≡ Some []
-      none_taken [] = refl
-      none_taken (n ∷ ns) = refl
-
-  -- the first line
-  pub run_begun : (past : ℕ) → past ≡ place.start + place.len → count ≡ 0 → kept_run lines (take (count + 1) numbers) ≡ Some (take (past - place.start) (drop place.start bytes))
-  run_begun past is none =
-      more [] (ap (λ n. kept_run lines (take n numbers)) none ∙ nothing)
-      ∙ ap (λ n. Some (take n (drop place.start bytes))) (long past is)
-
-  -- a line that stands behind those so far
-  pub run_on : (start end past : ℕ) → past ≡ place.start + place.len → start ≤ end → place.start ≡ end → kept_run lines (take count numbers) ≡ Some (take (end - start) (drop start bytes)) → kept_run lines (take (count + 1) numbers) ≡ Some (take (past - start) (drop start bytes))
-  run_on start end past is rises meets so_far =
-      more (take (end - start) (drop start bytes)) so_far
-      ∙ ap Some (ap (λ n. take (end - start) (drop start bytes) ++ take n (drop place.start bytes)) (long past is)
-      ∙ (ap (λ n. take (end - start) (drop start bytes) ++ take (past - n) (drop n bytes)) meets ∙ parts_meet bytes start end past rises (omega (arith, is, meets))))

@@ -1,5 +1,5 @@
 -- The lines that are kept of elements.
-use Rattle.std.specs.Prelude.{◌≡◌, ℕ, ◌+◌, ◌==◌, ◌≤◌, false, List, [], ◌∷◌, ◌++◌, get_or, length, take, drop, if◌then◌else◌, Option, Some, None, option_and_then, option_map, slice_index_or}
+use Rattle.std.specs.Prelude.{ℕ, ◌+◌, ◌==◌, ◌≤◌, List, length, take, drop, if◌then◌else◌, Option, Some, None, slice_index_or}
 use Rattle.std.specs.List.{AllByRecursion}
 use Rattle.style_lines.specs.declared.lines.Place.{Place}
 
@@ -22,14 +22,3 @@ line_in bytes place = if place.len == 0 then None else Some (take place.len (dro
 -- each place is a part of the bytes
 abbrev pub AreWithin : List ℕ → List Place → Type 0
 AreWithin bytes places = AllByRecursion (λ (p : Place). p.start + p.len ≤ length bytes) places
-
--- the lines of elements, one behind the other, if all are kept
-abbrev pub kept_run : List (Option (List ℕ)) → List ℕ → Option (List ℕ)
-kept_run lines [] = Some []
-kept_run lines (x ∷ xs) =
-    option_and_then (λ line. option_map (λ run. line ++ run) (kept_run lines xs)) (kept_line lines x)
-
--- the line of an element stands at a place
-pub record StandsAt (places : List Place) (x : ℕ) (place : Place) : Type 0 where
-  pub is : (d : Place) → get_or places x d ≡ place
-  pub some : (place.len == 0) ≡ false

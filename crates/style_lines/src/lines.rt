@@ -1,8 +1,8 @@
 //! Lines that were written, kept for the elements whose style stays.
 
-ghost use Rattle.std.specs.Prelude.{◌≡◌, ◌<◌, ◌+◌, ◌≤◌, ℕ, None, [], IfSome, OnOk, length, map, slice_set, Some, take, true};
+ghost use Rattle.std.specs.Prelude.{◌≡◌, ◌<◌, ◌+◌, ◌≤◌, ℕ, None, [], IfSome, OnOk, length, map, option_map, slice_set, Some, true};
 ghost use Rattle.scene_model.specs.Numbers.{is_in};
-ghost use Rattle.style_lines.specs.KeptLines.{AreWithin, StandsAt, kept_line, kept_run, line_in};
+ghost use Rattle.style_lines.specs.KeptLines.{AreWithin, kept_line, line_in};
 
 use std::alloc::Global;
 use std::marker::Model;
@@ -58,13 +58,11 @@ impl Lines {
         }
     }
 
-    /// Of the first of these elements the lines that are kept and stand one behind the other, and of how
-    /// many elements they are.
-    pub fn run(&self, numbers: &[u32]) -> (usize, &[u8])
-        ensures count { result.0 ≤ length numbers.now }
-        ensures lines { kept_run self.now (take result.0 numbers.now) ≡ Some result.1.now }
+    /// The line of an element, if it is kept.
+    pub fn line(&self, number: u32) -> Option<&[u8]>
+        ensures { option_map (λ line. line.now) result ≡ kept_line self.now number }
     {
-        run_among(&self.bytes, &self.places, numbers)
+        line_at(&self.bytes, &self.places, number)
     }
 
     /// Counts anew how many bytes are in use. From now on whoever writes kept lines tells of their bytes.
@@ -160,35 +158,15 @@ impl Lines {
     }
 }
 
-/// Of the first of these elements the lines that are kept among these bytes and stand there one behind the
-/// other, and of how many elements they are.
-fn run_among<'a>(bytes: &'a [u8], places: &[Place], numbers: &[u32]) -> (usize, &'a [u8])
+/// The line of an element among these bytes, if it is kept.
+fn line_at<'a>(bytes: &'a [u8], places: &[Place], number: u32) -> Option<&'a [u8]>
     requires { AreWithin bytes.now places.now }
-    ensures count { result.0 ≤ length numbers.now }
-    ensures lines { kept_run (map (line_in bytes.now) places.now) (take result.0 numbers.now) ≡ Some result.1.now }
-{
-    let (mut count, mut start, mut end) = (0, 0, 0);
-    // The proof calls the loop by this label.
-    'run: while count < numbers.len() {
-        let Some(place) = place_of(places, numbers[count]) else {
-            break;
-        };
-        let first = place.start as usize;
-        if count == 0 {
-            start = first;
-        } else if first != end {
-            break;
-        }
-        end = first + place.len as usize;
-        count += 1;
-    }
-    (count, &bytes[start..end])
-}
-
-/// Where the line of an element stands, if it is kept.
-fn place_of(places: &[Place], number: u32) -> Option<Place>
-    ensures { IfSome result (λ place. StandsAt places.now number place) }
+    ensures { option_map (λ line. line.now) result ≡ kept_line (map (line_in bytes.now) places.now) number }
 {
     let place = *places.get(number as usize)?;
-    if place.len == 0 { None } else { Some(place) }
+    if place.len == 0 {
+        return None;
+    }
+    let start = place.start as usize;
+    Some(&bytes[start..start + place.len as usize])
 }

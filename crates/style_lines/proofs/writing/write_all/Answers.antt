@@ -1,11 +1,7 @@
-use Rattle.std.proofs.Common.{rules}
-use Rattle.style_lines.proofs.Told.{Appends-take-add}
+use Rattle.std.proofs.lemmas.Result.{on_err_weaker}
+use Rattle.style_lines.proofs.Fronts.{rest_begun}
 use Rattle.style_lines.proofs.writing.write_all.Goals as goal
 
-pub loop-at-preserved : goal.loop-at-preserved
-loop-at-preserved g c = record {
-  within = search rules;
-  later = search rules;
-  written = Appends-take-add _ _ _ c.args.piece.now c.split_at.result.1.now c.loop-at.at c.in_ok-at.field-0
-      (search rules) c.loop-at.invariant.written c.in_ok-at.ensures.bytes;
-}
+pub returns-then-taken-piece-clause-err : goal.returns-then-taken-piece-clause-err
+returns-then-taken-piece-clause-err g c =
+    on_err_weaker c.write_rest.result (rest_begun _ _ _ c.args.piece.now c.split_at.result.1.now c.in_ok-taken.taken c.split_at.ensures.back c.in_ok-taken.ensures.bytes) c.write_rest.ensures.err

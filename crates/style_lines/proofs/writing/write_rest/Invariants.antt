@@ -1,6 +1,6 @@
 use Rattle.std.proofs.Common.{length, take, ◌-◌, ◌≤◌}
 use Rattle.std.specs.Io.KnownBytes.{Appends}
-use Rattle.style_lines.proofs.writing.write_all.Given as goal
+use Rattle.style_lines.proofs.writing.write_rest.Given as goal
 
 -- the first bytes of the piece are written
 abbrev pub invariant-loop-at : goal.invariant-loop-at
