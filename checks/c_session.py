@@ -1,13 +1,13 @@
-"""The calls for C (include/bokdrez.h) of crates/style_c/out/libbokdrez.so, as checks/c_rows and checks/sessions make them."""
+"""The calls for C (include/bokdrez.h) of out/libbokdrez.so, as checks/c_rows, checks/sessions and checks/marked make them."""
 import ctypes
 import json
 import pathlib
-import shutil
+import subprocess
 import sys
 from ctypes import POINTER, byref, c_char_p, c_size_t, c_uint32, c_uint64, c_void_p
 
 TOP = pathlib.Path(__file__).resolve().parent.parent
-LIBRARY = TOP / "crates" / "style_c" / "out" / "libbokdrez.so"
+LIBRARY = TOP / "out" / "libbokdrez.so"
 DONE, NOT_A_JOB, LIMIT, REFUSED, NO_ROOM, STALE, NO_NODE = 0, 4, 5, 8, 10, 11, 12
 KINDS = ["", "input", "elements", "numbers", "depth", "attributes", "value", "sheets", "text", "batches"]
 STATES = ["hover", "active", "focus"]
@@ -139,13 +139,12 @@ def option(argv, name, usage):
 
 
 def library_named(check, given):
-    """The library of a path that is given, or else the one that checks/c_interface makes, and 0. None: it is not there, and the
+    """The library of a path that is given, or else the one that tools/c_library makes, and 0. None: it is not there, and the
     check that asks ends with this status."""
-    if not given and not any(map(shutil.which, ("cc", "gcc", "clang"))):
-        print("%s: nothing tried: there is no C compiler, and so no library" % check)
-        return None, 0
+    if not given and subprocess.run([TOP / "tools" / "c_library"], stdout=subprocess.DEVNULL).returncode:
+        return None, 1
     path = pathlib.Path(given or LIBRARY).resolve()
     if not path.exists():
-        print("%s: there is no %s: checks/c_interface makes it" % (check, path), file=sys.stderr)
+        print("%s: there is no %s" % (check, path), file=sys.stderr)
         return None, 1
     return loaded(path), 0

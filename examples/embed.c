@@ -1,9 +1,10 @@
 /* A page of 200 elements that takes 1,000 edits, in C. It prints what each edit changed, and at the end all styles.
  *
- * In the folder above, where `rt lib` has made the library in crates/style_c, this compiles and runs it:
+ * In the folder above, where tools/c_library has made the library behind ./style build (it can't be tried unproved), this
+ * compiles and runs it:
  *
- *   cc -std=c99 -Iinclude -o embed examples/embed.c crates/style_c/out/libstyle_c.a /opt/rattle/c/liblibc_c.a
- *   ./embed
+ *   cc -std=c99 -Iinclude -o out/embed examples/embed.c -Lout -lbokdrez -Wl,-rpath,"$PWD/out"
+ *   out/embed
  *
  * examples/embed.py does the same in Python, and prints the same text. */
 #include <bokdrez.h>

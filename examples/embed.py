@@ -1,10 +1,9 @@
 #!/usr/bin/env python3
 """A page of 200 elements that takes 1,000 edits, in Python. It prints what each edit changed, and at the end all styles.
 
-In the folder above, where `rt lib` has made the library in crates/style_c, this makes what Python loads, and runs it:
+In the folder above, where tools/c_library has made the library behind ./style build (it can't be tried unproved), this runs it:
 
-  cc -shared -o libbokdrez.so -Wl,--whole-archive crates/style_c/out/libstyle_c.a -Wl,--no-whole-archive /opt/rattle/c/liblibc_c.a
-  python3 examples/embed.py ./libbokdrez.so
+  python3 examples/embed.py out/libbokdrez.so
 
 examples/embed.c does the same in C, and prints the same text.
 """

@@ -1,8 +1,10 @@
-"""What the tools here take from the Rattle kit: its module that knows the commands of a crate, which the kit does not describe."""
+"""What the tools here take from the Rattle kit, and what the kit does not describe: its module that knows the commands of a crate,
+and the programs of its toolchain, which are one file that goes by the name it is called by."""
 import importlib.machinery
 import importlib.util
 import os
 import shutil
+import subprocess
 import sys
 
 TOP = os.path.dirname(os.path.dirname(os.path.abspath(__file__)))
@@ -26,3 +28,19 @@ def crate_of(module, name):
     folder = os.path.join(TOP, "crates", name)
     os.chdir(folder)
     return module.Crate(folder, module.root_above(folder) or folder, {})
+
+
+def memory_calls(module):
+    """The archive of the kit's calls of the system's memory, which each program and each static library wants."""
+    return os.path.join(module.KIT, "c", "liblibc_c.a")
+
+
+def system_library(module, name):
+    """A library of the system, as the kit links programs with it."""
+    return os.path.join(module.KIT, "toolchain", "lib", name)
+
+
+def run_llvm(module, name, *words):
+    """Runs a program of the kit's toolchain: what came of it, with what it said on standard error."""
+    program = os.path.join(module.KIT, "toolchain", "bin", "clang")
+    return subprocess.run([name, *words], executable=program, stdin=subprocess.DEVNULL, capture_output=True, text=True)
