@@ -1,4 +1,11 @@
 //! The style of an element, from the declarations that apply to it and the style of its parent.
+//!
+//! The cascade asks first which declaration of each property wins, in one look at all that apply (`Winners`), which
+//! takes no memory. A winner with `var()` is expanded, that of a shorthand once for all its properties. Only where the
+//! winner is `revert` or `revert-layer`, or comes to one of these, the declarations of its property are sorted, once,
+//! from the greatest down, and walked under a `RollbackBound`: what is asked still (`rolled_back`).
+//!
+//! A `Matched` lends its declaration: from its rule, or from the list that was read from the `style` attribute.
 #![tactic(auto)]
 
 mod cascaded_style;

@@ -1,4 +1,10 @@
 //! Jobs: the document, the style sheets and the batches of edits. A job is read from JSON, or made from a number.
+//!
+//! A reader of a job says for each of its objects what to do with the value of a key; the loops over members and items
+//! are said once, in `json_reader`. Texts stay in the input until a node or a sheet is made. A reader of a part answers
+//! with its first bad place, or with the limit that it passes first, or with the part (`Checked`, `Within`); an object
+//! keeps that answer of each of its members, and tells at its brace, in reading order, what is wrong of itself. Past a
+//! limit or a bad place nothing more of a list is kept.
 #![tactic(auto)]
 
 mod attributes;

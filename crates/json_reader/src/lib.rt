@@ -3,6 +3,9 @@
 //!
 //! Each reader takes one whole value, whatever its shape, so that nothing is set back: it answers
 //! what the value says, or that it has another shape. An error means that no value is there.
+//!
+//! A reader takes one value of a text at a time from the tokens of the kit's `json::Reader`, whatever its shape, and
+//! answers what it says or that it is of another shape.
 #![tactic(auto)]
 
 mod arrays;

@@ -1,5 +1,8 @@
 //! Selectors as data, how specific they are, and the key by which their rules are found; and what an edit of sheets
 //! changed.
+//!
+//! The comparison of an attribute, the longest of the simple tests, is in memory of its own, so that it does not make
+//! every other test as long.
 #![tactic(auto)]
 
 mod complex;

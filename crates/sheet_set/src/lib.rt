@@ -1,4 +1,15 @@
 //! The style sheets of a document: the rules, layers and declarations of them that are kept.
+//!
+//! `Sheets` has the rules of all enabled sheets in one list, beside it the selectors of each rule, the rank of each
+//! rule's layer and the position of each rule's sheet, so that matching looks nothing up; and the sheets themselves
+//! with their texts. A disabled sheet keeps its own rules apart.
+//!
+//! An edit of sheets is planned first, with all memory that it takes (`Sheets::plan`): only its own text is read, its
+//! keys are listed, and where a layer comes or goes the order of layers is made anew. Then it marks, and then it is
+//! made (`Sheets::commit`), without any memory: rules are moved, never copied, each a handle with its selectors and its
+//! rank, and the positions of their sheets, a list of their own, are written in one pass. With it a session drops what
+//! it made of the sheets: what marks elements is made again by the next edit of the document, what styling needs by the
+//! next restyle.
 #![tactic(auto)]
 
 mod copied;
