@@ -6,5 +6,6 @@ pub mod Results
 pub mod Digits
 pub mod Specificities
 pub mod Texts
+pub mod Origins
 pub mod LineFeedLemmas
 mod Examples

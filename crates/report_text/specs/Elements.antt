@@ -4,9 +4,9 @@ use Rattle.std.specs.List.{flat_map}
 use Rattle.base_model.specs.Text.{Characters}
 use Rattle.scene_model.specs.Element.{Element}
 use Rattle.scene_model.specs.Lookups.{numbers, tag_of}
+use Rattle.scene_model.specs.Scene.{Scene, elements_of}
 use Rattle.sheet_model.specs.Sources.{Sources, sources_of}
 use Rattle.cascade_model.specs.StyleOf.{style_of}
-use Rattle.session_model.specs.Standing.{Scene, elements_of}
 use Rattle.report_text.specs.Lines.{element_line}
 
 -- an element's line: its number, its tag and its style

@@ -15,6 +15,7 @@ use Rattle.scene_model.specs.Numbers.{is_in}
 use Rattle.scene_model.specs.Valid.{IsValid}
 use Rattle.scene_model.specs.Nodes.{Node, IsNodeList}
 use Rattle.scene_model.specs.Document.{document_of}
+use Rattle.scene_model.specs.Scene.{Scene, elements_of}
 use Rattle.scene_model.proofs.Lists.{filter_same}
 use Rattle.scene_model.proofs.Numbers.{each_is_in}
 use Rattle.scene_model.proofs.Found.{is_element-numbers, parent_of-element}
@@ -33,8 +34,8 @@ use Rattle.edit_model.specs.SheetApply.{number_in, sheets_after, last_after, she
 use Rattle.edit_model.proofs.Lists.{each_of_all}
 use Rattle.session_model.specs.Marking.{marking_selectors}
 use Rattle.session_model.specs.Same.{same_style}
-use Rattle.session_model.specs.SheetMarks.{is_marked_by_sheets}
-use Rattle.session_model.specs.Standing.{Scene, Standing, elements_of, style_in, root_size_in, kept_at, is_style, has_size, is_matched, parent_differs, root_size_differs, is_cascaded, is_open, matched_count, cascaded_count, started, restyled, with_document, with_sheets, sheet_list, scene_applied, changed, change_of, edit_marks, edit_freshens, edited_by, edited}
+use Rattle.sheet_edit_model.specs.SheetMarks.{is_marked_by_sheets}
+use Rattle.session_model.specs.Standing.{Standing, style_in, root_size_in, kept_at, is_style, has_size, is_matched, parent_differs, root_size_differs, is_cascaded, is_open, matched_count, cascaded_count, started, restyled, with_document, with_sheets, sheet_list, scene_applied, changed, change_of, edit_marks, edit_freshens, edited_by, edited}
 use Rattle.session_model.specs.StandingInvariant.{AllKeep, IsReached, at_start, by_restyle}
 use Rattle.session_model.specs.Batches.{edited_all, RefusedEdit, onto_refused, refused_from, with_accepted, accepted_among}
 use Rattle.session_model.proofs.BatchLemmas.{edited_all-reached}

@@ -13,6 +13,7 @@ use Rattle.scene_model.specs.Numbers.{is_in}
 use Rattle.scene_model.specs.Ancestors.{ancestors}
 use Rattle.scene_model.specs.Nodes.{Node, IsNodeList, scene_of, tree_order}
 use Rattle.scene_model.specs.Document.{document_of}
+use Rattle.scene_model.specs.Scene.{Scene, elements_of}
 use Rattle.selector_model.specs.Selector.{descendant, next_sibling, later_sibling}
 use Rattle.selector_model.specs.Selector.{type_selector, class_selector, nth, in_state}
 use Rattle.selector_model.specs.Selector.{Selector, subject, combined, Compound, with_test, simple}
@@ -30,7 +31,7 @@ use Rattle.selector_model.proofs.AttributeCases.{no_attributes, get_pairs}
 use Rattle.edit_model.proofs.ExampleCases.{get_set, get_unset, node, node_of, class_of, one, class_a}
 use Rattle.edit_model.proofs.LimitCases.{values-none}
 use Rattle.session_model.specs.Marking.{marking_selectors}
-use Rattle.session_model.specs.Standing.{Scene, elements_of, is_open, restyled}
+use Rattle.session_model.specs.Standing.{is_open, restyled}
 use Rattle.session_model.specs.Batches.{RefusedEdit, edited_all}
 use Rattle.session_model.proofs.BatchLemmas.{batch-reached}
 use Rattle.session_model.proofs.BatchCases.{sheet, job, with_edit, Comes, ends, accepts_document, refuses, Reports, reports, at_first, first, first_reached, next, open_is}

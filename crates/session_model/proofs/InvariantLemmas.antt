@@ -6,11 +6,12 @@ use Rattle.scene_model.proofs.Lists.{each-filter}
 use Rattle.std.proofs.lemmas.Bool.{or_parts}
 use Rattle.scene_model.specs.Lookups.{is_element, IsElement}
 use Rattle.scene_model.specs.Valid.{IsValid}
+use Rattle.scene_model.specs.Scene.{Scene, elements_of}
 use Rattle.change_model.specs.Sound.{IsSound}
 use Rattle.sheet_model.specs.Sources.{sources_of}
 use Rattle.edit_model.specs.Edit.{Edit, IsShapedEdit}
 use Rattle.edit_model.specs.Refusal.{Refusal, Outcome, refused, accepted}
-use Rattle.session_model.specs.Standing.{Scene, Standing, Change, elements_of, rising, style_in, kept_at, is_matched, is_cascaded, is_open, started, restyled, changed, change_of, scene_applied, edited_by, edited}
+use Rattle.session_model.specs.Standing.{Standing, Change, rising, style_in, kept_at, is_matched, is_cascaded, is_open, started, restyled, changed, change_of, scene_applied, edited_by, edited}
 use Rattle.session_model.specs.StandingInvariant.{StandingInvariant, AllKeep, IsCovered, IsReached, at_start, by_edit, by_restyle, IsSince, since_start, since_edit, since_restyle, IsStyleIn}
 use Rattle.session_model.proofs.CalmLemmas.{calm_itself, calm_on}
 use Rattle.session_model.proofs.EditLemmas.{sound-edit, covered-edit}

@@ -28,7 +28,6 @@ mod BatchExamples
 mod SheetBatchExamples
 mod StyleBatchExamples
 mod AgreesExamples
-mod SheetMarkExamples
 mod MarkExamples
 pub mod RowExamples
 mod RootExample

@@ -40,9 +40,10 @@ use Rattle.cascade_model.specs.StyleOf.{root_size_of, style_of}
 use Rattle.cascade_model.proofs.ExampleCases.{word, px, styled, no_borders, cascaded_alone}
 use Rattle.std.specs.Option.{option_map_or}
 use Rattle.scene_model.specs.Lookups.{parent_of}
+use Rattle.scene_model.specs.Scene.{Scene, elements_of}
 use Rattle.session_model.specs.Same.{same_style}
 use Rattle.session_model.proofs.KeepsLemmas.{is_style-own, has_size-own}
-use Rattle.session_model.specs.Standing.{is_style, Scene, Standing, elements_of, style_in, root_size_in, kept_at, is_matched, root_size_differs, is_cascaded, matched_count, cascaded_count, started, restyled, changed}
+use Rattle.session_model.specs.Standing.{is_style, Standing, style_in, root_size_in, kept_at, is_matched, root_size_differs, is_cascaded, matched_count, cascaded_count, started, restyled, changed}
 
 abbrev pub element : ℕ → Option ℕ → Characters → Attributes → Element
 element n p tag attrs = record {

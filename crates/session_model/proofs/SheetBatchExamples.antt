@@ -21,12 +21,13 @@ use Rattle.sheet_model.specs.Sources.{rules_of_sheets, layers_of_sheets}
 use Rattle.scene_model.specs.Ancestors.{ancestors}
 use Rattle.scene_model.specs.Nodes.{Node, IsNodeList, scene_of, tree_order}
 use Rattle.scene_model.specs.Document.{document_of}
+use Rattle.scene_model.specs.Scene.{Scene}
 use Rattle.edit_model.specs.Edit.{DocEdit, SheetEdit, of_document, of_sheets, set, replace_sheet, enable_sheet}
 use Rattle.edit_model.specs.Apply.{refusal}
 use Rattle.selector_model.proofs.AttributeCases.{no_attributes, get_pairs}
 use Rattle.edit_model.proofs.ExampleCases.{get_set, node_of}
 use Rattle.session_model.specs.Marking.{marking_selectors}
-use Rattle.session_model.specs.Standing.{Scene, restyled}
+use Rattle.session_model.specs.Standing.{restyled}
 use Rattle.session_model.specs.Batches.{edited_all}
 use Rattle.session_model.proofs.BatchLemmas.{batch-reached}
 use Rattle.session_model.proofs.BatchCases.{sheet, job, with_edit, with_sheet_edit, Comes, ends, accepts_document, accepts_sheets, Reports, reports, at_first, first, first_reached, next}

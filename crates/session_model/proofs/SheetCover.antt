@@ -20,7 +20,7 @@ use Rattle.sheet_model.specs.Sources.{PlacedRule, rules_from, enabled_among, lay
 use Rattle.cascade_model.specs.Matching.{greatest_by, matching}
 use Rattle.session_model.specs.Agrees.{Pair, IsAlike, CompareAlike, Agrees}
 use Rattle.layer_model.specs.Swapped.{swapped}
-use Rattle.session_model.specs.SheetMarks.{bears_some}
+use Rattle.sheet_edit_model.specs.SheetMarks.{bears_some}
 use Rattle.base_model.proofs.Lists.{each_any, each-map, each-append}
 use Rattle.layer_model.proofs.Ranks.{IsThere}
 use Rattle.session_model.proofs.OtherSheets.{HasLayers, LayerThere, enabled_has, rules_there, none_there}

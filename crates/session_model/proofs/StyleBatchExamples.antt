@@ -21,6 +21,7 @@ use Rattle.scene_model.specs.Lookups.{numbers}
 use Rattle.scene_model.specs.Ancestors.{ancestors}
 use Rattle.scene_model.specs.Nodes.{Node, IsNodeList, scene_of, tree_order}
 use Rattle.scene_model.specs.Document.{document_of}
+use Rattle.scene_model.specs.Scene.{Scene, elements_of}
 use Rattle.change_model.proofs.Started.{IsSound-document_of}
 use Rattle.selector_model.specs.Selector.{Selector, subject, type_selector}
 use Rattle.selector_model.specs.SpecificityOf.{specificity_of}
@@ -48,7 +49,7 @@ use Rattle.edit_model.specs.Refusal.{outcome_of}
 use Rattle.edit_model.specs.Apply.{refusal}
 use Rattle.edit_model.proofs.ExampleCases.{get_unset, bare, node_of, class_of, one, class_a}
 use Rattle.session_model.specs.Same.{same_style}
-use Rattle.session_model.specs.Standing.{Scene, elements_of, style_in, root_size_in, is_cascaded, with_document}
+use Rattle.session_model.specs.Standing.{style_in, root_size_in, is_cascaded, with_document}
 use Rattle.session_model.specs.StandingInvariant.{IsReached}
 use Rattle.session_model.specs.Batches.{edited_all}
 use Rattle.session_model.proofs.BatchLemmas.{edited_all-reached}

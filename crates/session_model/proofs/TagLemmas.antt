@@ -4,13 +4,14 @@ use Rattle.std.proofs.Common.{List, [], ◌∷◌}
 use Rattle.std.specs.List.{AllByRecursion}
 use Rattle.scene_model.specs.Element.{Characters}
 use Rattle.scene_model.specs.Document.{Document}
+use Rattle.scene_model.specs.Scene.{Scene, elements_of}
 use Rattle.scene_model.proofs.TagLemmas.{TagsHold}
 use Rattle.edit_model.specs.Edit.{Edit, of_document, of_sheets}
 use Rattle.edit_model.specs.Refusal.{Outcome, refused, accepted}
 use Rattle.edit_model.specs.Apply.{applied}
 use Rattle.edit_model.specs.SheetApply.{SheetList, sheets_applied}
 use Rattle.edit_model.proofs.TagLemmas.{EditTagsHold, OutcomeHolds, applied_holds}
-use Rattle.session_model.specs.Standing.{Scene, Standing, edited, edited_by, elements_of, restyled, scene_applied, sheet_list, started, with_document, with_sheets}
+use Rattle.session_model.specs.Standing.{Standing, edited, edited_by, restyled, scene_applied, sheet_list, started, with_document, with_sheets}
 use Rattle.session_model.specs.Batches.{Report, edited_all, reports, reports_from}
 
 module _ (P : Characters → Type 0) where

@@ -10,6 +10,7 @@ use Rattle.scene_model.specs.Element.{Element}
 use Rattle.scene_model.specs.Lookups.{numbers, IsElement, parent_of}
 use Rattle.scene_model.specs.Ancestors.{position_of}
 use Rattle.scene_model.specs.Valid.{IsValid}
+use Rattle.scene_model.specs.Scene.{elements_of}
 use Rattle.scene_model.proofs.Lists.{filter-map, filter-filter}
 use Rattle.scene_model.proofs.Numbers.{index_in, same_number}
 use Rattle.scene_model.proofs.Found.{is_element-numbers, position_of-numbers}
@@ -18,7 +19,7 @@ use Rattle.sheet_model.specs.Sources.{sources_of}
 use Rattle.cascade_model.specs.Cascade.{cascaded}
 use Rattle.cascade_model.specs.StyleOf.{root_of, root_size_at, root_size_of, styled_over, parent_style}
 use Rattle.cascade_model.proofs.StyleAlong.{style_of-over, style_of-root, root_size_of-root, parent_of-root}
-use Rattle.session_model.specs.Standing.{Standing, elements_of, matching_in, style_in, root_size_in, listed_at, kept_at, is_matched, is_style, has_size, parent_differs, root_size_differs, is_cascaded, matched_count, cascaded_count}
+use Rattle.session_model.specs.Standing.{Standing, matching_in, style_in, root_size_in, listed_at, kept_at, is_matched, is_style, has_size, parent_differs, root_size_differs, is_cascaded, matched_count, cascaded_count}
 use Rattle.scene_model.specs.Numbers.{is_in}
 use Rattle.session_model.specs.StandingInvariant.{AllKeep}
 use Rattle.session_model.specs.Walk.{first_style, first_size, new_at, new_parent, cascades, new_style, walked_from, walked, Styled, with_result, results_from, results, result_at, committed}

@@ -1,13 +1,14 @@
 -- What holds of a session between its calls.
 use Rattle.std.specs.Prelude.{◌≡◌, ℕ, false, Option, Some, None, option_and_then}
 use Rattle.scene_model.specs.Lookups.{IsElement, parent_of}
+use Rattle.scene_model.specs.Scene.{Scene, elements_of}
 use Rattle.change_model.specs.Sound.{IsSound}
 use Rattle.value_model.specs.Style.{Style, initial_style, font_size_of}
 use Rattle.sheet_model.specs.Sources.{sources_of}
 use Rattle.cascade_model.specs.StyleOf.{root_of, styled_over}
 use Rattle.edit_model.specs.Edit.{Edit, IsShapedEdit}
 use Rattle.session_model.specs.Calm.{IsCalm}
-use Rattle.session_model.specs.Standing.{Scene, Standing, Change, elements_of, style_in, kept_at, is_matched, started, restyled, edited}
+use Rattle.session_model.specs.Standing.{Standing, Change, style_in, kept_at, is_matched, started, restyled, edited}
 
 -- the style that is kept of the parent, and all initial values at the root
 abbrev pub kept_parent : Standing → Option ℕ → Option Style

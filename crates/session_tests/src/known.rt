@@ -3,8 +3,9 @@
 ghost use Rattle.std.specs.Prelude.{◌≡◌, ◌≤◌, ℕ, IfOk, false, filter, length};
 ghost use Rattle.base_model.specs.Limits.{element_limit, sheet_limit};
 ghost use Rattle.scene_model.specs.Lookups.{IsElement};
+ghost use Rattle.scene_model.specs.Scene.{elements_of};
 ghost use Rattle.dom_edits.specs.EditView.{edit_seen};
-ghost use Rattle.session_model.specs.Standing.{edited, elements_of, is_open, started};
+ghost use Rattle.session_model.specs.Standing.{edited, is_open, started};
 ghost use Rattle.session_model.specs.StandingInvariant.{IsReached};
 ghost use Rattle.session_model.specs.Walk.{results};
 ghost use Rattle.style_session.specs.Laws.{KeepsStyle};

@@ -8,7 +8,7 @@ use Rattle.layer_model.specs.Swapped.{swapped}
 use Rattle.selector_model.specs.Key.{Key}
 use Rattle.sheet_model.specs.Sources.{layers_of_sheets}
 use Rattle.edit_model.specs.SheetApply.{changed_in, is_of, is_other}
-use Rattle.session_model.specs.SheetMarks.{keys_in}
+use Rattle.sheet_edit_model.specs.SheetMarks.{keys_in}
 use Rattle.sheet_set.specs.Planned.{at_place, in_place}
 use Rattle.sheet_set.specs.StepOf.{AreOthers}
 use Rattle.sheet_set.proofs.Places.{changed-place, left-place}

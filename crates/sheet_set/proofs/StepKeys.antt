@@ -14,7 +14,7 @@ use Rattle.selector_model.specs.Selector as model
 use Rattle.sheet_model.specs.StyleRules.{style_rules_in}
 use Rattle.sheet_model.specs.Sources.{PlacedRule, edition_of}
 use Rattle.edit_model.specs.SheetApply.{with_enabled}
-use Rattle.session_model.specs.SheetMarks.{keys_in, selectors_in}
+use Rattle.sheet_edit_model.specs.SheetMarks.{keys_in, selectors_in}
 use Rattle.selector_types.specs.View.{selector_of}
 use Rattle.selector_types.specs.declared.selector.Selector.{Selector}
 use Rattle.sheet_set.specs.declared.sheet_rule.SheetRule.{SheetRule}

@@ -18,8 +18,8 @@ use Rattle.selector_model.specs.Key.{Key}
 use Rattle.sheet_model.specs.Sources.{layers_of_sheets}
 use Rattle.edit_model.specs.Marked.{bears_in}
 use Rattle.edit_model.specs.SheetApply.{is_of}
-use Rattle.session_model.specs.SheetMarks.{keys_in, same_sheet, same_sheets, is_marked_by_sheets}
-use Rattle.session_model.proofs.SheetEditLemmas.{sheets_mark_nothing}
+use Rattle.sheet_edit_model.specs.SheetMarks.{keys_in, same_sheet, same_sheets, is_marked_by_sheets}
+use Rattle.sheet_edit_model.proofs.SameSheets.{sheets_mark_nothing}
 use Rattle.sheet_set.specs.StepOf.{AreOthers}
 use Rattle.sheet_set.proofs.Places.{it-place, none-others}
 

@@ -9,7 +9,7 @@ use Rattle.layer_model.specs.Name.{LayerName}
 use Rattle.selector_model.specs.Key.{Key, key_of}
 use Rattle.sheet_model.specs.Sources.{PlacedRule, enabled_among, sheet_layers}
 use Rattle.edit_model.specs.SheetApply.{SheetList, is_of, with_enabled}
-use Rattle.session_model.specs.SheetMarks.{keys_in}
+use Rattle.sheet_edit_model.specs.SheetMarks.{keys_in}
 use Rattle.selector_types.specs.View.{selector_of}
 use Rattle.selector_types.specs.declared.selector.Selector.{Selector}
 use Rattle.sheet_set.specs.declared.kept_sheet.KeptSheet.{KeptSheet}

@@ -5,7 +5,7 @@ use Rattle.base_model.specs.Sheet.{Sheet}
 use Rattle.scene_model.specs.Element.{Element}
 use Rattle.scene_model.specs.Lookups.{is_element}
 use Rattle.edit_model.specs.Marked.{bears_in}
-use Rattle.session_model.specs.SheetMarks.{is_marked_by_sheets}
+use Rattle.sheet_edit_model.specs.SheetMarks.{is_marked_by_sheets}
 use Rattle.selector_types.specs.SimpleView.{key_seen}
 use Rattle.selector_types.specs.declared.sheet_change.SheetChange.{SheetChange}
 

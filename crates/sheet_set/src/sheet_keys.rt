@@ -5,7 +5,7 @@ ghost use Rattle.std.specs.Option.{option_map_or};
 ghost use Rattle.layer_model.specs.Swapped.{swapped};
 ghost use Rattle.selector_model.specs.Key.{key_of as model_key_of};
 ghost use Rattle.edit_model.specs.SheetApply.{with_enabled};
-ghost use Rattle.session_model.specs.SheetMarks.{keys_in};
+ghost use Rattle.sheet_edit_model.specs.SheetMarks.{keys_in};
 ghost use Rattle.selector_types.specs.SimpleView.{key_seen};
 ghost use Rattle.selector_types.specs.View.{selector_of};
 ghost use Rattle.sheet_set.specs.Kept.{kept_seen};

@@ -6,9 +6,10 @@ use Rattle.base_model.specs.Text.{Characters}
 use Rattle.base_model.proofs.Lists.{each-drop}
 use Rattle.scene_model.specs.Element.{Element}
 use Rattle.scene_model.specs.Lookups.{IsElement, numbers}
+use Rattle.scene_model.specs.Scene.{elements_of}
 use Rattle.sheet_model.specs.Sources.{sources_of}
 use Rattle.sheet_set.proofs.Left.{item_at}
-use Rattle.session_model.specs.Standing.{Standing, elements_of, is_open}
+use Rattle.session_model.specs.Standing.{Standing, is_open}
 use Rattle.dom_tree.proofs.DepthLemmas.{get_any}
 use Rattle.session_model.proofs.FlagLemmas.{each_number}
 use Rattle.report_text.specs.Elements.{line_at, lines_bytes}

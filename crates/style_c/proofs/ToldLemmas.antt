@@ -6,8 +6,9 @@ use Rattle.std.proofs.lemmas.Bool.Decides.{nat_tests}
 use Rattle.std.proofs.lemmas.Str.{IsUtf8-from_is_utf8, is_utf8-from_IsUtf8}
 use Rattle.base_model.specs.Limits.{input_limit}
 use Rattle.scene_model.specs.Lookups.{is_element}
+use Rattle.scene_model.specs.Scene.{elements_of}
 use Rattle.sheet_model.specs.Sources.{sources_of}
-use Rattle.session_model.specs.Standing.{Standing, elements_of, is_open, started}
+use Rattle.session_model.specs.Standing.{Standing, is_open, started}
 use Rattle.report_text.specs.Elements.{elements_bytes, line_bytes}
 use Rattle.style_session.specs.SessionView.{scene_from}
 use Rattle.stylo_base.specs.declared.refusal.Kind.TheVariants.{Input}

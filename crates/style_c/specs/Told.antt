@@ -6,6 +6,7 @@ use Rattle.base_model.specs.Limits.{input_limit}
 use Rattle.std.specs.List.{list_any}
 use Rattle.base_model.specs.Text.{Characters}
 use Rattle.scene_model.specs.Lookups.{is_element, numbers}
+use Rattle.scene_model.specs.Scene.{Scene, elements_of}
 use Rattle.sheet_model.specs.Sources.{sources_of}
 use Rattle.report_text.specs.Elements.{elements_bytes, line_bytes}
 use Rattle.stylo_base.specs.declared.refusal.Kind.{Kind}
@@ -20,7 +21,7 @@ use Rattle.dom_edits.specs.declared.edits.Edit.TheVariants.{Document}
 use Rattle.dom_edits.specs.EditView.{edit_seen, refusal_answered}
 use Rattle.stylo_base.specs.declared.state.State.{State}
 use Rattle.stylo_base.specs.declared.state.State.TheVariants.{Hover, Active, Focus}
-use Rattle.session_model.specs.Standing.{Scene, Standing, cascaded_count, edited, elements_of, is_open, matched_count, restyled, scene_applied, started}
+use Rattle.session_model.specs.Standing.{Standing, cascaded_count, edited, is_open, matched_count, restyled, scene_applied, started}
 use Rattle.job_json.specs.Words.{is_name}
 use Rattle.job_json.specs.JobOf.{answer_to, verdict_of}
 use Rattle.job_json.specs.declared.Job.{Job}

@@ -7,8 +7,9 @@ use Rattle.base_model.specs.Text.{Characters}
 use Rattle.scene_model.specs.Element.{Element}
 use Rattle.scene_model.specs.Lookups.{numbers}
 use Rattle.scene_model.specs.Nodes.{scene_of}
+use Rattle.scene_model.specs.Scene.{elements_of}
 use Rattle.sheet_model.specs.Sources.{Sources, sources_of}
-use Rattle.session_model.specs.Standing.{elements_of, started}
+use Rattle.session_model.specs.Standing.{started}
 use Rattle.session_model.specs.Batches.{report_of, reports}
 use Rattle.session_model.proofs.BatchLemmas.{first-report}
 use Rattle.report_text.specs.Lines.{batch_line}

@@ -11,6 +11,7 @@ use Rattle.scene_model.specs.Ancestors.{ancestors}
 use Rattle.scene_model.specs.Element.{Element}
 use Rattle.scene_model.specs.Lookups.{numbers, parent_of, tag_of}
 use Rattle.scene_model.specs.Nodes.{Node}
+use Rattle.scene_model.specs.Scene.{elements_of}
 use Rattle.layer_model.specs.Name.{no_layer}
 use Rattle.layer_model.specs.Order.{layers_of}
 use Rattle.selector_model.specs.Selector.{Selector}
@@ -28,7 +29,6 @@ use Rattle.cascade_model.specs.Custom.{declared_values}
 use Rattle.cascade_model.specs.Cascade.{cascaded, cascaded_over}
 use Rattle.cascade_model.specs.StyleOf.{root_of, root_size_at, root_size_of, style_along, style_of}
 use Rattle.cascade_model.proofs.ExampleCases.{cascaded_alone, styled, values_with}
-use Rattle.session_model.specs.Standing.{elements_of}
 use Rattle.session_model.specs.Batches.{Report}
 use Rattle.layer_order.specs.declared.origin.Origin.TheVariants.{Author}
 use Rattle.layer_order.specs.declared.sheet_input.SheetInput.{SheetInput}

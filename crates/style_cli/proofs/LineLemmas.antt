@@ -9,11 +9,11 @@ use Rattle.base_model.proofs.LineFeedLemmas.{IsWithinLine, line_feeds-append, li
 use Rattle.base_model.proofs.Lists.{each-append, each-map, each_any}
 use Rattle.scene_model.specs.Element.{Element}
 use Rattle.scene_model.specs.Lookups.{numbers, tag_of}
+use Rattle.scene_model.specs.Scene.{Scene, elements_of}
 use Rattle.scene_model.proofs.TagLemmas.{TagsHold, scene_of_holds, tag_of_holds}
 use Rattle.cascade_model.specs.StyleOf.{style_of}
 use Rattle.cascade_model.proofs.LineLemmas.{printed_style_within}
 use Rattle.sheet_model.specs.Sources.{sources_of}
-use Rattle.session_model.specs.Standing.{Scene, elements_of}
 use Rattle.session_model.specs.Batches.{RefusedEdit, Report}
 use Rattle.session_model.proofs.TagLemmas.{ReportTagsHold, SceneTagsHold, reports_hold}
 use Rattle.dom_edits.specs.declared.edits.Edit.{Edit}

@@ -9,9 +9,10 @@ use Rattle.std.proofs.lemmas.Grind.{flat_map-append}
 use Rattle.std.proofs.lemmas.List.{length-map}
 use Rattle.base_model.specs.Text.{Characters}
 use Rattle.scene_model.specs.Lookups.{numbers}
+use Rattle.scene_model.specs.Scene.{elements_of}
 use Rattle.sheet_model.specs.Sources.{sources_of}
 use Rattle.edit_model.specs.Edit.{Edit}
-use Rattle.session_model.specs.Standing.{Standing, cascaded_count, elements_of, matched_count, restyled}
+use Rattle.session_model.specs.Standing.{Standing, cascaded_count, matched_count, restyled}
 use Rattle.session_model.specs.Batches as model
 use Rattle.session_model.specs.Batches.{accepted_among, edited_all, refused_from, report_of, reports_from}
 use Rattle.dom_edits.specs.declared.edits.Edit.{Edit as CodeEdit}

@@ -7,6 +7,7 @@ use Rattle.base_model.proofs.Lists.{each_any, each-map}
 use Rattle.scene_model.specs.Element.{Element}
 use Rattle.scene_model.specs.Lookups.{IsElement, is_element, tag_of}
 use Rattle.scene_model.specs.Numbers.{is_in}
+use Rattle.scene_model.specs.Scene.{Scene, elements_of}
 use Rattle.scene_model.proofs.Lists.{each-filter}
 use Rattle.change_model.specs.Sound.{IsSound}
 use Rattle.value_model.specs.Style.{Style}
@@ -16,7 +17,7 @@ use Rattle.edit_model.specs.Apply.{after, refusal}
 use Rattle.edit_model.specs.SheetApply.{sheet_refusal, sheets_after, last_after}
 use Rattle.edit_model.specs.Steady.{SameTags}
 use Rattle.edit_model.proofs.Accepted.{tags-after}
-use Rattle.session_model.specs.Standing.{Scene, Standing, change_of, edited, edited_by, elements_of, is_cascaded, kept_at, listed_at, restyled, rising, scene_applied, sheet_list, style_in, with_document, with_sheets}
+use Rattle.session_model.specs.Standing.{Standing, change_of, edited, edited_by, is_cascaded, kept_at, listed_at, restyled, rising, scene_applied, sheet_list, style_in, with_document, with_sheets}
 use Rattle.session_model.specs.StandingInvariant.{IsReached, at_start, by_edit, by_restyle}
 use Rattle.session_model.specs.Batches.{edited_all}
 use Rattle.session_model.proofs.BatchLemmas.{edited_all-reached}

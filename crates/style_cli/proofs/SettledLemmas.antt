@@ -4,8 +4,9 @@ use Rattle.std.specs.List.{list_any}
 use Rattle.scene_model.specs.Ancestors.{ancestors}
 use Rattle.scene_model.specs.Lookups.{IsElement, is_element}
 use Rattle.scene_model.specs.Numbers.{is_in}
+use Rattle.scene_model.specs.Scene.{elements_of}
 use Rattle.change_model.specs.Sound.{IsSound}
-use Rattle.session_model.specs.Standing.{Standing, elements_of, is_matched, is_open, kept_at, listed_at, style_in}
+use Rattle.session_model.specs.Standing.{Standing, is_matched, is_open, kept_at, listed_at, style_in}
 use Rattle.session_model.proofs.ListedLemmas.{listed-styles}
 use Rattle.style_session.specs.Answers.{IsAnswer}
 use Rattle.style_session.specs.declared.answer.StyleAnswer.{StyleAnswer}

@@ -4,11 +4,12 @@ use Rattle.std.proofs.lemmas.List.{length-map}
 use Rattle.scene_model.specs.Element.{Element}
 use Rattle.scene_model.specs.Lookups.{numbers}
 use Rattle.scene_model.specs.Nodes.{Node}
+use Rattle.scene_model.specs.Scene.{elements_of}
 use Rattle.sheet_model.specs.Sources.{sources_of}
 use Rattle.edit_model.specs.Edit.{Edit}
-use Rattle.session_model.specs.Standing.{Standing, elements_of, restyled, started}
+use Rattle.session_model.specs.Standing.{Standing, restyled, started}
 use Rattle.session_model.specs.Batches as model
-use Rattle.session_model.specs.Batches.{Report, accepted_among, edited_all, refused_from, report_of, reports, reports_from}
+use Rattle.session_model.specs.Batches.{Report, edited_all, refused_from, report_of, reports, reports_from}
 use Rattle.style_session.specs.declared.counts.Counts.{Counts}
 use Rattle.dom_edits.specs.declared.edits.Edit.{Edit as CodeEdit}
 use Rattle.dom_edits.specs.EditView.{refusal_answered}

@@ -2,10 +2,11 @@
 use Rattle.std.specs.Prelude.{◌≡◌, ◌≢◌, ℕ, List, [], ◌++◌, length, map, Option, Some, IfSome, Vec, encode_utf8_all}
 use Rattle.std.specs.List.{AllByRecursion, flat_map}
 use Rattle.std.specs.declared.alloc.Global.{Global}
-use Rattle.scene_model.specs.Lookups.{numbers, tag_of}
+use Rattle.scene_model.specs.Lookups.{tag_of}
+use Rattle.scene_model.specs.Scene.{elements_of}
 use Rattle.value_model.specs.Style.{Style}
 use Rattle.edit_model.specs.Edit as model_edit
-use Rattle.session_model.specs.Standing.{Scene, Standing, elements_of, kept_at, styles_of}
+use Rattle.session_model.specs.Standing.{Standing, kept_at, styles_of}
 use Rattle.session_model.specs.Batches as model
 use Rattle.session_model.specs.Batches.{accepted_among, edited_all, refused_from}
 use Rattle.stylo_base.specs.declared.refusal.EditRefused.TheVariants.{NoMemory}

@@ -1,6 +1,6 @@
 -- Sums over what is told of the batches of a job, and the line that is written of the job of a number.
 use Rattle.std.specs.Prelude.{ℕ, ◌+◌, List, [], ◌∷◌, length, encode_utf8_all}
-use Rattle.session_model.specs.Standing.{Scene, elements_of}
+use Rattle.scene_model.specs.Scene.{Scene, elements_of}
 use Rattle.session_model.specs.Batches.{Report}
 use Rattle.report_text.specs.Elements.{elements_bytes}
 use Rattle.report_text.specs.Lines.{summary_line}

@@ -3,7 +3,7 @@ use Rattle.std.specs.Prelude.{ℕ, ◌+◌, List, [], ◌∷◌, ◌++◌, map, 
 use Rattle.std.specs.List.{flat_map}
 use Rattle.base_model.specs.Text.{Characters}
 use Rattle.edit_model.specs.Edit as model
-use Rattle.session_model.specs.Standing.{Scene}
+use Rattle.scene_model.specs.Scene.{Scene}
 use Rattle.session_model.specs.Batches.{RefusedEdit, Report, reports}
 use Rattle.dom_edits.specs.EditView.{edit_seen, refusal_answered}
 use Rattle.report_text.specs.Elements.{element_lines}

@@ -4,8 +4,8 @@ ghost use Rattle.std.specs.Prelude.{◌≡◌, ◌+◌, IfOk, OnOk, length};
 ghost use Rattle.std.specs.List.{flat_map};
 ghost use Rattle.change_model.specs.Sound.{IsSound};
 ghost use Rattle.scene_model.specs.Lookups.{IsElement};
+ghost use Rattle.scene_model.specs.Scene.{elements_of};
 ghost use Rattle.sheet_model.specs.Sources.{sources_of};
-ghost use Rattle.session_model.specs.Standing.{elements_of};
 ghost use Rattle.report_text.specs.Elements.{elements_bytes, line_bytes};
 ghost use Rattle.style_cli.specs.Printing.{AreRefused, IsSettled, ServesLengths, heading_bytes, refused_bytes};
 

@@ -5,6 +5,7 @@ use Rattle.base_model.proofs.Lists.{each_any}
 use Rattle.scene_model.specs.Lookups.{numbers, is_element, IsElement}
 use Rattle.scene_model.specs.Document.{Document}
 use Rattle.scene_model.specs.Numbers.{is_in}
+use Rattle.scene_model.specs.Scene.{Scene}
 use Rattle.scene_model.proofs.Lists.{filter_same}
 use Rattle.change_model.specs.Sound.{IsSound}
 use Rattle.change_model.specs.Fresh.{AreFresh}
@@ -16,7 +17,7 @@ use Rattle.edit_model.specs.Apply.{after, applied, is_fresh, refusal}
 use Rattle.edit_model.specs.Marked.{is_marked}
 use Rattle.edit_model.proofs.Accepted.{fresh-after, of_move}
 use Rattle.session_model.specs.Marking.{marking_selectors}
-use Rattle.session_model.specs.Standing.{Scene, change_of, changed, scene_applied, with_document, edited_by, edited}
+use Rattle.session_model.specs.Standing.{change_of, changed, scene_applied, with_document, edited_by, edited}
 use Rattle.session_model.specs.StandingInvariant.{AllKeep}
 use Rattle.session_model.specs.Walk.{placed_styles}
 use Rattle.session_model.proofs.EditLemmas.{covered-edit, sound-edit}

@@ -1,5 +1,5 @@
 -- A first walk in tree order: what it has made of the elements that it has met stays right as it goes on.
-use Rattle.std.proofs.Common.{◌≡◌, ℕ, zero, suc, ◌<◌, ◌==◌, List, [], ◌∷◌, ◌++◌, length, take, replicate, slice_get, slice_set, Bool, true, false, cond, ◌||◌, Option, None, Some, Result, Ok, Err, refl, sym, ap, subst, ◌∙◌, arith}
+use Rattle.std.proofs.Common.{◌≡◌, ℕ, zero, suc, ◌<◌, ◌==◌, List, [], ◌∷◌, ◌++◌, length, take, replicate, slice_get, slice_set, Bool, true, false, cond, ◌||◌, None, Some, Result, Ok, Err, refl, sym, ap, subst, ◌∙◌, arith}
 use Rattle.std.specs.Prelude.{IfOk}
 use Rattle.std.proofs.lemmas.Bool.{eqb-true, eqb-false}
 use Rattle.std.proofs.lemmas.List.{length-set, nil_from_length}
@@ -7,11 +7,12 @@ use Rattle.std.proofs.lemmas.List.Folds.{list_any-append}
 use Rattle.std.proofs.lemmas.Option.{none-some, same_Some}
 use Rattle.scene_model.specs.Lookups.{is_element, numbers}
 use Rattle.scene_model.specs.Numbers.{is_in}
+use Rattle.scene_model.specs.Scene.{Scene, elements_of}
 use Rattle.scene_model.proofs.Found.{is_element-numbers}
 use Rattle.value_model.specs.Style.{Style}
 use Rattle.dom_tree.proofs.Places.{get_set_same, get_set_other}
 use Rattle.invalidation_map.specs.Steps.{HasRoom}
-use Rattle.session_model.specs.Standing.{Scene, elements_of, root_size_in, style_in}
+use Rattle.session_model.specs.Standing.{root_size_in, style_in}
 use Rattle.plain_style.proofs.CacheLemmas.{kept_at as kept_in}
 use Rattle.style_session.specs.FirstWalking.{AreAll, AreKept, IsBareFirst, IsFirstWalk, IsRight, Keeps, place_of, unknown}
 use Rattle.style_session.specs.SessionView.{slot_at}

@@ -9,6 +9,7 @@ use Rattle.std.proofs.lemmas.Bool.{false≢true, false_from_ne_true, or_parts}
 use Rattle.scene_model.specs.Document.{Document}
 use Rattle.scene_model.specs.Lookups.{is_element, IsElement}
 use Rattle.scene_model.specs.Numbers.{is_in}
+use Rattle.scene_model.specs.Scene.{Scene}
 use Rattle.change_model.specs.Sound.{IsSound}
 use Rattle.change_model.proofs.InPlace.{here, IsInPlace-here, is_element-map, IsInPlace-attribute, IsInPlace-no_attribute, IsInPlace-state}
 use Rattle.value_model.specs.Style.{Style}
@@ -32,7 +33,7 @@ use Rattle.sheet_set.specs.View.{kept_seen, sources_seen}
 use Rattle.sheet_set.specs.declared.sheets.Sheets.{Sheets}
 use Rattle.plain_style.specs.declared.prepared.Prepared.{Prepared}
 use Rattle.session_model.specs.Marking.{marking_selectors, selectors_of}
-use Rattle.session_model.specs.Standing.{Scene, edited, with_document}
+use Rattle.session_model.specs.Standing.{edited, with_document}
 use Rattle.session_model.specs.StandingInvariant.{AllKeep}
 use Rattle.style_session.specs.Answers.{error_of, refusal_of}
 use Rattle.style_session.specs.Edits.{AddsMarks, AreFreshToo, AreGoneToo, AreMarkedToo, IsFreshStill}

@@ -9,11 +9,12 @@ use Rattle.scene_model.specs.Ancestors.{ancestors}
 use Rattle.scene_model.specs.Document.{Document}
 use Rattle.scene_model.specs.Numbers.{is_in}
 use Rattle.scene_model.specs.Valid.{IsValid}
+use Rattle.scene_model.specs.Scene.{Scene, elements_of}
 use Rattle.scene_model.proofs.Climbing.{ancestors_each}
 use Rattle.scene_model.proofs.Lists.{each-filter, each_weaker, filter_nothing, filter_same}
 use Rattle.change_model.specs.Sound.{IsSound}
 use Rattle.value_model.specs.Style.{Style}
-use Rattle.session_model.specs.Standing.{Scene, Standing, elements_of, style_in, rising, kept_at, is_matched, is_cascaded, is_open, parent_differs, root_size_differs, matched_count, cascaded_count, started, restyled}
+use Rattle.session_model.specs.Standing.{Standing, style_in, rising, kept_at, is_matched, is_cascaded, is_open, parent_differs, root_size_differs, matched_count, cascaded_count, started, restyled}
 use Rattle.session_model.specs.StandingInvariant.{AllKeep}
 use Rattle.session_model.specs.Walk.{Styled, results, result_at, placed_styles}
 use Rattle.session_model.proofs.FlagLemmas.{each_number}

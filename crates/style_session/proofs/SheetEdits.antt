@@ -10,6 +10,7 @@ use Rattle.scene_model.specs.Document.{Document}
 use Rattle.scene_model.specs.Element.{Element}
 use Rattle.scene_model.specs.Lookups.{is_element, numbers}
 use Rattle.scene_model.specs.Numbers.{is_in}
+use Rattle.scene_model.specs.Scene.{Scene}
 use Rattle.scene_model.proofs.Lists.{filter_same}
 use Rattle.value_model.specs.Style.{Style}
 use Rattle.stylo_base.specs.declared.refusal.EditRefused.{EditRefused}
@@ -28,8 +29,8 @@ use Rattle.sheet_set.specs.View.{listed_seen, sources_seen}
 use Rattle.sheet_set.specs.declared.sheets.Sheets.{Sheets}
 use Rattle.plain_style.specs.declared.prepared.Prepared.{Prepared}
 use Rattle.session_model.specs.Marking.{selectors_of}
-use Rattle.session_model.specs.SheetMarks.{is_marked_by_sheets}
-use Rattle.session_model.specs.Standing.{Scene, Standing, change_of, changed, edited, edited_by, scene_applied, with_sheets}
+use Rattle.sheet_edit_model.specs.SheetMarks.{is_marked_by_sheets}
+use Rattle.session_model.specs.Standing.{Standing, change_of, changed, edited, edited_by, scene_applied, with_sheets}
 use Rattle.session_model.specs.StandingInvariant.{AllKeep}
 use Rattle.session_model.proofs.EditLemmas.{covered-edit}
 use Rattle.session_model.proofs.KeepsLemmas.{keep-changed}

@@ -14,6 +14,7 @@ use Rattle.scene_model.specs.Element.{Element}
 use Rattle.scene_model.specs.Lookups.{numbers, children, is_element, IsElement, parent_of}
 use Rattle.scene_model.specs.Numbers.{is_in}
 use Rattle.scene_model.specs.Valid.{IsValid}
+use Rattle.scene_model.specs.Scene.{elements_of}
 use Rattle.scene_model.proofs.Any.{in_middle}
 use Rattle.scene_model.proofs.Found.{copies-children, each_child-parent, is_element-numbers, parent_of-element, position_of-numbers}
 use Rattle.scene_model.proofs.Numbers.{differs, each_is_in, in_copied, index_in, same_number}
@@ -23,7 +24,7 @@ use Rattle.cascade_model.specs.StyleOf.{root_of}
 use Rattle.invalidation_map.proofs.SetLemmas.{one_added}
 use Rattle.invalidation_map.specs.Members.{AreBelow, Members, added}
 use Rattle.invalidation_map.specs.Steps.{HasRoom}
-use Rattle.session_model.specs.Standing.{Standing, elements_of, has_size, is_cascaded, is_matched, is_style, kept_at, parent_differs, root_size_differs, root_size_in, style_in}
+use Rattle.session_model.specs.Standing.{Standing, has_size, is_cascaded, is_matched, is_style, kept_at, parent_differs, root_size_differs, root_size_in, style_in}
 use Rattle.session_model.specs.StandingInvariant.{AllKeep}
 use Rattle.session_model.specs.Walk.{Styled, results}
 use Rattle.scene_model.proofs.Lists.{each_weaker}

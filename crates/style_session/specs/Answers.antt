@@ -2,12 +2,13 @@
 use Rattle.std.specs.Prelude.{◌≡◌, ℕ, true, false}
 use Rattle.std.specs.Arc.{arc_value}
 use Rattle.scene_model.specs.Lookups.{is_element}
+use Rattle.scene_model.specs.Scene.{Scene, elements_of}
 use Rattle.stylo_base.specs.declared.refusal.EditRefused.{EditRefused}
 use Rattle.stylo_base.specs.declared.refusal.EditRefused.TheVariants.{NoMemory}
 use Rattle.edit_model.specs.Edit.{Edit}
 use Rattle.edit_model.specs.Refusal.{Outcome, refused, accepted}
 use Rattle.dom_edits.specs.EditView.{refusal_answered}
-use Rattle.session_model.specs.Standing.{Scene, Standing, cascaded_count, elements_of, is_open, matched_count, scene_applied, style_in}
+use Rattle.session_model.specs.Standing.{Standing, cascaded_count, is_open, matched_count, scene_applied, style_in}
 use Rattle.session_model.specs.Walk as walk
 use Rattle.style_session.specs.declared.answer.StyleAnswer.{StyleAnswer}
 use Rattle.style_session.specs.declared.answer.StyleAnswer.TheVariants.{Kept, Stale, NoNode}

@@ -5,8 +5,9 @@ use Rattle.base_model.specs.Text.{Characters}
 use Rattle.base_model.specs.Origin.{Origin, user_agent, user, author, origin_rank}
 use Rattle.base_model.specs.Sheet.{Sheet}
 use Rattle.scene_model.specs.Document.{Document, document_code}
+use Rattle.scene_model.specs.Scene.{Scene}
 use Rattle.value_model.specs.Style.{Style, style_code}
-use Rattle.session_model.specs.Standing.{Scene, Standing}
+use Rattle.session_model.specs.Standing.{Standing}
 
 abbrev pub origin_told : ℕ → Origin
 origin_told zero = user_agent

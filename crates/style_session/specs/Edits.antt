@@ -8,14 +8,14 @@ use Rattle.scene_model.specs.Numbers.{is_in}
 use Rattle.selector_model.specs.Selector.{Selector}
 use Rattle.sheet_model.specs.Sources.{Sources}
 use Rattle.edit_model.specs.Apply.{applied, is_fresh}
-use Rattle.edit_model.specs.Edit.{DocEdit, SheetEdit, insert, remove, move, set, unset, set_state}
+use Rattle.edit_model.specs.Edit.{DocEdit, SheetEdit, insert, remove, move, set}
 use Rattle.edit_model.specs.Refusal.{accepted}
 use Rattle.edit_model.specs.Marked.{is_marked}
 use Rattle.edit_model.specs.SheetApply.{SheetList, number_in}
 use Rattle.invalidation_map.specs.Rows.{Row, rows_of}
 use Rattle.invalidation_map.specs.Steps.{HasRoom}
 use Rattle.session_model.specs.Marking.{selectors_of}
-use Rattle.session_model.specs.SheetMarks.{is_marked_by_sheets}
+use Rattle.sheet_edit_model.specs.SheetMarks.{is_marked_by_sheets}
 use Rattle.style_session.specs.declared.fresh.Fresh.{Fresh}
 
 -- for every list of selectors with these rows, in whatever order, what an edit marks by them

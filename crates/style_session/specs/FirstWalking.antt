@@ -4,9 +4,10 @@ use Rattle.std.specs.declared.sync.Arc.{Arc}
 use Rattle.scene_model.specs.Element.{Element}
 use Rattle.scene_model.specs.Lookups.{IsElement, is_element, numbers}
 use Rattle.scene_model.specs.Numbers.{is_in}
+use Rattle.scene_model.specs.Scene.{Scene, elements_of}
 use Rattle.value_model.specs.Style.{Style}
 use Rattle.invalidation_map.specs.Steps.{HasRoom}
-use Rattle.session_model.specs.Standing.{Scene, elements_of, root_size_in, style_in}
+use Rattle.session_model.specs.Standing.{root_size_in, style_in}
 use Rattle.style_session.specs.SessionView.{slot_at}
 use Rattle.style_session.specs.declared.style_cache.StyleCache.{StyleCache}
 use Rattle.style_session.specs.declared.first_walk.FirstStyles.{FirstStyles}

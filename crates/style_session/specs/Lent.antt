@@ -1,8 +1,9 @@
 -- The standing of what a session lends to a restyle.
 use Rattle.std.specs.Prelude.{[]}
 use Rattle.scene_model.specs.Numbers.{is_in}
+use Rattle.scene_model.specs.Scene.{Scene}
 use Rattle.plain_style.specs.declared.prepared.Inputs.{Inputs}
-use Rattle.session_model.specs.Standing.{Scene, Standing}
+use Rattle.session_model.specs.Standing.{Standing}
 use Rattle.style_session.specs.SessionView.{scene_seen, standing_seen}
 use Rattle.style_session.specs.declared.lists.Lists.{Lists}
 

@@ -7,12 +7,13 @@ use Rattle.scene_model.specs.Document.{Document, document_of}
 use Rattle.scene_model.specs.Nodes.{Node}
 use Rattle.scene_model.specs.Lookups.{is_element, numbers}
 use Rattle.scene_model.specs.Numbers.{is_in}
+use Rattle.scene_model.specs.Scene.{Scene}
 use Rattle.value_model.specs.Style.{Style}
 use Rattle.layer_order.specs.View.{sheets_of}
 use Rattle.layer_order.specs.declared.sheet_input.SheetInput.{SheetInput}
 use Rattle.sheet_set.specs.View.{kept_seen}
 use Rattle.sheet_set.specs.declared.sheets.Sheets.{Sheets}
-use Rattle.session_model.specs.Standing.{Scene, Standing}
+use Rattle.session_model.specs.Standing.{Standing}
 use Rattle.session_model.specs.Walk.{placed_styles}
 use Rattle.style_session.specs.declared.fresh.Fresh.{Fresh}
 

@@ -3,8 +3,9 @@ use Rattle.std.specs.Prelude.{◌≡◌, ℕ, ◌==◌, List, [], ◌∷◌, ◌
 use Rattle.scene_model.specs.Element.{Element}
 use Rattle.scene_model.specs.Lookups.{IsElement, children, parent_of}
 use Rattle.scene_model.specs.Numbers.{is_in}
+use Rattle.scene_model.specs.Scene.{elements_of}
 use Rattle.invalidation_map.specs.Steps.{HasRoom}
-use Rattle.session_model.specs.Standing.{Standing, elements_of, is_cascaded, is_matched, is_style, kept_at, root_size_differs, root_size_in, style_in}
+use Rattle.session_model.specs.Standing.{Standing, is_cascaded, is_matched, is_style, kept_at, root_size_differs, root_size_in, style_in}
 use Rattle.session_model.specs.Walk as model
 use Rattle.style_session.specs.Answers.{styled_seen}
 use Rattle.style_session.specs.FirstWalking.{unknown}

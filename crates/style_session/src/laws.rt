@@ -6,6 +6,7 @@ ghost use Rattle.scene_model.specs.Lookups.{IsElement, numbers};
 ghost use Rattle.std.specs.List.{AllByRecursion};
 ghost use Rattle.scene_model.specs.Nodes.{IsNodeList, Node};
 ghost use Rattle.scene_model.specs.Document.{Document, document_of};
+ghost use Rattle.scene_model.specs.Scene.{Scene, elements_of};
 ghost use Rattle.change_model.specs.Sound.{IsSound};
 ghost use Rattle.selector_model.specs.Selector.{Selector};
 ghost use Rattle.value_model.specs.Style.{Style};
@@ -22,13 +23,11 @@ ghost use Rattle.edit_model.specs.MarkedAfter.{is_marked_after};
 ghost use Rattle.edit_model.specs.Steady.{SameTags};
 ghost use Rattle.session_model.specs.Agrees.{Agrees};
 ghost use Rattle.session_model.specs.Standing.{
-  Scene,
   Standing,
   cascaded_count,
   edit_freshens,
   edit_marks,
   edited,
-  elements_of,
   is_cascaded,
   is_matched,
   is_open,

@@ -3,7 +3,7 @@ use Rattle.std.proofs.Math.Logic.{∥∥₁_map}
 use Rattle.std.proofs.lemmas.Result.{on_ok_weaker}
 use Rattle.selector_types.specs.SimpleView.{key_seen}
 use Rattle.edit_model.specs.SheetApply.{with_enabled}
-use Rattle.session_model.specs.SheetMarks.{keys_in}
+use Rattle.sheet_edit_model.specs.SheetMarks.{keys_in}
 use Rattle.sheet_set.specs.Kept.{kept_seen}
 use Rattle.sheet_set.specs.StepOf.{keys_of}
 use Rattle.sheet_set.proofs.StepKeys.{own-keys}

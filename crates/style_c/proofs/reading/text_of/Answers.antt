@@ -2,7 +2,8 @@ use Rattle.std.proofs.Common.{◌++◌, get_or, sym, ap, ◌∙◌}
 use Rattle.std.specs.List.{list_any}
 use Rattle.scene_model.specs.Document.{Document}
 use Rattle.scene_model.specs.Lookups.{numbers, tag_of}
-use Rattle.session_model.specs.Standing.{elements_of, is_open}
+use Rattle.scene_model.specs.Scene.{elements_of}
+use Rattle.session_model.specs.Standing.{is_open}
 use Rattle.report_text.specs.Lines.{element_line}
 use Rattle.dom_tree.proofs.DepthLemmas.{get_any}
 use Rattle.style_c.proofs.LineLemmas.{is_number, not_kept, one_line, one_open}

@@ -1,7 +1,8 @@
 use Rattle.std.proofs.Common.{◌≡◌, length, rules}
 use Rattle.std.specs.Prelude.{encode_utf8_all}
 use Rattle.scene_model.specs.Lookups.{tag_of}
-use Rattle.session_model.specs.Standing.{elements_of, style_in}
+use Rattle.scene_model.specs.Scene.{elements_of}
+use Rattle.session_model.specs.Standing.{style_in}
 use Rattle.report_text.specs.Lines.{element_line}
 use Rattle.style_lines.specs.KeptLines.{kept_length}
 use Rattle.style_cli.proofs.ServeLemmas.{serves-kept}

@@ -2,7 +2,7 @@ use Rattle.std.proofs.Common.{sym, ap, ◌∙◌, subst}
 use Rattle.std.specs.List.{AllByRecursion}
 use Rattle.scene_model.specs.Document.{Document}
 use Rattle.scene_model.specs.Lookups.{IsElement, numbers}
-use Rattle.session_model.specs.Standing.{elements_of}
+use Rattle.scene_model.specs.Scene.{elements_of}
 use Rattle.session_model.proofs.FlagLemmas.{each_number}
 use Rattle.style_cli.proofs.CountLemmas.{each-at}
 use Rattle.style_cli.proofs.counting.elements_len.Goals as goal

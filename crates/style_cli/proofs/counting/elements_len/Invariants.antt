@@ -1,6 +1,6 @@
 use Rattle.std.proofs.Common.{◌≡◌, length}
 use Rattle.sheet_model.specs.Sources.{sources_of}
-use Rattle.session_model.specs.Standing.{elements_of}
+use Rattle.scene_model.specs.Scene.{elements_of}
 use Rattle.report_text.specs.Elements.{line_bytes, lines_bytes}
 use Rattle.style_cli.specs.Printing.{ServesLengths}
 use Rattle.style_cli.proofs.CountLemmas.{bytes_from}

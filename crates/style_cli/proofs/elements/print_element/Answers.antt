@@ -4,7 +4,8 @@ use Rattle.std.specs.Str.{chars}
 use Rattle.dom_tree.proofs.ColumnLemmas.{on_ok}
 use Rattle.scene_model.specs.Document.{Document}
 use Rattle.scene_model.specs.Lookups.{tag_of}
-use Rattle.session_model.specs.Standing.{elements_of, style_in}
+use Rattle.scene_model.specs.Scene.{elements_of}
+use Rattle.session_model.specs.Standing.{style_in}
 use Rattle.style_lines.specs.KeptLines.{kept_line}
 use Rattle.style_cli.specs.Printing.{Serves}
 use Rattle.style_cli.proofs.ServeLemmas.{made_line, serves-kept}

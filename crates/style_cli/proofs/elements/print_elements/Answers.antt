@@ -3,8 +3,8 @@ use Rattle.std.specs.List.{AllByRecursion}
 use Rattle.base_model.proofs.Results.{on_err}
 use Rattle.scene_model.specs.Document.{Document}
 use Rattle.scene_model.specs.Lookups.{IsElement, numbers}
+use Rattle.scene_model.specs.Scene.{elements_of}
 use Rattle.sheet_model.specs.Sources.{sources_of}
-use Rattle.session_model.specs.Standing.{elements_of}
 use Rattle.session_model.proofs.FlagLemmas.{each_number}
 use Rattle.report_text.specs.Elements.{line_bytes, lines_bytes}
 use Rattle.style_cli.specs.Printing.{Serves}

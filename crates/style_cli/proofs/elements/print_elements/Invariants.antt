@@ -2,7 +2,7 @@ use Rattle.std.proofs.Common.{◌≤◌, take}
 use Rattle.std.specs.List.{AllByRecursion}
 use Rattle.std.specs.Io.KnownBytes.{Appends}
 use Rattle.scene_model.specs.Lookups.{IsElement}
-use Rattle.session_model.specs.Standing.{elements_of}
+use Rattle.scene_model.specs.Scene.{elements_of}
 use Rattle.report_text.specs.Elements.{lines_bytes}
 use Rattle.style_cli.specs.Printing.{Serves}
 use Rattle.style_cli.proofs.elements.print_elements.Given as goal

@@ -3,7 +3,8 @@ use Rattle.std.specs.Prelude.{option_map}
 use Rattle.std.specs.Io.KnownBytes.{Appends}
 use Rattle.base_model.proofs.Results.{on_err}
 use Rattle.sheet_model.specs.Sources.{sources_of}
-use Rattle.session_model.specs.Standing.{elements_of, style_in}
+use Rattle.scene_model.specs.Scene.{elements_of}
+use Rattle.session_model.specs.Standing.{style_in}
 use Rattle.report_text.specs.Elements.{line_bytes}
 use Rattle.style_lines.specs.KeptLines.{kept_line}
 use Rattle.style_lines.specs.Loops.{GrewByFront}

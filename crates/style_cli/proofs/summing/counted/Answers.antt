@@ -3,7 +3,7 @@ use Rattle.std.proofs.lemmas.List.{length-map}
 use Rattle.scene_model.specs.Document.{Document}
 use Rattle.scene_model.specs.Element.{Element}
 use Rattle.scene_model.specs.Lookups.{numbers}
-use Rattle.session_model.specs.Standing.{elements_of}
+use Rattle.scene_model.specs.Scene.{elements_of}
 use Rattle.style_cli.proofs.SumLemmas.{same_sums}
 use Rattle.style_cli.proofs.summing.counted.Goals as goal
 

@@ -1,4 +1,4 @@
-use Rattle.std.proofs.Common.{◌≡◌, ◌||◌, ℕ, Bool, map, sym, ap, ◌∙◌, option_map, unwrap_or}
+use Rattle.std.proofs.Common.{◌≡◌, ◌||◌, Bool, map, sym, ap, ◌∙◌, option_map, unwrap_or}
 use Rattle.scene_model.specs.Numbers.{is_in}
 use Rattle.stylo_base.specs.declared.refusal.EditRefused.TheVariants.{NoMemory}
 use Rattle.edit_model.specs.Refusal.{accepted}
@@ -7,7 +7,7 @@ use Rattle.dom_edits.specs.EditView.{refusal_answered, sheet_edit_seen}
 use Rattle.selector_types.specs.SimpleView.{key_seen}
 use Rattle.selector_types.specs.declared.sheet_change.SheetChange.{SheetChange}
 use Rattle.invalidation_map.specs.SheetMarked.{is_sheet_marked}
-use Rattle.session_model.specs.SheetMarks.{is_marked_by_sheets}
+use Rattle.sheet_edit_model.specs.SheetMarks.{is_marked_by_sheets}
 use Rattle.sheet_set.specs.Planned.{planned}
 use Rattle.sheet_set.specs.View.{listed_seen, sources_seen}
 use Rattle.style_session.proofs.SheetEdits.{can-mark-still, err-and, no-refusal, same-listed, same-sources}

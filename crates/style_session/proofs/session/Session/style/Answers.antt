@@ -4,7 +4,8 @@ use Rattle.std.proofs.lemmas.Bool.{or_parts}
 use Rattle.std.proofs.lemmas.Option.{same_Some, none-some}
 use Rattle.scene_model.specs.Lookups.{IsElement, is_element}
 use Rattle.scene_model.specs.Numbers.{is_in}
-use Rattle.session_model.specs.Standing.{Standing, elements_of, is_open, style_in}
+use Rattle.scene_model.specs.Scene.{elements_of}
+use Rattle.session_model.specs.Standing.{Standing, is_open, style_in}
 use Rattle.style_session.specs.SessionView.{is_fresh_in, scene_seen, slot_at, standing_seen}
 use Rattle.style_session.proofs.SessionLemmas.{kept-with, open-with}
 use Rattle.style_session.proofs.SessionParts.{slot-read}

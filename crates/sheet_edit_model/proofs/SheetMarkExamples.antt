@@ -3,7 +3,7 @@ use Rattle.std.proofs.Common.{◌≡◌, ℕ, true, false, List, [], ◌∷◌, 
 use Rattle.std.specs.Prelude.{codes}
 use Rattle.std.specs.FinMap as maps
 use Rattle.base_model.specs.Text.{Characters}
-use Rattle.base_model.specs.Origin.{author, user}
+use Rattle.base_model.specs.Origin.{Origin, author, user}
 use Rattle.base_model.specs.Sheet.{Sheet}
 use Rattle.layer_model.specs.Order.{declared, layer_order}
 use Rattle.syntax_model.specs.TokensIn.{tokens_in}
@@ -21,8 +21,10 @@ use Rattle.sheet_model.specs.StyleRules.{style_rules_in, layers_in}
 use Rattle.sheet_model.specs.Sources.{layers_of_sheets}
 use Rattle.edit_model.specs.Edit.{SheetEdit, add_sheet, remove_sheet, replace_sheet, enable_sheet}
 use Rattle.edit_model.specs.SheetApply.{number_in, sheets_after}
-use Rattle.session_model.specs.SheetMarks.{is_marked_by_sheets}
-use Rattle.session_model.proofs.BatchCases.{sheet}
+use Rattle.sheet_edit_model.specs.SheetMarks.{is_marked_by_sheets}
+
+abbrev sheet : ℕ → Origin → Characters → Sheet
+sheet n origin text = record { number = n; origin = origin; enabled = true; text = text; edition = 0 }
 
 abbrev quiet : States
 quiet = record { hover = false; active = false; focus = false }

@@ -1,0 +1,2 @@
+pub mod SameSheets
+mod SheetMarkExamples
