@@ -2,8 +2,8 @@
 //! element to standard output. `style gen` makes a large job from a number, and writes the sums of that text.
 //!
 //! A restyle tells which elements it cascaded (`Session::cascaded`); their kept lines are forgotten, and made again
-//! when they are written. That a line which is kept is that of the style which the session keeps (`Serves`) is an
-//! invariant of printing, which edits leave true.
+//! when they are written. That a line which is kept is that of the style which the session keeps (`Serves`) is what
+//! `elements.rt` is given and leaves, and edits leave it true.
 #![tactic(auto)]
 
 mod batch;
