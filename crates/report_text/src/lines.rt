@@ -109,7 +109,8 @@ fn push_refusal(line: &mut Text, why: &EditRefused) -> Result<(), NoMemory>
 
 /// Appends the kind of a limit and its number, behind a colon.
 fn push_limit(line: &mut Text, kind: Kind, most: u64) -> Result<(), NoMemory>
-    ensures ok { OnOk result (line.new ≡ line.old ++ (codes ": limit " ++ (name_of kind ++ (codes " " ++ decimal most)))) }
+    ensures ok { OnOk result
+        (line.new ≡ line.old ++ (codes ": limit " ++ (name_of kind ++ (codes " " ++ decimal most)))) }
     ensures begins { StartsWith line.new line.old }
 {
     line.push_str(": limit ")?;
