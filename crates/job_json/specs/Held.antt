@@ -1,6 +1,6 @@
 -- The nodes of a list as they are kept while it is read: as long as they pass no limit. Of an insertion only the limits
 -- that a node passes by itself count.
-use Rattle.std.specs.Prelude.{◌≡◌, ◌<◌, ◌≤◌, is_some, ℕ, ◌+◌, ◌-◌, ◌^◌, nat_lt, true, min, if◌then◌else◌, List, [], ◌∷◌, ◌++◌, length, get_or, Option, Some, None, option_map, Ok, Err}
+use Rattle.std.specs.Prelude.{◌≡◌, ◌<◌, ◌≤◌, is_some, ℕ, ◌+◌, ◌-◌, ◌^◌, nat_lt, Bool, true, min, if◌then◌else◌, List, [], ◌∷◌, ◌++◌, length, get_or, Option, Some, None, option_map, Ok, Err}
 use Rattle.std.specs.Option.{option_or}
 use Rattle.serde_json.specs.Data.{Data}
 use Rattle.serde_json.specs.View.{items_of}
@@ -13,6 +13,16 @@ use Rattle.job_json.specs.Checked.{Checked}
 use Rattle.dom_tree.specs.Depths.{depths_of}
 use Rattle.job_json.specs.Limits.{Passed, Within, within, past, nodes_past}
 use Rattle.job_json.specs.NewNodes.{passed_limit, past_by_itself}
+
+-- the nodes of a list, if there is one
+abbrev pub nodes_or_none : Option (List Node) → List Node
+nodes_or_none None = []
+nodes_or_none (Some nodes) = nodes
+
+-- where there is a list, it is not empty
+abbrev pub has_nodes : Option (List Node) → Bool
+has_nodes None = true
+has_nodes (Some nodes) = nat_lt 0 (length nodes)
 
 pub record Held : Type 0 where
   -- the limit that a node passes first

@@ -39,7 +39,7 @@ use Rattle.job_json.specs.Shape.{items_in, state_in, states_in, node_in, sheet_i
 use Rattle.job_json.specs.Limits.{Passed, Within, within, count_of, is_short_text}
 use Rattle.job_json.specs.Parts.{attrs_read, nodes_read, sheets_read, batches_read}
 use Rattle.job_json.specs.NewNodes.{TellsLimits}
-use Rattle.job_json.specs.Held.{Held, IsHeld, IsNewHeld}
+use Rattle.job_json.specs.Held.{Held, IsHeld, IsNewHeld, nodes_or_none}
 use Rattle.job_json.specs.Slots.{Pair, AreTexts, slot_pair, put_slot, slots_of, said_by, passed_by, last_at}
 
 -- The items of a list as far as they are read: the first bad place, or as many as they are, and what else holds of
@@ -120,14 +120,6 @@ read_kept k s = if s.is_object then node_kept k s else Err []
 
 abbrev pub judged_seen : JudgedNode → Within Node
 judged_seen node = map_ok (node_of node.parent) node.input
-
-abbrev pub nodes_or_none : Option (List Node) → List Node
-nodes_or_none None = []
-nodes_or_none (Some nodes) = nodes
-
-abbrev pub HasNodes : Option (List Node) → Type 0
-HasNodes None = Unit {0}
-HasNodes (Some nodes) = 0 < length nodes
 
 abbrev pub held_of : KeptNodes → Held
 held_of kept = record {

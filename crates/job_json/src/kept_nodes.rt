@@ -1,10 +1,9 @@
 //! The nodes that are kept of a list.
 
-ghost use Rattle.std.specs.Prelude.{◌≡◌, ◌++◌, ◌∷◌, [], length, IfOk, None, OnOk};
+ghost use Rattle.std.specs.Prelude.{◌≡◌, ◌++◌, ◌∷◌, [], length, true, IfOk, None, OnErr, OnOk};
 ghost use Rattle.scene_model.specs.Nodes.{IsParentAt};
 ghost use Rattle.dom_tree.specs.View.{node_of};
-ghost use Rattle.job_json.specs.Held.{count_held};
-ghost use Rattle.job_json.specs.Kept.{HasNodes, held_of, nodes_or_none};
+ghost use Rattle.job_json.specs.Held.{count_held, has_nodes, nodes_or_none};
 
 use crate::limits::Passed;
 use dom_tree::{NodeInput, NodeList};
@@ -20,9 +19,12 @@ pub(crate) struct KeptNodes {
     pub list: Option<NodeList>,
     /// How many nodes come after these.
     pub more: usize,
+    ghost some: { has_nodes list ≡ true },
 }
 
 impl KeptNodes {
+    ghost use Rattle.job_json.specs.Kept.{held_of};
+
     /// None yet.
     pub fn new() -> KeptNodes
         ensures passed { result.passed ≡ None }
@@ -38,8 +40,7 @@ impl KeptNodes {
 
     /// How many nodes there are.
     pub fn count(&self) -> Result<usize, NoMemory>
-        ensures count { IfOk result (λ count. count ≡ count_held (held_of self.now)) }
-        ensures some { HasNodes self.now.list }
+        ensures { IfOk result (λ count. count ≡ count_held (held_of self.now)) }
     {
         let kept = match &self.list {
             Some(list) => list.len(),
@@ -60,8 +61,9 @@ pub(crate) fn append(
     node: NodeInput<'_>,
 ) -> Result<(), NoMemory>
     requires { IsParentAt (length (nodes_or_none list.old)) parent }
-    ensures { OnOk result
+    ensures ok { OnOk result
         (nodes_or_none list.new ≡ nodes_or_none list.old ++ node_of parent node.entry ∷ []) }
+    ensures err { OnErr result (list.new ≡ list.old) }
 {
     match parent {
         None => begin(alloc, list, node)?,
@@ -79,7 +81,8 @@ pub(crate) fn append(
 
 /// Makes a list of the root alone.
 fn begin(alloc: Global, list: &mut Option<NodeList>, root: NodeInput<'_>) -> Result<(), NoMemory>
-    ensures { OnOk result (nodes_or_none list.new ≡ node_of None root.entry ∷ []) }
+    ensures ok { OnOk result (nodes_or_none list.new ≡ node_of None root.entry ∷ []) }
+    ensures err { OnErr result (list.new ≡ list.old) }
 {
     *list = Some(NodeList::of_root(alloc, root)?);
     Ok(())

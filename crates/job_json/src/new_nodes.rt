@@ -88,8 +88,6 @@ impl KeptNodes {
         let Some(list) = list else {
             return Ok(Err(Text::new(alloc)));
         };
-        // How many there are is not asked: the call tells that there is one.
-        let _count = list.len();
         Ok(Ok(NewNodes::of(alloc, list)?))
     }
 }

@@ -5,8 +5,8 @@ ghost use Rattle.json_reader.specs.Taken.{taken, Says};
 ghost use Rattle.scene_model.specs.Nodes.{IsParentAt};
 ghost use Rattle.dom_tree.specs.Depths.{depths_of};
 ghost use Rattle.job_json.specs.Parts.{nodes_read};
-ghost use Rattle.job_json.specs.Held.{count_held, held_next, held_at_end, depth_below, node_within};
-ghost use Rattle.job_json.specs.Kept.{AreNodesOf, after_bad, judged_seen, nodes_or_none, held_of};
+ghost use Rattle.job_json.specs.Held.{count_held, held_next, held_at_end, depth_below, node_within, nodes_or_none};
+ghost use Rattle.job_json.specs.Kept.{AreNodesOf, after_bad, judged_seen, held_of};
 
 use crate::checked::{Checked, one_more};
 use crate::kept_nodes::{KeptNodes, append};

@@ -4,7 +4,6 @@ ghost use Rattle.std.specs.Prelude.{◌≡◌, ◌<◌, ◌≤◌, true, not, le
 ghost use Rattle.std.specs.Prelude.{set, insert};
 ghost use Rattle.std.specs.Ordering.{nat_cmp};
 ghost use Rattle.std.specs.Cmp.Lexicographic.{slice_cmp};
-ghost use Rattle.std.specs.Str.{IsUtf8};
 ghost use Rattle.serde_json.specs.Data.{Members, no_members};
 ghost use Rattle.dom_tree.specs.View.{pair_of};
 ghost use Rattle.job_json.specs.declared.slots.Slot.{Slot};
@@ -46,14 +45,20 @@ impl<'a> Slot<'a> {
         ensures texts { AreTexts (slot_pair result) }
     {
         match value {
-            Some(text) => Slot {
-                name: utf8(name),
-                value: Some(utf8(text)),
-            },
-            None => Slot {
-                name: utf8(name),
-                value: None,
-            },
+            Some(text) => Slot::with_text(name, text),
+            None => Slot { name, value: None },
+        }
+    }
+
+    /// The member with a key and a text.
+    fn with_text(name: &'a str, text: &'a str) -> Slot<'a>
+        ensures name { result.name.now ≡ name.now }
+        ensures value { option_map (λ t. t.now) result.value ≡ Some text.now }
+        ensures texts { AreTexts (slot_pair result) }
+    {
+        Slot {
+            name,
+            value: Some(text),
         }
     }
 
@@ -155,14 +160,6 @@ impl<'a> Slots<'a> {
         )?;
         Ok(())
     }
-}
-
-/// The same text. The call tells that it is UTF-8.
-fn utf8(text: &str) -> &str
-    ensures same { result.now ≡ text.now }
-    ensures utf8 { IsUtf8 result.now }
-{
-    text
 }
 
 /// Inserts a member at a place, which most often is the end.

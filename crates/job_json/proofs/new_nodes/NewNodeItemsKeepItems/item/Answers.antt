@@ -28,7 +28,7 @@ returns-in_ok-push_new-in-Ok-clause-ok c =
       done.1,
       λ ds kept.
           one_new ds done.0 old.bad (held_of old.kept) (held_of c.push_new.new.self) c.in-Ok.node (sym c.is_some.ensures ∙ c.if-is_some.false) kept
-          (subst (λ k. node_read k done.0 ≡ Ok (judged_seen c.in-Ok.node)) c.in_ok-index.ensures.count said) tells c.in_ok-push_new-in-Ok.ensures,
+          (subst (λ k. node_read k done.0 ≡ Ok (judged_seen c.in-Ok.node)) c.in_ok-index.ensures said) tells c.in_ok-push_new-in-Ok.ensures,
     )
 
 pub returns-in_ok-in_item-in-Err-clause-ok : goal.returns-in_ok-in_item-in-Err-clause-ok
@@ -40,6 +40,6 @@ returns-in_ok-in_item-in-Err-clause-ok c =
       done.1,
       λ ds kept.
           read_bad node_in ds done.0 old.bad (λ list. IsNewHeld list (held_of old.kept)) c.in_ok-index.index c.in-Err.path
-          (sym c.is_some.ensures ∙ c.if-is_some.false) kept (λ list held. held.count ∙ sym c.in_ok-index.ensures.count)
+          (sym c.is_some.ensures ∙ c.if-is_some.false) kept (λ list held. held.count ∙ sym c.in_ok-index.ensures)
           (node_bad c.in_ok-index.index done.0 c.in-Err.path said) ∙ ap (λ p. Err p) (sym c.in_ok-in_item-in-Err.ensures),
     )

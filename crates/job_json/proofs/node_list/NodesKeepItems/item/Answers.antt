@@ -23,7 +23,7 @@ returns-in_ok-push-in-Ok-clause-ok c =
       done.1,
       λ ds kept.
           one_node ds done.0 old.bad (held_of old.kept) (held_of c.push.new.self) c.in-Ok.node (sym c.is_some.ensures ∙ c.if-is_some.false) kept
-          (subst (λ k. node_read k done.0 ≡ Ok (judged_seen c.in-Ok.node)) c.in_ok-index.ensures.count said) c.in_ok-push-in-Ok.ensures,
+          (subst (λ k. node_read k done.0 ≡ Ok (judged_seen c.in-Ok.node)) c.in_ok-index.ensures said) c.in_ok-push-in-Ok.ensures,
     )
 
 pub returns-in_ok-in_item-in-Err-clause-ok : goal.returns-in_ok-in_item-in-Err-clause-ok
@@ -35,6 +35,6 @@ returns-in_ok-in_item-in-Err-clause-ok c =
       done.1,
       λ ds kept.
           read_bad node_in ds done.0 old.bad (λ list. IsHeld ds list (held_of old.kept)) c.in_ok-index.index c.in-Err.path
-          (sym c.is_some.ensures ∙ c.if-is_some.false) kept (λ list held. held.count ∙ sym c.in_ok-index.ensures.count)
+          (sym c.is_some.ensures ∙ c.if-is_some.false) kept (λ list held. held.count ∙ sym c.in_ok-index.ensures)
           (node_bad c.in_ok-index.index done.0 c.in-Err.path said) ∙ ap (λ p. Err p) (sym c.in_ok-in_item-in-Err.ensures),
     )
