@@ -23,7 +23,7 @@ use Rattle.invalidation_map.specs.Members.{Members, AreAdded}
 use Rattle.invalidation_map.specs.Steps.{AreLed}
 use Rattle.invalidation_map.proofs.SetLemmas.{take_take}
 use Rattle.invalidation_map.proofs.OnwardLemmas.{in_option, just_one, option_in}
-use Rattle.invalidation_map.proofs.LeadLemmas.{led_element}
+use Rattle.invalidation_map.proofs.LeadLemmas.{led_element, some_to_lead}
 
 -- what is in the set is below one of the list; the children of the list are in it, and those of the set's first, so many
 pub record IsDescent (doc : List Element) (from : List ℕ) (done : ℕ) (old now : Members) : Type 0 where
@@ -50,14 +50,18 @@ got_none [] i e = omega arith
 got_none (y ∷ xs) zero e = absurd (cc)
 got_none (y ∷ xs) (suc i) e = omega (arith, got_none xs i e)
 
-module _ (doc : List Element) (v : IsValid doc) (from : List ℕ) where
-  child_below : (y x : ℕ) → parent_of doc x ≡ Some y → is_in_relation doc descendant y x ≡ true
-  child_below y x e = ap (λ l. is_in y l) (ancestors-child doc v x y e) ∙ or_left (y == y) (is_in y (ancestors doc y)) (same_number y)
+child_below : (doc : List Element) → IsValid doc → (y x : ℕ) → parent_of doc x ≡ Some y → is_in_relation doc descendant y x ≡ true
+child_below doc v y x e = ap (λ l. is_in y l) (ancestors-child doc v x y e) ∙ or_left (y == y) (is_in y (ancestors doc y)) (same_number y)
+
+-- where there is one to begin from, the document is valid
+module _ (doc : List Element) (from : List ℕ) (valid : 0 < length from → IsValid doc) where
+  valid_below : (x : ℕ) → list_any (λ y. is_in_relation doc descendant y x) from ≡ true → IsValid doc
+  valid_below x h = valid (some_to_lead (λ y. is_in_relation doc descendant y x) from h)
 
   on_below : (x z : ℕ) → parent_of doc z ≡ Some x → list_any (λ y. is_in_relation doc descendant y x) from ≡ true → list_any (λ y. is_in_relation doc descendant y z) from ≡ true
   on_below x z e h =
       let (y, (i, t)) = any_in (λ y. is_in_relation doc descendant y x) from h in
-      in_any (λ y. is_in_relation doc descendant y z) y from i (ap (λ l. is_in y l) (ancestors-child doc v z x e) ∙ or_right (x == y) (is_in y (ancestors doc x)) t)
+      in_any (λ y. is_in_relation doc descendant y z) y from i (ap (λ l. is_in y l) (ancestors-child doc (valid_below x h) z x e) ∙ or_right (x == y) (is_in y (ancestors doc x)) t)
 
   pub descent_begins : (old now : Members) → old.items ≡ [] → AreLed (is_in_relation doc child) from old now → IsDescent doc from 0 old now
   descent_begins old now none led = record {
@@ -69,20 +73,27 @@ module _ (doc : List Element) (v : IsValid doc) (from : List ℕ) where
     where
       below : (x : ℕ) → is_in x now.items ≡ true → list_any (λ y. is_in_relation doc descendant y x) from ≡ true
       below x h =
-          let (y, (i, t)) = any_in (λ y. is_in_relation doc child y x) from (sym (led.each x ∙ ap (λ l. is_in x l || list_any (λ y. is_in_relation doc child y x) from) none) ∙ h) in
-          in_any (λ y. is_in_relation doc descendant y x) y from i (child_below y x (in_option (parent_of doc x) y t))
+          let any = sym (led.each x ∙ ap (λ l. is_in x l || list_any (λ y. is_in_relation doc child y x) from) none) ∙ h in
+          let (y, (i, t)) = any_in (λ y. is_in_relation doc child y x) from any in
+          in_any (λ y. is_in_relation doc descendant y x) y from i (child_below doc (valid (some_to_lead (λ y. is_in_relation doc child y x) from any)) y x (in_option (parent_of doc x) y t))
 
   pub descent_next : (done x : ℕ) (old now later : Members) → IsDescent doc from done old now → slice_get now.items done ≡ Some x → AreAdded (children doc x) now later → IsDescent doc from (done + 1) old later
   descent_next done x old now later d got added = record {
     room = added.room ∙ d.room;
     below = λ z h. elim (or_cases (is_in z now.items) (is_in z (children doc x)) (sym (added.each z) ∙ h)) [
       | inl k ↦ d.below z k
-      | inr k ↦ on_below x z (in_child doc v x z k) (d.below x (got_in x done now.items got))
+      | inr k ↦ on_below x z (in_child doc v x z k) below
     ];
     first = λ z p e i. added.each z ∙ or_left (is_in z now.items) (is_in z (children doc x)) (d.first z p e i);
     next = next;
   }
     where
+      below : list_any (λ y. is_in_relation doc descendant y x) from ≡ true
+      below = d.below x (got_in x done now.items got)
+
+      v : IsValid doc
+      v = valid_below x below
+
       gone : take (done + 1) later.items ≡ take done now.items ++ x ∷ []
       gone =
           sym (take_take (done + 1) (length now.items) later.items (got_few now.items done x got)) ∙ (ap (take (done + 1)) added.front ∙ got_more now.items done x got)
@@ -95,8 +106,9 @@ module _ (doc : List Element) (v : IsValid doc) (from : List ℕ) where
 
   pub descent_element : (done x : ℕ) (old now : Members) → IsDescent doc from done old now → slice_get now.items done ≡ Some x → IsElement doc x
   descent_element done x old now d got =
-      let (y, (i, t)) = any_in (λ y. is_in_relation doc descendant y x) from (d.below x (got_in x done now.items got)) in
-      led_element doc v descendant y x t
+      let below = d.below x (got_in x done now.items got) in
+      let (y, (i, t)) = any_in (λ y. is_in_relation doc descendant y x) from below in
+      led_element doc (valid_below x below) descendant y x t
 
   -- all are found, from the top down
   module _ (done : ℕ) (old now : Members) (d : IsDescent doc from done old now) (got : slice_get now.items done ≡ None) where
@@ -109,7 +121,7 @@ module _ (doc : List Element) (v : IsValid doc) (from : List ℕ) where
     there : (x : ℕ) → list_any (λ y. is_in_relation doc descendant y x) from ≡ true → is_in x now.items ≡ true
     there x h =
         let (y, (i, t)) = any_in (λ y. is_in_relation doc descendant y x) from h in
-        below_found doc v ((λ y. is_in y from)) ((λ y. is_in y now.items)) children_found x (in_any ((λ y. is_in y from)) y (ancestors doc x) t i)
+        below_found doc (valid_below x h) ((λ y. is_in y from)) ((λ y. is_in y now.items)) children_found x (in_any ((λ y. is_in y from)) y (ancestors doc x) t i)
 
     pub descent_ends : old.items ≡ [] → AreLed (is_in_relation doc descendant) from old now
     descent_ends none = record {

@@ -1,7 +1,7 @@
 -- To which elements one leads: children, siblings after it.
-use Rattle.std.proofs.Common.{◌≡◌, ℕ, nat_eq, Bool, true, false, cond, List, [], ◌∷◌, take, Option, Some, None, option_to_list, slice_get, refl, sym, ap, ◌∙◌}
+use Rattle.std.proofs.Common.{◌≡◌, ℕ, ◌<◌, nat_eq, Bool, true, false, cond, List, [], ◌∷◌, length, take, Option, Some, None, option_to_list, slice_get, refl, sym, ap, ◌∙◌, arith}
 use Rattle.std.specs.Cmp.{both_ways}
-use Rattle.std.specs.List.{IsDistinct}
+use Rattle.std.specs.List.{IsDistinct, list_any}
 use Rattle.std.proofs.lemmas.Bool.{false≢true}
 use Rattle.base_model.proofs.Lists.{each-take}
 use Rattle.scene_model.specs.Element.{Element}
@@ -22,6 +22,11 @@ use Rattle.edit_model.proofs.Forward.{later_leads, next_leads}
 use Rattle.scene_model.specs.Numbers.{is_in}
 use Rattle.invalidation_map.specs.Steps.{AreElements}
 use Rattle.invalidation_map.proofs.OnwardLemmas.{in_option, just_one, left_in, nearest_in}
+
+-- where one of a list leads somewhere, there is one
+pub some_to_lead : (leads : ℕ → Bool) (from : List ℕ) → list_any leads from ≡ true → 0 < length from
+some_to_lead leads [] h = absurd (false≢true h)
+some_to_lead leads (y ∷ from) h = omega arith
 
 one_at : (xs : List ℕ) → take 1 xs ≡ option_to_list (slice_get xs 0)
 one_at [] = refl

@@ -19,7 +19,7 @@ use Rattle.invalidation_map.specs.Steps.{AreElements, AreLed}
 use Rattle.dependency_map.specs.DepView.{path_of, step_of}
 use Rattle.invalidation_map.specs.Paths.{AreStepped}
 use Rattle.dependency_map.specs.declared.dep.PathStep.{PathStep}
-use Rattle.invalidation_map.proofs.LeadLemmas.{led_element}
+use Rattle.invalidation_map.proofs.LeadLemmas.{led_element, some_to_lead}
 
 -- a path from the first, and what is ahead of it from those that it has led to
 pub record IsAhead (doc : List Element) (path ahead : List Step) (first now : List ℕ) : Type 0 where
@@ -32,11 +32,13 @@ pub no_path : (path : List PathStep) → (length path == 0) ≡ true → path_of
 no_path [] h = refl
 no_path (step ∷ path) h = absurd (omega (arith, eqb-true (length (step ∷ path)) 0 h))
 
-module _ (doc : List Element) (v : IsValid doc) where
-  pub step_elements : (k : Combinator) (from : List ℕ) (old new : Members) → old.items ≡ [] → AreLed (is_in_relation doc k) from old new → AreElements doc new.items
-  step_elements k from old new none led = each_of (IsElement doc) new.items (λ x h.
-      let (y, (i, t)) = any_in (λ y. is_in_relation doc k y x) from (sym (led.each x ∙ ap (λ l. is_in x l || list_any (λ y. is_in_relation doc k y x) from) none) ∙ h) in
-      led_element doc v k y x t)
+module _ (doc : List Element) where
+  pub step_elements : (from : List ℕ) → (0 < length from → IsValid doc) → (k : Combinator) (old new : Members) → old.items ≡ []
+      → AreLed (is_in_relation doc k) from old new → AreElements doc new.items
+  step_elements from valid k old new none led = each_of (IsElement doc) new.items (λ x h.
+      let any = sym (led.each x ∙ ap (λ l. is_in x l || list_any (λ y. is_in_relation doc k y x) from) none) ∙ h in
+      let (y, (i, t)) = any_in (λ y. is_in_relation doc k y x) from any in
+      led_element doc (valid (some_to_lead (λ y. is_in_relation doc k y x) from any)) k y x t)
 
   -- one step of the path is taken
   pub step_taken : (path ahead : List Step) (step : Step) (first from new : List ℕ) → AreElements doc new → AreStepped doc step from new → IsAhead doc path (step ∷ ahead) first from → IsAhead doc path ahead first new

@@ -25,17 +25,16 @@ pub fn sheet_marks(alloc: Global, doc: &Doc, change: &SheetChange) -> Result<Vec
         ≡ filter (is_sheet_marked doc.now.elements (map key_seen change.now.keys.items) change.now.swapped)
         (numbers doc.now.elements)) }
 {
-    // The order is not asked: the call tells that no number is in it twice.
-    let _order = doc.in_tree_order();
     let marked = marked_in_order(alloc, doc, change)?;
     Ok(marked)
 }
 
 /// The elements that an edit of sheets marks, in tree order.
 fn marked_in_order(alloc: Global, doc: &Doc, change: &SheetChange) -> Result<Vec<u32>, NoMemory>
-    ensures { IfOk result (λ v. v.items
+    ensures order { IfOk result (λ v. v.items
         ≡ filter (is_sheet_marked doc.now.elements (map key_seen change.now.keys.items) change.now.swapped)
         (numbers doc.now.elements)) }
+    ensures once { IfOk result (λ v. IsDistinct nat_eq v.items) }
 {
     if change.keys.is_empty() && !change.swapped {
         return Ok(Vec::new(alloc));
@@ -46,7 +45,9 @@ fn marked_in_order(alloc: Global, doc: &Doc, change: &SheetChange) -> Result<Vec
 
 /// The elements that bear one of the keys of the sets, in tree order.
 fn bearers(alloc: Global, doc: &Doc, sets: &KeySets) -> Result<Vec<u32>, NoMemory>
-    ensures { IfOk result (λ v. v.items ≡ filter (bears_one sets.now doc.now.elements) (numbers doc.now.elements)) }
+    ensures order { IfOk result (λ v.
+        v.items ≡ filter (bears_one sets.now doc.now.elements) (numbers doc.now.elements)) }
+    ensures once { IsDistinct nat_eq (numbers doc.now.elements) }
 {
     let order = doc.in_tree_order();
     let mut found = Vec::new(alloc);

@@ -5,7 +5,6 @@ ghost use Rattle.std.specs.List.{list_any};
 ghost use Rattle.std.specs.Option.{option_map_or};
 ghost use Rattle.scene_model.specs.Lookups.{IsElement};
 ghost use Rattle.scene_model.specs.Numbers.{is_in};
-ghost use Rattle.scene_model.specs.Valid.{IsValid};
 ghost use Rattle.change_model.specs.Sound.{is_below};
 ghost use Rattle.selector_model.specs.Bears.{bears as model_bears};
 ghost use Rattle.selector_types.specs.SimpleView.{key_seen};
@@ -86,8 +85,6 @@ impl Marker {
         ensures below { IsGrown (is_below doc.now.elements x) into.old into.new }
         ensures room { self.new ≡ self.old }
     {
-        // The order is not asked: the call tells that the document is valid.
-        let _order = doc.in_tree_order();
         self.next.clear();
         add_descendants(doc, &[x], &mut self.next);
         into.add(x);
@@ -109,8 +106,6 @@ impl Marker {
         ensures room { self.new ≡ self.old }
         ensures kept { marks.new.room ≡ marks.old.room }
     {
-        // The order is not asked: the call tells that the document is valid.
-        let _order = doc.in_tree_order();
         marks.add_all(touched.at(&dependencies.style));
         let (touches, elements) = touched.parts();
         for touch in touches {
@@ -150,7 +145,6 @@ fn mark_by_lists(
     next: &mut ElementSet,
     marks: &mut ElementSet,
 )
-    requires valid { IsValid doc.now.elements }
     requires room { HasRoom doc.now.elements from.old.room }
     requires next { next.old.room ≡ from.old.room }
     requires marks { HasRoom doc.now.elements marks.old.room }
@@ -192,7 +186,6 @@ fn mark_at(
     next: &mut ElementSet,
     marks: &mut ElementSet,
 )
-    requires valid { IsValid doc.now.elements }
     requires room { HasRoom doc.now.elements from.old.room }
     requires next { next.old.room ≡ from.old.room }
     requires marks { HasRoom doc.now.elements marks.old.room }
@@ -228,7 +221,6 @@ fn mark_by_touch(
     next: &mut ElementSet,
     marks: &mut ElementSet,
 )
-    requires valid { IsValid doc.now.elements }
     requires room { HasRoom doc.now.elements from.old.room }
     requires next { next.old.room ≡ from.old.room }
     requires marks { HasRoom doc.now.elements marks.old.room }
@@ -269,7 +261,6 @@ fn mark_row(
     next: &mut ElementSet,
     marks: &mut ElementSet,
 )
-    requires valid { IsValid doc.now.elements }
     requires room { HasRoom doc.now.elements from.old.room }
     requires next { next.old.room ≡ from.old.room }
     requires marks { HasRoom doc.now.elements marks.old.room }

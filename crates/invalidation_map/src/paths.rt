@@ -1,7 +1,6 @@
 //! Paths from elements to those whose matching rests on them.
 
 ghost use Rattle.std.specs.Prelude.{◌≡◌};
-ghost use Rattle.scene_model.specs.Valid.{IsValid};
 ghost use Rattle.invalidation_map.specs.Paths.{AreReached, AreStepped};
 ghost use Rattle.dependency_map.specs.DepView.{path_of, step_of};
 ghost use Rattle.invalidation_map.specs.Steps.{AreElements, HasRoom};
@@ -14,7 +13,6 @@ use selector_types::Combinator;
 
 /// The elements to which those of a list lead by one step, in place of what is in the set.
 fn take_step(doc: &Doc, step: PathStep, from: &[u32], into: &mut ElementSet)
-    requires valid { IsValid doc.now.elements }
     requires elements { AreElements doc.now.elements from.now }
     requires room { HasRoom doc.now.elements into.old.room }
     ensures stepped { AreStepped doc.now.elements (step_of step) from.now into.new.items }
@@ -33,7 +31,6 @@ fn take_step(doc: &Doc, step: PathStep, from: &[u32], into: &mut ElementSet)
 
 /// The elements to which those of the set `from` lead by a path, in their place. What is in `next` goes.
 pub(crate) fn walk(doc: &Doc, path: &[PathStep], from: &mut ElementSet, next: &mut ElementSet)
-    requires valid { IsValid doc.now.elements }
     requires elements { AreElements doc.now.elements from.old.items }
     requires room { HasRoom doc.now.elements from.old.room }
     requires same { next.old.room ≡ from.old.room }

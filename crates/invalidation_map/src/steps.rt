@@ -1,6 +1,6 @@
 //! One step of a path, from the elements of a list into a set. Each element is added once.
 
-ghost use Rattle.std.specs.Prelude.{◌≡◌, ℕ, [], nat_eq, take};
+ghost use Rattle.std.specs.Prelude.{◌≡◌, ◌<◌, ℕ, [], length, nat_eq, take};
 ghost use Rattle.std.specs.List.{IsDistinct};
 ghost use Rattle.scene_model.specs.Lookups.{IsElement, right_of, siblings};
 ghost use Rattle.scene_model.specs.Valid.{IsValid};
@@ -16,7 +16,8 @@ use dom_tree::Doc;
 pub(crate) fn add_children(doc: &Doc, from: &[u32], into: &mut ElementSet)
     requires elements { AreElements doc.now.elements from.now }
     requires room { HasRoom doc.now.elements into.old.room }
-    ensures { AreLed (is_in_relation doc.now.elements child) from.now into.old into.new }
+    ensures led { AreLed (is_in_relation doc.now.elements child) from.now into.old into.new }
+    ensures valid { 0 < length from.now → IsValid doc.now.elements }
 {
     for x in from {
         into.add_all(doc.children(*x));
@@ -27,7 +28,8 @@ pub(crate) fn add_children(doc: &Doc, from: &[u32], into: &mut ElementSet)
 pub(crate) fn add_next_siblings(doc: &Doc, from: &[u32], into: &mut ElementSet)
     requires elements { AreElements doc.now.elements from.now }
     requires room { HasRoom doc.now.elements into.old.room }
-    ensures { AreLed (is_in_relation doc.now.elements next_sibling) from.now into.old into.new }
+    ensures led { AreLed (is_in_relation doc.now.elements next_sibling) from.now into.old into.new }
+    ensures valid { 0 < length from.now → IsValid doc.now.elements }
 {
     for x in from {
         into.add_all(next_siblings(doc, *x));
@@ -40,7 +42,8 @@ pub(crate) fn add_later_siblings(doc: &Doc, from: &[u32], into: &mut ElementSet)
     requires elements { AreElements doc.now.elements from.now }
     requires room { HasRoom doc.now.elements into.old.room }
     requires empty { into.old.items ≡ [] }
-    ensures { AreLed (is_in_relation doc.now.elements later_sibling) from.now into.old into.new }
+    ensures led { AreLed (is_in_relation doc.now.elements later_sibling) from.now into.old into.new }
+    ensures valid { 0 < length from.now → IsValid doc.now.elements }
 {
     for x in from {
         add_until_met(doc.right_siblings(*x), into);
@@ -50,11 +53,11 @@ pub(crate) fn add_later_siblings(doc: &Doc, from: &[u32], into: &mut ElementSet)
 /// Adds all elements below each, to an empty set: the children, and then the children of what is in the set, while it
 /// grows.
 pub(crate) fn add_descendants(doc: &Doc, from: &[u32], into: &mut ElementSet)
-    requires valid { IsValid doc.now.elements }
     requires elements { AreElements doc.now.elements from.now }
     requires room { HasRoom doc.now.elements into.old.room }
     requires empty { into.old.items ≡ [] }
-    ensures { AreLed (is_in_relation doc.now.elements descendant) from.now into.old into.new }
+    ensures led { AreLed (is_in_relation doc.now.elements descendant) from.now into.old into.new }
+    ensures valid { 0 < length from.now → IsValid doc.now.elements }
 {
     add_children(doc, from, into);
     let mut index = 0;

@@ -9,7 +9,8 @@ use Rattle.invalidation_map.proofs.paths.walk.Goals as goal
 pub loop-step-preserved : goal.loop-step-preserved
 loop-step-preserved c = record {
   ahead =
-      path_next _ c.requires.valid _ _ (Forwards Descendant) _ _ _ _ _ c.loop-step-test.true c.take_step.ensures.elements c.take_step.ensures.stepped c.as_slice.ensures.items (ap (λ (m : Members). m.items) c.swap.ensures.x_after) c.loop-step.invariant.ahead;
+      path_next _ _ _ (Forwards Descendant) _ _ _ _ _ c.loop-step-test.true c.take_step.ensures.elements c.take_step.ensures.stepped c.as_slice.ensures.items
+      (ap (λ (m : Members). m.items) c.swap.ensures.x_after) c.loop-step.invariant.ahead;
   elements = subst (λ (m : Members). AreElements c.args.doc.now.elements m.items) (sym c.swap.ensures.x_after) c.take_step.ensures.elements;
   room = ap (λ (m : Members). m.room) c.swap.ensures.x_after ∙ (c.take_step.ensures.room ∙ c.loop-step.invariant.same);
   same = ap (λ (m : Members). m.room) c.swap.ensures.y_after ∙ c.loop-step.invariant.room;

@@ -1,7 +1,6 @@
 use Rattle.std.proofs.Common.{◌<◌, ◌∷◌, [], ap, sym, subst, ◌∙◌}
-use Rattle.scene_model.specs.Lookups.{IsElement}
 use Rattle.selector_model.specs.Selector.{descendant}
-use Rattle.invalidation_map.specs.Members.{AreBelow, Members}
+use Rattle.invalidation_map.specs.Members.{Members}
 use Rattle.invalidation_map.specs.Steps.{AreElements}
 use Rattle.invalidation_map.proofs.BelowLemmas.{below_added}
 use Rattle.invalidation_map.proofs.PathLemmas.{step_elements}
@@ -13,7 +12,7 @@ pub add_all-requires : goal.add_all-requires
 add_all-requires c =
     let doc = c.args.doc.now.elements in
     let empty = ap (λ (m : Members). m.items) c.clear.ensures in
-    let reached = step_elements doc c.in_tree_order-order.ensures.valid descendant (c.args.x ∷ []) c.clear.new.self c.add_descendants.new.into empty c.add_descendants.ensures in
+    let reached = step_elements doc (c.args.x ∷ []) c.add_descendants.ensures.valid descendant c.clear.new.self c.add_descendants.new.into empty c.add_descendants.ensures.led in
     below_all doc c.add.new.self.room c.as_slice.result.now
     (λ y there. subst (λ n. y < n) (sym (ap (λ (m : Members). m.room) c.add.ensures ∙ (one_added c.args.into.now c.args.x).room)) (c.requires.into y there))
     (subst (AreElements doc) (sym c.as_slice.ensures.items) reached)
@@ -21,4 +20,4 @@ add_all-requires c =
 pub returns-clause-below : goal.returns-clause-below
 returns-clause-below c =
     below_added c.args.doc.now.elements c.args.x c.clear.new.self c.add_descendants.new.into c.args.into.now c.add.new.self c.add_all.new.self c.as_slice.result.now
-    (ap (λ (m : Members). m.items) c.clear.ensures) c.add_descendants.ensures c.as_slice.ensures.items c.add.ensures c.add_all.ensures
+    (ap (λ (m : Members). m.items) c.clear.ensures) c.add_descendants.ensures.led c.as_slice.ensures.items c.add.ensures c.add_all.ensures
