@@ -1,10 +1,12 @@
 -- What is kept answers what is asked of an element.
-use Rattle.std.proofs.Common.{◌≡◌, ◌↔◌, ℕ, ◌+◌, ◌-◌, ◌<◌, ◌≤◌, ◌&&◌, Bool, IsTrue, true, false, cond, not, Fits, w32, sym, ap, ◌∙◌, subst₂, refl, arith}
+use Rattle.std.proofs.Common.{◌≡◌, ◌↔◌, ℕ, ◌+◌, ◌-◌, ◌<◌, ◌≤◌, ◌&&◌, Bool, IsTrue, true, false, cond, not, Fits, w32, sym, ap, ◌∙◌, subst, subst₂, refl, arith}
 use Rattle.std.proofs.Common.{List, [], length, codes, Option, Some, None, option_map, option_and_then, is_some, unwrap_or, slice_get, get_or}
 use Rattle.std.specs.FinMap as finmap
 use Rattle.std.specs.Option.{option_map_or}
 use Rattle.std.specs.Str.{chars}
+use Rattle.std.proofs.lemmas.List.{length-map}
 use Rattle.std.proofs.lemmas.Option.{same_Some}
+use Rattle.base_model.specs.Limits.{element_limit}
 use Rattle.base_model.specs.Text.{is_empty_text, same_text}
 use Rattle.base_model.proofs.Lists.{slice_get_some}
 use Rattle.stylo_base.proofs.TextLemmas.{chars-ascii}
@@ -119,6 +121,12 @@ module _ {p : Parts} {now : Document} (whole : IsWhole p) (view : AreSeenAs p no
 
     pub id_is : option_map (text_of p.table.names) label.id ≡ option_and_then id_text (attribute_of now.elements x (codes "id"))
     id_is = label_is.id ∙ ap (option_and_then id_text) (named (chars (codes "id")) ∙ ap (attribute_of now.elements x) (chars-ascii (codes "id") refl))
+
+-- there are not too many elements
+pub few_seen : {p : Parts} {now : Document} → IsWhole p → AreSeenAs p now → length now.elements ≤ element_limit
+few_seen {p} whole view =
+    subst (λ (d : Document). length d.elements ≤ element_limit) view
+    (omega (arith, whole.few, ap length whole.listed, length-map (in_order p.table.nodes p.order) (λ (e : Element). e.number)))
 
 -- the attributes of two elements
 pub same_attributes_are : {p : Parts} {now : Document} (whole : IsWhole p) (view : AreSeenAs p now) (x y : ℕ) (is : IsElement now.elements x) (also : IsElement now.elements y) {b : Bool}

@@ -164,6 +164,7 @@ impl Doc {
         requires { IsElement self.now.elements x }
         ensures parent { result ≡ parent_of self.now.elements x }
         ensures valid { IsValid self.now.elements }
+        ensures few { length self.now.elements ≤ element_limit }
     {
         match self.columns.parent(x as usize - 1) {
             Some(parent) => Some(parent + 1),

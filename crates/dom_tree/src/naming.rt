@@ -20,6 +20,7 @@ pub(crate) fn name_attrs(
     ensures map { OnOk result (named_attributes names.new run.new.items ≡ attributes_of attrs.now) }
     ensures rows { OnOk result (AreAttrs names.new run.new.items) }
     ensures kept { KeepsTexts names.old names.new }
+    ensures once { OnErr result (StandOnce names.new) }
 {
     run.clear();
     for attr in attrs.iter().rev() {

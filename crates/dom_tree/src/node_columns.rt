@@ -92,6 +92,7 @@ impl NodeColumns {
     pub fn push(&mut self, parent: Option<u32>, node: NodeInput) -> Result<(), NoMemory>
         ensures ok { OnOk result (self.new.nodes ≡ self.old.nodes ++ node_of parent node.entry ∷ []) }
         ensures err { OnErr result (self.new.nodes ≡ self.old.nodes) }
+        ensures once { StandOnce self.new.names }
     {
         name_attrs(&mut self.names, &mut self.run, node.attrs)?;
         let row = NodeRow {

@@ -47,6 +47,7 @@ pub struct NodeList {
 impl Model for NodeList {
     ghost use Rattle.std.specs.Prelude.{◌≡◌, List};
     ghost use Rattle.scene_model.specs.Nodes.{Node, nodes_code, IsNodeList};
+    ghost use Rattle.stylo_base.specs.NameList.{StandOnce};
     ghost use Rattle.dom_tree.specs.Depths.{depths_of};
 
     ghost Value = { List Node };
@@ -55,7 +56,8 @@ impl Model for NodeList {
 
     ghost view = { λ l. l.columns.nodes };
 
-    ghost invariant = { λ l. IsNodeList l.columns.nodes × (l.depths.items ≡ depths_of l.columns.nodes) };
+    ghost invariant = { λ l. IsNodeList l.columns.nodes × (l.depths.items ≡ depths_of l.columns.nodes)
+        × StandOnce l.columns.names };
 }
 
 impl NodeList {
@@ -103,8 +105,6 @@ impl NodeList {
         requires { index < length self.now }
         ensures { IfSome (slice_get self.now index) (λ node. result ≡ finmap.len node.attrs) }
     {
-        // How many names there are is not asked: the call tells that each stands once.
-        let _names = self.columns.name_count();
         self.columns.attribute_count(index)
     }
 
@@ -114,7 +114,6 @@ impl NodeList {
         ensures { (n : ℕ) → IfSome (slice_get self.now index) (λ node. nat_le result n
             ≡ list_all (λ text. nat_le (length (encode_utf8_all text)) n) (finmap.values node.attrs)) }
     {
-        let _names = self.columns.name_count();
         self.columns.longest_value(index)
     }
 

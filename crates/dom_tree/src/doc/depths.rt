@@ -16,8 +16,6 @@ impl Doc {
         ensures depth { result ≡ depth_of self.now.elements x }
         ensures few { result ≤ element_limit }
     {
-        // How many there are is not asked: the call tells that they are not too many.
-        let _count = self.len();
         let mut depth = 1;
         let mut top = x;
         while let Some(parent) = self.parent(top) {
@@ -85,7 +83,6 @@ impl Doc {
         ensures depth { result ≡ depth_of self.now.elements y }
         ensures few { result ≤ element_limit }
     {
-        let _count = self.len();
         let Some(parent) = self.parent(y) else {
             return 1;
         };

@@ -6,7 +6,7 @@ use Rattle.dom_tree.proofs.doc.Doc.depth.Goals as goal
 
 pub overflow_add-depth : goal.overflow_add-depth
 overflow_add-depth c =
-    omega (arith, c.loop-parent.invariant.same, depth_within c.args.self.now.elements c.args.x c.requires, c.len-count.ensures.len, c.len-count.ensures.few)
+    omega (arith, c.loop-parent.invariant.same, depth_within c.args.self.now.elements c.args.x c.requires, c.parent.ensures.few)
 
 pub loop-parent-preserved : goal.loop-parent-preserved
 loop-parent-preserved c =
@@ -23,4 +23,4 @@ returns-clause-depth c =
 
 pub returns-clause-few : goal.returns-clause-few
 returns-clause-few c =
-    omega (arith, c.loop-parent.invariant.same, depth_within c.args.self.now.elements c.args.x c.requires, c.len-count.ensures.len, c.len-count.ensures.few)
+    omega (arith, c.loop-parent.invariant.same, depth_within c.args.self.now.elements c.args.x c.requires, c.parent.ensures.few)

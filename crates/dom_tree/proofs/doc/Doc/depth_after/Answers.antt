@@ -26,7 +26,7 @@ loop-top-preserved c =
 
 pub overflow_add-result : goal.overflow_add-result
 overflow_add-result c =
-    omega (arith, c.loop-top.invariant.depth, depth_within c.args.self.now.elements c.loop-top.top c.loop-top.invariant.there, c.len-count.ensures.len, c.len-count.ensures.few)
+    omega (arith, c.loop-top.invariant.depth, depth_within c.args.self.now.elements c.loop-top.top c.loop-top.invariant.there, c.parent.ensures.few)
 
 pub returns-clause-depth : goal.returns-clause-depth
 returns-clause-depth c =
@@ -46,6 +46,5 @@ returns-clause-few c =
       depth_of-child doc c.parent.ensures.valid c.args.y c.in-Some.parent above,
       depth_within doc c.args.y
           c.requires.there,
-      c.len-count.ensures.len,
-      c.len-count.ensures.few,
+      c.parent.ensures.few,
     )

@@ -21,7 +21,7 @@ overflow_add-depth c =
 pub invariant_of-self-in_err-push : goal.invariant_of-self-in_err-push
 invariant_of-self-in_err-push c =
     let same = c.in_err-push.ensures.err in
-    (subst IsNodeList (sym same) c.self.invariant.0, c.reserve.ensures.items ∙ (c.self.invariant.1 ∙ ap depths_of (sym same)))
+    (subst IsNodeList (sym same) c.self.invariant.0, c.reserve.ensures.items ∙ (c.self.invariant.1 ∙ ap depths_of (sym same)), c.push.ensures.once)
 
 pub invariant_of-self-2 : goal.invariant_of-self-2
 invariant_of-self-2 c =
@@ -33,4 +33,5 @@ invariant_of-self-2 c =
       subst IsNodeList (sym c.in_ok-push.ensures.ok) (IsNodeList-push c.self.inside.columns.nodes node c.self.invariant.0 within),
       depths_pushed node c.self.invariant.0 c.self.invariant.1 refl within deeper c.in_ok-push.ensures.ok (c.push_reserved.ensures.items
           ∙ ap (λ l. l ++ (c.index.result.now + 1) ∷ []) c.reserve.ensures.items),
+      c.push.ensures.once,
     )
