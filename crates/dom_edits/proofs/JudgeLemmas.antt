@@ -94,13 +94,13 @@ node_passed node rest {longest = longest} is h told k =
 
 -- node by node
 
-drop_at : (nodes : List Node) (i : ℕ) → i < length nodes → (node : Node) × (slice_get nodes i ≡ Some node) × (drop i nodes ≡ node ∷ drop (i + 1) nodes)
+pub drop_at : {A : Type 0} (xs : List A) (i : ℕ) → i < length xs → (x : A) × (slice_get xs i ≡ Some x) × (drop i xs ≡ x ∷ drop (i + 1) xs)
 drop_at [] i h = absurd (omega (arith, h))
-drop_at (node ∷ nodes) zero h = (node, refl, refl)
-drop_at (node ∷ nodes) (suc i) h =
-    let (found, at, is) = drop_at nodes i (omega (arith, h)) in
+drop_at (x ∷ xs) zero h = (x, refl, refl)
+drop_at (x ∷ xs) (suc i) h =
+    let (found, at, is) = drop_at xs i (omega (arith, h)) in
     let same : suc i + 1 ≡ suc (i + 1) = omega arith in
-    (found, at, is ∙ ap (λ k. found ∷ drop k (node ∷ nodes)) (sym same))
+    (found, at, is ∙ ap (λ k. found ∷ drop k (x ∷ xs)) (sym same))
 
 module _ (nodes : List Node) (i : ℕ) (l : i < length nodes) (so_far : nodes_past (drop i nodes) ≡ nodes_past nodes) (count : ℕ) (counted : IfSome (slice_get nodes i) (λ node. count ≡ finmap.len node.attrs)) where
   counts_at : (node : Node) → slice_get nodes i ≡ Some node → count ≡ finmap.len node.attrs

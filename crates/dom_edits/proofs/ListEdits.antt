@@ -3,7 +3,7 @@ use Rattle.std.proofs.Common.{◌≡◌, ◌≢◌, ℕ, ◌+◌, ◌<◌, ◌�
 use Rattle.std.specs.List.{flat_map}
 use Rattle.std.specs.List.Sorted.{IsPermutation}
 use Rattle.std.proofs.Math.Seq.{take-append_seam, drop-append-add}
-use Rattle.std.proofs.lemmas.Bool.{false_from_ne_true, leb-true, eqb-true}
+use Rattle.std.proofs.lemmas.Bool.{false≢true, false_from_ne_true, leb-true, eqb-true}
 use Rattle.std.proofs.lemmas.List.{length-map, length-take-le}
 use Rattle.std.proofs.lemmas.List.Sorted.{IsPermutation-refl}
 use Rattle.std.proofs.lemmas.Option.{same_Some}
@@ -118,12 +118,19 @@ module _ {d : Document} {n o p : ℕ} (can : CanMove d n o p) (index : ℕ) wher
   still = is_still d.elements now n
 
   -- to where it is
+  pub still_there : o ≡ p → index ≡ place_of d.elements n → still ≡ true
+  still_there same at =
+      (is_still-moved can index).1 ((λ i. moved d n (sym same i) (at i)) ∙ moved_in_place taken)
+
   pub still_told : {told : List (model.Touch × ℕ)} → o ≡ p → index ≡ place_of d.elements n → told ≡ [] → IsPermutation (touched_pairs d (move n p index)) told
   still_told {told} same at none =
-      let stays : moved d n p index ≡ d = (λ i. moved d n (sym same i) (at i)) ∙ moved_in_place taken in
-      let is : still ≡ true = (is_still-moved can index).1 stays in
       subst (λ (l : List (model.Touch × ℕ)). IsPermutation (touched_pairs d (move n p index)) l) (sym none)
-      (subst (λ (b : Bool). IsPermutation (flat_map (parent_pairs now) (cond b [] (filter (λ q. not (q == p)) (option_to_list (parent_of d.elements n)) ++ p ∷ []))) []) (sym is) (IsPermutation-refl []))
+      (subst (λ (b : Bool). IsPermutation (flat_map (parent_pairs now) (cond b [] (filter (λ q. not (q == p)) (option_to_list (parent_of d.elements n)) ++ p ∷ []))) []) (sym (still_there same at)) (IsPermutation-refl []))
+
+  -- under another parent it is elsewhere
+  leaves_parent : o ≢ p → moved d n p index ≡ d → ⊥
+  leaves_parent other same =
+      other (same_Some o p (sym can.parent ∙ (ap (λ (c : Document). parent_of c.elements n) (sym same) ∙ parent_of-moved_top can index)))
 
   -- elsewhere
   module _ (elsewhere : moved d n p index ≡ d → ⊥) where
@@ -148,11 +155,8 @@ module _ {d : Document} {n o p : ℕ} (can : CanMove d n o p) (index : ℕ) wher
         left_of_parent taken at ∙ (children-without_parent (its_parent taken) ∙ sym (children-moved_from can index other)) in
         let to : take index (children d.elements p) ++ n ∷ drop index (children d.elements p) ≡ children now p =
         ap (λ l. take index l ++ n ∷ drop index l) (sym (children-without (its_parent taken) p can.apart (λ e. other (sym e)))) ∙ sym (children-moved_to can index) in
-        move_told leaves (ap (λ b. cond (not b) (o ∷ []) [] ++ p ∷ []) (differs o p other) ∙ sym both)
+        move_told (leaves_parent other) (ap (λ b. cond (not b) (o ∷ []) [] ++ p ∷ []) (differs o p other) ∙ sym both)
         (are ∙ ((λ i. from i ++ to i) ∙ ((ap (λ l. children now o ++ l) (sym (append-nil (children now p)))) ∙ ap (flat_map (children now)) (sym both)))) is
-      where
-        leaves : moved d n p index ≡ d → ⊥
-        leaves same = other (same_Some o p (sym can.parent ∙ (ap (λ (c : Document). parent_of c.elements n) (sym same) ∙ parent_of-moved_top can index)))
 
     pub index_two : o ≢ p → index ≤ length (children (without d.elements n) p) → index ≤ length (children d.elements p)
     index_two other within = omega (arith, within, ap length (children-without (its_parent taken) p can.apart (λ e. other (sym e))))
@@ -161,22 +165,33 @@ module _ {d : Document} {n o p : ℕ} (can : CanMove d n o p) (index : ℕ) wher
     rest_is same left_is =
         left_is ∙ (ap (λ q. take place (children d.elements q) ++ drop (place + 1) (children d.elements q)) (sym same) ∙ (left_of_parent taken at ∙ ap (children (without d.elements n)) same))
 
-    -- under the same one
+    -- under the same one, at another index, it is elsewhere
+    leaves_place : o ≡ p → place ≢ index → index ≤ length (children (without d.elements n) p) → moved d n p index ≡ d → ⊥
+    leaves_place same other within stays =
+        let xs : List ℕ = take index (children (without d.elements n) p) in
+        let ys : List ℕ = drop index (children (without d.elements n) p) in
+        let is : children d.elements o ≡ xs ++ n ∷ ys = ap (children d.elements) same ∙ (ap (λ (c : Document). children c.elements p) (sym stays) ∙ children-moved_to can index) in
+        other (at ∙ (place_of-split (its_parent taken) can.sound.runs xs ys is ∙ length-take-le index (children (without d.elements n) p) within))
+
     pub one_told : o ≡ p → place ≢ index → index ≤ length (children (without d.elements n) p) → {parents kids left : List ℕ} {told : List (model.Touch × ℕ)} → parents ≡ p ∷ []
         → left ≡ take place (children d.elements p) ++ drop (place + 1) (children d.elements p) → kids ≡ take index left ++ n ∷ drop index left → told ≡ list_pairs parents kids
         → IsPermutation (touched_pairs d (move n p index)) told
     one_told same other within {parents} {kids} {left} one left_is are is =
         let rest = rest_is same left_is in
         let to : kids ≡ children now p = are ∙ (ap (λ l. take index l ++ n ∷ drop index l) rest ∙ sym (children-moved_to can index)) in
-        move_told leaves (ap (λ b. cond (not b) (o ∷ []) [] ++ p ∷ []) (ap (λ q. q == p) same ∙ same_number p) ∙ sym one)
+        move_told (leaves_place same other within) (ap (λ b. cond (not b) (o ∷ []) [] ++ p ∷ []) (ap (λ q. q == p) same ∙ same_number p) ∙ sym one)
         (to ∙ (sym (append-nil (children now p)) ∙ ap (flat_map (children now)) (sym one))) is
+
+    -- so whether it is where the move takes it
+    pub still_is : o ≡ p → index ≤ length (children (without d.elements n) p) → (place == index) ≡ still
+    still_is same within = by (place == index) refl
       where
-        leaves : moved d n p index ≡ d → ⊥
-        leaves stays =
-            let xs : List ℕ = take index (children (without d.elements n) p) in
-            let ys : List ℕ = drop index (children (without d.elements n) p) in
-            let is : children d.elements o ≡ xs ++ n ∷ ys = ap (children d.elements) same ∙ (ap (λ (c : Document). children c.elements p) (sym stays) ∙ children-moved_to can index) in
-            other (at ∙ (place_of-split (its_parent taken) can.sound.runs xs ys is ∙ length-take-le index (children (without d.elements n) p) within))
+        by : (b : Bool) → (place == index) ≡ b → b ≡ still
+        by true e = sym (still_there same (sym (eqb-true place index e) ∙ at))
+        by false e = sym (goes (leaves_place same (λ alike. false≢true (sym e ∙ (ap (λ k. place == k) (sym alike) ∙ same_number place))) within))
+
+  pub still_other : o ≢ p → false ≡ still
+  still_other other = sym (goes (leaves_parent other))
 
 -- a move that nothing refuses, of a child of o
 pub move_allowed : (d : Document) → IsSound d → (n p index o : ℕ) → refusal d (move n p index) ≡ None → parent_of d.elements n ≡ Some o → CanMove d n o p

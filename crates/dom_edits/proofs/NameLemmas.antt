@@ -9,7 +9,12 @@ use Rattle.dom_tree.proofs.GivenLemmas.{compared, id_text-IsUtf8, class_text-IsU
 use Rattle.edit_model.specs.Touched.{Touch, attribute, id, class, same_optional}
 use Rattle.edit_model.specs.TouchedPairs.{classes_between, ids_among, value_touches}
 use Rattle.edit_model.proofs.TouchedPairLemmas.{text_turned}
-use Rattle.dom_edits.specs.NameTouches.{name_touches}
+
+-- what a change of an attribute touches beside the attribute itself
+abbrev pub name_touches : Characters → Option Characters → Option Characters → List Touch
+name_touches name before now =
+    cond (same_text (codes "id") name) (map id (ids_among before now)) []
+    ++ cond (same_text (codes "class") name) (map class (classes_between before now)) []
 
 -- a name that was compared with `id` or `class`
 

@@ -3,5 +3,7 @@ pub mod TouchView
 pub mod TouchedView
 pub mod EditView
 pub mod AcceptedView
+pub mod Plans
+pub mod PlannedView
 pub mod WordSets
-pub mod NameTouches
+pub mod ClassNames

@@ -21,6 +21,8 @@ pub(crate) enum Accepted<'a> {
         x: u32,
         parent: u32,
         index: usize,
+        /// Whether it is there already.
+        still: bool,
     },
     /// Gives an attribute a value.
     Set {

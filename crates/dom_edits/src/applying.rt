@@ -15,10 +15,12 @@ ghost use Rattle.edit_model.specs.TouchedBy.{AreTouched};
 ghost use Rattle.edit_model.specs.TouchedPairs.{touched_pairs};
 ghost use Rattle.dom_edits.specs.AcceptedView.{accepted_seen};
 ghost use Rattle.dom_edits.specs.EditView.{doc_edit_seen, refusal_answered};
+ghost use Rattle.dom_edits.specs.PlannedView.{Fits, planned_seen};
 
 use crate::accepted::Accepted;
 use crate::edits::DocEdit;
-use crate::refusals::judge;
+use crate::planned::Planned;
+use crate::planning::plan;
 use crate::subtrees::{insert, move_to, remove};
 use crate::touched::Touched;
 use crate::value_touches::{state_touches, value_touches};
@@ -38,7 +40,23 @@ pub fn apply(alloc: Global, doc: &mut Doc, edit: &DocEdit) -> Result<Touched, Ed
         ≡ unwrap_or (option_map refusal_answered (model_refusal doc.old (doc_edit_seen edit.now))) out_of_memory) }
     ensures kept { OnErr result (doc.new ≡ doc.old) }
 {
-    let accepted = judge(doc, edit)?;
+    let planned = plan(doc, edit)?;
+    let touched = commit(alloc, doc, planned)?;
+    Ok(touched)
+}
+
+/// Makes an edit that was planned, in a document in which nothing refuses it. The answer is what the edit touches: each
+/// pair of what is touched and an element of the document once. The only error is that memory ran out; then the document
+/// is as it was.
+pub fn commit(alloc: Global, doc: &mut Doc, planned: Planned<'_>) -> Result<Touched, NoMemory>
+    requires { Fits doc.old planned }
+    ensures ok { OnOk result (applied doc.old (planned_seen planned.entry) ≡ accepted doc.new) }
+    ensures touched { IfOk result (λ touched. AreTouched doc.old.elements doc.new.elements touched) }
+    ensures elements { IfOk result (λ touched.
+        AllByRecursion (λ pair. IsElement doc.new.elements pair.1) touched) }
+    ensures kept { OnErr result (doc.new ≡ doc.old) }
+{
+    let Planned { accepted, .. } = planned;
     let touched = make(alloc, doc, accepted)?;
     Ok(touched)
 }
@@ -60,7 +78,12 @@ fn make(alloc: Global, doc: &mut Doc, edit: Accepted) -> Result<Touched, NoMemor
             nodes,
         } => insert(alloc, doc, parent, index, nodes),
         Accepted::Remove { x } => remove(alloc, doc, x),
-        Accepted::Move { x, parent, index } => move_to(alloc, doc, x, parent, index),
+        Accepted::Move {
+            x,
+            parent,
+            index,
+            ..
+        } => move_to(alloc, doc, x, parent, index),
         Accepted::Set { x, name, value } => set_attribute(alloc, doc, x, name, value),
         Accepted::Unset { x, name } => remove_attribute(alloc, doc, x, name),
         Accepted::State { x, state, on } => set_state(alloc, doc, x, state, on),
@@ -81,7 +104,7 @@ fn set_attribute(
         IsPermutation (touched_pairs doc.old (set x (chars name.now) (chars value.now))) touched) }
     ensures kept { OnErr result (doc.new ≡ doc.old) }
 {
-    let touches = value_touches(alloc, name, doc.attribute(x, name), Some(value))?;
+    let touches = value_touches(alloc, doc, x, name, Some(value))?;
     let touched = Touched::at_one(alloc, x, touches);
     doc.set_attribute(alloc, x, name, value)?;
     Ok(touched)
@@ -95,7 +118,7 @@ fn remove_attribute(alloc: Global, doc: &mut Doc, x: u32, name: &str) -> Result<
         IsPermutation (touched_pairs doc.old (unset x (chars name.now))) touched) }
     ensures kept { OnErr result (doc.new ≡ doc.old) }
 {
-    let touches = value_touches(alloc, name, doc.attribute(x, name), None)?;
+    let touches = value_touches(alloc, doc, x, name, None)?;
     let touched = Touched::at_one(alloc, x, touches);
     doc.remove_attribute(alloc, x, name)?;
     Ok(touched)

@@ -84,15 +84,13 @@ pub struct SharedNodes {
 impl Model for SharedNodes {
     ghost use Rattle.std.specs.Prelude.{List};
     ghost use Rattle.std.specs.Arc.{arc_value};
-    ghost use Rattle.scene_model.specs.Nodes.{Node, nodes_code, IsNodeList};
+    ghost use Rattle.scene_model.specs.Nodes.{Node, nodes_code};
 
     ghost Value = { List Node };
 
     ghost coded = { nodes_code };
 
     ghost view = { λ n. arc_value n.list };
-
-    ghost invariant = { λ n. IsNodeList (arc_value n.list) };
 }
 
 impl SharedNodes {
@@ -100,8 +98,6 @@ impl SharedNodes {
     pub fn of(alloc: Global, list: NodeList) -> Result<SharedNodes, NoMemory>
         ensures { IfOk result (λ nodes. nodes ≡ list) }
     {
-        // The count is not asked: the call tells that they are a list.
-        let _count = list.len();
         Ok(SharedNodes {
             list: Arc::new(alloc, list)?,
         })
@@ -133,7 +129,7 @@ impl NewNodes {
     }
 
     /// How many there are. Those that are not kept don't count.
-    fn count(&self) -> usize
+    pub(crate) fn count(&self) -> usize
         ensures count { result ≡ kept_count self.now }
         ensures shaped { IsNodeList (nodes_seen self.now) }
     {

@@ -4,6 +4,8 @@
 mod accepted;
 mod applying;
 mod edits;
+mod planned;
+mod planning;
 mod refusals;
 mod subtrees;
 mod touch;
@@ -13,9 +15,10 @@ mod value_touches;
 mod word;
 mod word_set;
 
-pub use applying::apply;
+pub use applying::{apply, commit};
 pub use edits::{DocEdit, Edit, NewNodes, NodeLimit, SharedNodes, SheetEdit};
-pub use refusals::refusal;
+pub use planned::Planned;
+pub use planning::{plan, refusal};
 pub use touch::Touch;
 pub use touch_name::TouchName;
 pub use touched::Touched;

@@ -1,15 +1,17 @@
 //! Why an edit of a document is refused.
 
-ghost use Rattle.std.specs.Prelude.{◌≡◌, IfErr, IfOk, None, Some, false, length, option_map};
+ghost use Rattle.std.specs.Prelude.{◌≡◌, ◌≤◌, IfErr, IfOk, None, Some, false, length, option_map};
 ghost use Rattle.std.specs.Str.{chars};
 ghost use Rattle.scene_model.specs.Lookups.{IsElement, children, is_element, parent_of};
 ghost use Rattle.scene_model.specs.Nodes.{IsNodeList};
+ghost use Rattle.change_model.specs.ChildLists.{moved};
+ghost use Rattle.change_model.specs.Fresh.{is_still};
 ghost use Rattle.change_model.specs.Sound.{IsSound, is_below, without};
-ghost use Rattle.edit_model.specs.Apply.{limit_past, nodes_past as model_nodes_past, refusal as model_refusal};
-ghost use Rattle.edit_model.specs.Edit.{DocEdit as ModelEdit, IsShaped, insert, move, remove, set};
+ghost use Rattle.edit_model.specs.Apply.{limit_past, nodes_past as model_nodes_past};
+ghost use Rattle.edit_model.specs.Edit.{IsShaped, insert, move, remove, set};
 ghost use Rattle.edit_model.specs.Refusal.{unknown_node};
-ghost use Rattle.dom_edits.specs.EditView.{Says, doc_edit_seen, nodes_seen, refusal_answered, refused_by};
-ghost use Rattle.dom_edits.specs.AcceptedView.{IsJudged, accepted_seen};
+ghost use Rattle.dom_edits.specs.EditView.{doc_edit_seen, nodes_seen, refusal_answered, refused_by};
+ghost use Rattle.dom_edits.specs.AcceptedView.{IsJudged};
 
 use crate::accepted::Accepted;
 use crate::edits::{DocEdit, NewNodes, NodeLimit};
@@ -17,24 +19,12 @@ use dom_tree::{Doc, NodeList};
 use stylo_base::limits::{ATTRIBUTE_LIMIT, DEPTH_LIMIT, ELEMENT_LIMIT, NUMBER_LIMIT, VALUE_LIMIT};
 use stylo_base::{EditRefused, Kind};
 
-/// Why an edit is refused: the first refusal in the order of unknown elements, places and limits. None:
-/// it is accepted, where there is memory. It takes no memory.
-pub fn refusal(doc: &Doc, edit: &DocEdit) -> Option<EditRefused>
-    ensures refusal { result ≡ option_map refusal_answered (model_refusal doc.now (doc_edit_seen edit.now)) }
-    ensures every { (said : ModelEdit) → Says edit.now said
-        → result ≡ option_map refusal_answered (model_refusal doc.now said) }
-{
-    judge(doc, edit).err()
-}
-
 /// An edit with its numbers, where nothing refuses it, or else its refusal.
 pub(crate) fn judge<'a>(doc: &Doc, edit: &'a DocEdit) -> Result<Accepted<'a>, EditRefused>
     ensures judged { IsJudged doc.now (doc_edit_seen edit.now) result }
-    ensures shaped { IfOk result (λ accepted. IsShaped (accepted_seen accepted)) }
+    ensures shaped { IsShaped (doc_edit_seen edit.now) }
     ensures sound { IsSound doc.now }
 {
-    // The order is not asked: the call tells that the document is sound.
-    let _order = doc.in_tree_order();
     match edit {
         DocEdit::Insert {
             parent,
@@ -72,10 +62,11 @@ fn judge_insertion<'a>(
     index: u64,
     nodes: &'a NewNodes,
 ) -> Result<Accepted<'a>, EditRefused>
-    requires { IsSound doc.now }
     ensures judged { IsJudged doc.now (insert parent index (nodes_seen nodes.now)) result }
-    ensures shaped { IfOk result (λ accepted. IsShaped (accepted_seen accepted)) }
+    ensures shaped { IsNodeList (nodes_seen nodes.now) }
+    ensures sound { IsSound doc.now }
 {
+    let count = nodes.count();
     let p = known(doc, parent)?;
     if index > doc.children(p).len() as u64 {
         return Err(EditRefused::BadPlace);
@@ -84,7 +75,7 @@ fn judge_insertion<'a>(
         NewNodes::Kept(nodes) => nodes.list(),
         NewNodes::Past(which) => return Err(refusal_by(*which)),
     };
-    match past_insertion(doc, p, index as usize, nodes) {
+    match past_insertion(doc, p, index as usize, nodes, count) {
         Some(why) => Err(why),
         None => Ok(Accepted::Insert {
             parent: p,
@@ -96,9 +87,8 @@ fn judge_insertion<'a>(
 
 /// Judges a removal.
 fn judge_removal<'a>(doc: &Doc, node: u64) -> Result<Accepted<'a>, EditRefused>
-    requires { IsSound doc.now }
     ensures judged { IsJudged doc.now (remove node) result }
-    ensures shaped { IfOk result (λ accepted. IsShaped (accepted_seen accepted)) }
+    ensures sound { IsSound doc.now }
 {
     let x = known(doc, node)?;
     match doc.parent(x) {
@@ -114,9 +104,8 @@ fn judge_move<'a>(
     parent: u64,
     index: u64,
 ) -> Result<Accepted<'a>, EditRefused>
-    requires { IsSound doc.now }
     ensures judged { IsJudged doc.now (move node parent index) result }
-    ensures shaped { IfOk result (λ accepted. IsShaped (accepted_seen accepted)) }
+    ensures sound { IsSound doc.now }
 {
     let x = known(doc, node)?;
     let p = known(doc, parent)?;
@@ -132,6 +121,7 @@ fn judge_move<'a>(
             x,
             parent: p,
             index: index as usize,
+            still: is_there(doc, x, from, p, index as usize),
         }),
     }
 }
@@ -143,9 +133,8 @@ fn judge_value<'a>(
     name: &'a str,
     value: &'a str,
 ) -> Result<Accepted<'a>, EditRefused>
-    requires { IsSound doc.now }
     ensures judged { IsJudged doc.now (set node (chars name.now) (chars value.now)) result }
-    ensures shaped { IfOk result (λ accepted. IsShaped (accepted_seen accepted)) }
+    ensures sound { IsSound doc.now }
 {
     let x = known(doc, node)?;
     match past_limit(doc, x, name, value) {
@@ -159,7 +148,10 @@ fn known(doc: &Doc, number: u64) -> Result<u32, EditRefused>
     ensures known { IfOk result (λ x. (x ≡ number) × IsElement doc.now.elements number) }
     ensures unknown { IfErr result (λ why. (why ≡ refusal_answered (unknown_node number))
         × (is_element doc.now.elements number ≡ false)) }
+    ensures sound { IsSound doc.now }
 {
+    // The order is not asked: the call tells that the document is sound.
+    let _order = doc.in_tree_order();
     if number > doc.last() as u64 {
         return Err(EditRefused::UnknownNode(number));
     }
@@ -183,13 +175,19 @@ fn refusal_by(which: NodeLimit) -> EditRefused
 
 /// The limit that an insertion would pass first, if it would pass one: of each node by itself, then of elements,
 /// numbers and depth.
-fn past_insertion(doc: &Doc, parent: u32, index: usize, nodes: &NodeList) -> Option<EditRefused>
+fn past_insertion(
+    doc: &Doc,
+    parent: u32,
+    index: usize,
+    nodes: &NodeList,
+    count: usize,
+) -> Option<EditRefused>
     requires sound { IsSound doc.now }
     requires there { IsElement doc.now.elements parent }
-    ensures past { result ≡ option_map refusal_answered (limit_past doc.now (insert parent index nodes.now)) }
-    ensures shaped { IsNodeList nodes.now }
+    requires shaped { IsNodeList nodes.now }
+    requires count { count ≡ length nodes.now }
+    ensures { result ≡ option_map refusal_answered (limit_past doc.now (insert parent index nodes.now)) }
 {
-    let count = nodes.len();
     if let Some(which) = past_by_itself(nodes) {
         return Some(refusal_by(which));
     }
@@ -230,6 +228,21 @@ fn count_without(doc: &Doc, x: u32, from: u32, parent: u32) -> usize
 {
     let count = doc.children(parent).len();
     if from == parent { count - 1 } else { count }
+}
+
+/// Whether `x`, a child of `from`, is where a move takes it.
+fn is_there(doc: &Doc, x: u32, from: u32, parent: u32, index: usize) -> bool
+    requires sound { IsSound doc.now }
+    requires there { IsElement doc.now.elements parent }
+    requires hung { parent_of doc.now.elements x ≡ Some from }
+    requires apart { is_below doc.now.elements x parent ≡ false }
+    requires index { index ≤ length (children (without doc.now.elements x) parent) }
+    ensures { result ≡ is_still doc.now.elements (moved doc.now x parent index).elements x }
+{
+    if from != parent {
+        return false;
+    }
+    doc.place(x) as usize == index
 }
 
 /// The limit of depth, if `x` or what is below it would pass it as a child of `parent`.

@@ -1,64 +1,51 @@
 //! What is touched where a value changes.
 
-ghost use Rattle.std.specs.Prelude.{◌≡◌, ◌++◌, ◌∷◌, [], IfOk, OnOk, filter, map, not, option_map};
+ghost use Rattle.std.specs.Prelude.{◌≡◌, ◌++◌, ◌∷◌, [], IfOk, OnOk, codes, filter, map, not, option_map};
 ghost use Rattle.std.specs.Str.{chars};
 ghost use Rattle.base_model.specs.Text.{is_empty_text};
+ghost use Rattle.scene_model.specs.Lookups.{IsElement, attribute_of};
 ghost use Rattle.stylo_base.specs.NameList.{is_among};
 ghost use Rattle.stylo_base.specs.StateView.{state_seen};
 ghost use Rattle.edit_model.specs.Touched.{class, id, same_optional};
 ghost use Rattle.edit_model.specs.TouchedPairs.{classes_between, ids_among, state_touches as model_state_touches, value_touches as model_value_touches};
 ghost use Rattle.dom_edits.specs.TouchView.{touch_seen};
-ghost use Rattle.dom_edits.specs.NameTouches.{name_touches};
 ghost use Rattle.dom_edits.specs.WordSets.{IsWordSet, texts_of};
 
 use crate::touch::Touch;
 use crate::touch_name::TouchName;
 use crate::word::is_same_text;
 use crate::word_set::WordSet;
+use dom_tree::Doc;
 use std::alloc::Global;
 use stylo_base::{NoMemory, State};
 
 /// So many touches there is room for at once: the attribute, and a few classes before and after.
 const ROOM: usize = 8;
 
-/// What is touched where an attribute of this name, which had the value `before`, has the value `now`.
-/// None: it is not there.
+/// What is touched where the attribute of this name of an element gets the value `now`. None: it is taken away.
 pub(crate) fn value_touches(
     alloc: Global,
+    doc: &Doc,
+    x: u32,
     name: &str,
-    before: Option<&str>,
     now: Option<&str>,
 ) -> Result<Vec<Touch>, NoMemory>
+    requires { IsElement doc.now.elements x }
     ensures { IfOk result (λ touches. map touch_seen touches.items ≡ model_value_touches (chars name.now)
-        (option_map (λ text. chars text.now) before.entry) (option_map (λ text. chars text.now) now.entry)) }
+        (attribute_of doc.now.elements x (chars name.now)) (option_map (λ text. chars text.now) now.entry)) }
 {
+    let before = doc.attribute(x, name);
     if is_same_value(before, now) {
         return Ok(Vec::new(alloc));
     }
     let mut touches = Vec::with_capacity(alloc, ROOM)?;
     touches.push(Touch::Attribute(TouchName::of(alloc, name)?))?;
-    push_names(alloc, name, before, now, &mut touches)?;
-    Ok(touches)
-}
-
-/// Appends the ids or the classes that a change of the attribute of this name touches.
-fn push_names(
-    alloc: Global,
-    name: &str,
-    before: Option<&str>,
-    now: Option<&str>,
-    touches: &mut Vec<Touch>,
-) -> Result<(), NoMemory>
-    ensures { OnOk result (map touch_seen touches.new.items ≡ map touch_seen touches.old.items
-        ++ name_touches (chars name.now) (option_map (λ text. chars text.now) before.entry)
-        (option_map (λ text. chars text.now) now.entry)) }
-{
     if name == "id" {
-        push_ids(alloc, before, now, touches)?;
+        push_ids(alloc, before, now, &mut touches)?;
     } else if name == "class" {
-        push_classes(alloc, before, now, touches)?;
+        push_classes(alloc, doc, x, now, &mut touches)?;
     }
-    Ok(())
+    Ok(touches)
 }
 
 /// What is touched where a state that was `before` is `now`.
@@ -121,18 +108,21 @@ fn push_id(alloc: Global, value: &str, touches: &mut Vec<Touch>) -> Result<(), N
     Ok(())
 }
 
-/// Appends the classes that are in just one of two values.
+/// Appends the classes that an element has, or has once `now` is its value of `class`, but not both.
 fn push_classes(
     alloc: Global,
-    before: Option<&str>,
+    doc: &Doc,
+    x: u32,
     now: Option<&str>,
     touches: &mut Vec<Touch>,
 ) -> Result<(), NoMemory>
+    requires { IsElement doc.now.elements x }
     ensures { OnOk result (map touch_seen touches.new.items ≡ map touch_seen touches.old.items
-        ++ map class (classes_between (option_map (λ text. chars text.now) before.entry)
+        ++ map class (classes_between (attribute_of doc.now.elements x (codes "class"))
         (option_map (λ text. chars text.now) now.entry))) }
 {
-    let before = WordSet::of(alloc, before)?;
+    let names = doc.names(x);
+    let before = WordSet::of_classes(alloc, &names)?;
     let now = WordSet::of(alloc, now)?;
     push_missing(alloc, &before, &now, touches)?;
     push_missing(alloc, &now, &before, touches)?;

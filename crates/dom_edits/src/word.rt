@@ -21,10 +21,16 @@ impl<'a> Word<'a> {
     pub fn of(text: &'a str) -> Word<'a>
         ensures { result.text ≡ text.entry }
     {
-        Word {
-            text,
-            key: key_of_text(text),
-        }
+        Word::keyed(text, key_of_text(text))
+    }
+
+    /// The word of a text that has this key.
+    #[inline]
+    pub fn keyed(text: &'a str, key: u64) -> Word<'a>
+        requires { key ≡ key_of (encode_utf8_all (chars text.now)) }
+        ensures { result.text ≡ text.entry }
+    {
+        Word { text, key }
     }
 
     /// Whether two are the same. Most that differ are told apart by their keys.

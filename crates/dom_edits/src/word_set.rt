@@ -1,14 +1,16 @@
 //! The words of a value, each once.
 
-ghost use Rattle.std.specs.Prelude.{◌≡◌, [], IfOk, OnOk, map, option_map};
+ghost use Rattle.std.specs.Prelude.{◌≡◌, ◌<◌, [], IfOk, IfSome, OnOk, length, map, option_map, slice_get};
 ghost use Rattle.std.specs.Str.{chars};
 ghost use Rattle.stylo_base.specs.NameList.{interned, is_among};
 ghost use Rattle.scene_model.specs.Words.{words};
 ghost use Rattle.dom_tree.specs.Classes.{distinct_from};
 ghost use Rattle.dom_tree.specs.Labels.{class_words};
+ghost use Rattle.dom_edits.specs.ClassNames.{class_text, class_texts};
 ghost use Rattle.dom_edits.specs.WordSets.{IsWordSet, texts_of};
 
 use crate::word::Word;
+use dom_tree::{ElementNames, NameKind};
 use smallvec::SmallVec;
 use std::alloc::Global;
 use stylo_base::{Names, NoMemory};
@@ -39,6 +41,43 @@ impl<'a> WordSet<'a> {
             set.add_words(alloc, value)?;
         }
         Ok(set)
+    }
+
+    /// The classes among the names of an element, of which none is cut or hashed again.
+    pub fn of_classes(alloc: Global, names: &'a ElementNames<'_>) -> Result<WordSet<'a>, NoMemory>
+        ensures words { IfOk result (λ set. texts_of set ≡ distinct_from [] (class_texts names.now)) }
+        ensures set { IfOk result (λ set. IsWordSet set) }
+    {
+        let mut set = WordSet {
+            words: SmallVec::new(alloc),
+            index: None,
+        };
+        for index in 0..names.len() {
+            set.add_class(alloc, names, index)?;
+        }
+        Ok(set)
+    }
+
+    /// Adds one of the names of an element, if it is that of a class.
+    fn add_class(
+        &mut self,
+        alloc: Global,
+        names: &'a ElementNames<'_>,
+        index: usize,
+    ) -> Result<(), NoMemory>
+        requires set { IsWordSet self.old }
+        requires within { index < length names.now }
+        ensures words { OnOk result (IfSome (slice_get names.now index) (λ name.
+            texts_of self.new ≡ distinct_from (texts_of self.old) (class_text name))) }
+        ensures set { OnOk result (IsWordSet self.new) }
+    {
+        match names.kind(index) {
+            NameKind::Class => {
+                let word = Word::keyed(names.text(index), names.key(index));
+                self.add(alloc, word)
+            }
+            NameKind::Tag | NameKind::Id => Ok(()),
+        }
     }
 
     /// Adds the words of a value.
