@@ -1,4 +1,4 @@
--- The classes among the names of an element are the words of its value, each once.
+-- For `of_classes`: the classes among the names of an element are the words of its value, each once.
 use Rattle.std.proofs.Common.{◌≡◌, ℕ, ◌+◌, ◌<◌, Bool, true, false, cond, List, [], ◌∷◌, ◌++◌, map, drop, length, codes, Option, Some, None, IfSome, slice_get, refl, sym, ap, subst, ◌∙◌}
 use Rattle.scene_model.specs.Element.{Element, Characters}
 use Rattle.std.specs.Option.{option_and_then}
@@ -43,11 +43,14 @@ texts-with : (tag : Characters) (id : Option Characters) (classes : List Charact
 texts-with tag None classes = all-classes classes
 texts-with tag (Some text) classes = all-classes classes
 
-pub classes-are : (doc : List Element) (x : ℕ) (names : List ElementName) (found : List Characters) → names ≡ names_of doc x → found ≡ distinct_from [] (class_texts names) → found ≡ class_words (attribute_of doc x (codes "class"))
+pub classes-are : (doc : List Element) (x : ℕ) (names : List ElementName) (found : List Characters) → names ≡ names_of doc x
+    → found ≡ distinct_from [] (class_texts names) → found ≡ class_words (attribute_of doc x (codes "class"))
 classes-are doc x names found is told =
     told
     ∙ (ap (λ (l : List ElementName). distinct_from [] (class_texts l)) is
-    ∙ (ap (distinct_from []) (texts-with (tag_of doc x) (option_and_then id_text (attribute_of doc x (codes "id"))) (class_words (attribute_of doc x (codes "class")))) ∙ words-kept (attribute_of doc x (codes "class"))))
+    ∙ (ap (distinct_from []) (texts-with (tag_of doc x) (option_and_then id_text (attribute_of doc x (codes "id")))
+        (class_words (attribute_of doc x (codes "class"))))
+    ∙ words-kept (attribute_of doc x (codes "class"))))
 
 -- one name more
 
@@ -55,7 +58,9 @@ distinct-append : (found xs ys : List Characters) → distinct_from found (xs ++
 distinct-append found [] ys = refl
 distinct-append found (x ∷ xs) ys = distinct-append (interned found x) xs ys
 
-pub class-added : (found new : List Characters) (names : List ElementName) (i : ℕ) → i < length names → IfSome (slice_get names i) (λ name. new ≡ distinct_from found (class_text name)) → distinct_from new (class_texts (drop (i + 1) names)) ≡ distinct_from found (class_texts (drop i names))
+pub class-added : (found new : List Characters) (names : List ElementName) (i : ℕ) → i < length names
+    → IfSome (slice_get names i) (λ name. new ≡ distinct_from found (class_text name))
+    → distinct_from new (class_texts (drop (i + 1) names)) ≡ distinct_from found (class_texts (drop i names))
 class-added found new names i h told =
     let (name, at, is) = drop_at names i h in
     let added : new ≡ distinct_from found (class_text name) = subst (λ (o : Option ElementName). IfSome o (λ name. new ≡ distinct_from found (class_text name))) at told in
