@@ -150,8 +150,6 @@ fn known(doc: &Doc, number: u64) -> Result<u32, EditRefused>
         × (is_element doc.now.elements number ≡ false)) }
     ensures sound { IsSound doc.now }
 {
-    // The order is not asked: the call tells that the document is sound.
-    let _order = doc.in_tree_order();
     if number > doc.last() as u64 {
         return Err(EditRefused::UnknownNode(number));
     }

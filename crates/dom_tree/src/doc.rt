@@ -131,6 +131,7 @@ impl Doc {
         ensures last { result ≡ self.now.last }
         ensures few { result ≤ number_limit }
         ensures numbered { (x : ℕ) → IsElement self.now.elements x → (0 < x) × (x ≤ result) }
+        ensures sound { IsSound self.now }
     {
         self.columns.len()
     }
