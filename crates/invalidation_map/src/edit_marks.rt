@@ -2,9 +2,12 @@
 
 ghost use Rattle.std.specs.Prelude.{◌≡◌, ◌+◌, ℕ, IfOk, nat_eq};
 ghost use Rattle.std.specs.List.{IsDistinct, flat_map};
+ghost use Rattle.scene_model.specs.Document.{Document};
 ghost use Rattle.scene_model.specs.Numbers.{is_in};
+ghost use Rattle.change_model.specs.Sound.{IsSound};
 ghost use Rattle.selector_types.specs.View.{selectors_of};
 ghost use Rattle.edit_model.specs.Apply.{applied};
+ghost use Rattle.edit_model.specs.Edit.{IsShaped};
 ghost use Rattle.edit_model.specs.Marked.{is_marked};
 ghost use Rattle.edit_model.specs.Refusal.{accepted};
 ghost use Rattle.edit_model.specs.TouchedBy.{AreTouched};
@@ -17,6 +20,7 @@ use dom_tree::Doc;
 use selector_types::Selector;
 use std::alloc::Global;
 use stylo_base::NoMemory;
+use stylo_base::limits::NUMBER_LIMIT;
 
 /// The elements that an edit marks, each once: those whose matching it may have changed, and those whose
 /// own style it changed. It makes all that marking needs, which a caller with many edits makes once.
@@ -35,24 +39,26 @@ pub fn marks(
         (flat_map (λ list. selectors_of list.items) selectors.now) x) }
     ensures once { IfOk result (λ v. IsDistinct nat_eq v.items) }
 {
-    // Neither is asked: the calls tell that the document before is sound, and that new nodes are a list.
-    let _order = before.in_tree_order();
-    let _count = edit.new_count();
     let dependencies = Dependencies::of(alloc, selectors)?;
-    let last = last_of(after)?;
+    let last = last_after(before, edit)?;
     let mut marker = Marker::new(alloc, last)?;
     let mut set = ElementSet::new(alloc, last)?;
     marker.mark(after, touched, &dependencies, &mut set);
     Ok(Vec::from_slice(alloc, set.as_slice())?)
 }
 
-/// A number up to which the sets have room for each element. Where it doesn't fit, no memory holds them.
-fn last_of(doc: &Doc) -> Result<u32, NoMemory>
-    ensures { IfOk result (λ last. HasRoom doc.now.elements (last + 1)) }
+/// The last number that there is after an edit that nothing refuses. Where there would be more than the limit of numbers,
+/// something does, and no memory is asked for.
+fn last_after(before: &Doc, edit: &DocEdit) -> Result<u32, NoMemory>
+    ensures room { IfOk result (λ last. (after : Document) → applied before.now (doc_edit_seen edit.now) ≡ accepted after
+        → HasRoom after.elements (last + 1)) }
+    ensures sound { IsSound before.now }
+    ensures shaped { IsShaped (doc_edit_seen edit.now) }
 {
-    let last = doc.last();
-    if last > u32::MAX as usize {
+    let last = before.last();
+    let more = edit.new_count();
+    if more > NUMBER_LIMIT - last {
         return Err(NoMemory);
     }
-    Ok(last as u32)
+    Ok((last + more) as u32)
 }

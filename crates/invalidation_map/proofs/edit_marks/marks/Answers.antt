@@ -12,4 +12,4 @@ mark-requires-clause-touched c = touched_at _ _ _ c.requires.touched
 
 pub returns-clause-marked : goal.returns-clause-marked
 returns-clause-marked c =
-    marks_are c.args.before.now c.args.after.now c.args.edit.now c.args.touched.now (rows_in c.in_ok-dependencies.dependencies) (flat_map (λ list. selectors_of list.items) c.args.selectors.now) c.in_ok-set.set c.mark.new.marks c.as_slice.result.now c.in_ok-from_slice.field-0.items c.in_tree_order-order.ensures.sound c.new_count-count.ensures.shaped c.requires.edit c.requires.touched (ap (λ (m : Members). m.items) c.in_ok-set.ensures) c.in_ok-dependencies.ensures c.mark.ensures.marked c.as_slice.ensures.items c.in_ok-from_slice.ensures.items
+    marks_are c.args.before.now c.args.after.now c.args.edit.now c.args.touched.now (rows_in c.in_ok-dependencies.dependencies) (flat_map (λ list. selectors_of list.items) c.args.selectors.now) c.in_ok-set.set c.mark.new.marks c.as_slice.result.now c.in_ok-from_slice.field-0.items c.in_ok-last.ensures.sound c.in_ok-last.ensures.shaped c.requires.edit c.requires.touched (ap (λ (m : Members). m.items) c.in_ok-set.ensures) c.in_ok-dependencies.ensures c.mark.ensures.marked c.as_slice.ensures.items c.in_ok-from_slice.ensures.items
