@@ -33,9 +33,8 @@ impl Beginning {
         ensures gone { IfOk result (λ begun. begun.gone.items ≡ []) }
         ensures cache { IfOk result (λ begun. KnowsNothing begun.cache) }
     {
-        // The order is not asked: the call tells that the document is sound.
-        let _order = doc.in_tree_order();
-        let cache = StyleCache::start(alloc, doc.len())?;
+        let order = doc.in_tree_order();
+        let cache = StyleCache::start(alloc, order.len())?;
         let marks = ElementSet::new(alloc, 0)?;
         Ok(Beginning {
             marks,
