@@ -46,8 +46,8 @@ pub fn apply(alloc: Global, doc: &mut Doc, edit: &DocEdit) -> Result<Touched, Ed
 }
 
 /// Makes an edit that was planned, in a document in which nothing refuses it. The answer is what the edit touches: each
-/// pair of what is touched and an element of the document once. The only error is that memory ran out; then the document
-/// is as it was.
+/// pair of what is touched and an element of the document once. The only error is that memory ran out; then the
+/// document is as it was.
 pub fn commit(alloc: Global, doc: &mut Doc, planned: Planned<'_>) -> Result<Touched, NoMemory>
     requires { Fits doc.old planned }
     ensures ok { OnOk result (applied doc.old (planned_seen planned.entry) ≡ accepted doc.new) }

@@ -47,11 +47,11 @@ pub fn marks(
     Ok(Vec::from_slice(alloc, set.as_slice())?)
 }
 
-/// The last number that there is after an edit that nothing refuses. Where there would be more than the limit of numbers,
-/// something does, and no memory is asked for.
+/// The last number that there is after an edit that nothing refuses. Where there would be more than the limit of
+/// numbers, something does, and no memory is asked for.
 fn last_after(before: &Doc, edit: &DocEdit) -> Result<u32, NoMemory>
-    ensures room { IfOk result (λ last. (after : Document) → applied before.now (doc_edit_seen edit.now) ≡ accepted after
-        → HasRoom after.elements (last + 1)) }
+    ensures room { IfOk result (λ last. (after : Document)
+        → applied before.now (doc_edit_seen edit.now) ≡ accepted after → HasRoom after.elements (last + 1)) }
     ensures sound { IsSound before.now }
     ensures shaped { IsShaped (doc_edit_seen edit.now) }
 {
