@@ -58,6 +58,12 @@ static const char REMOVE_SHEET[] = "{\"op\":\"remove_sheet\",\"sheet\":1}";
 static const char *const EDITS[] = {INSERT, MOVE, REMOVE, SET, UNSET, STATE, ADD, REPLACE, ENABLE, REMOVE_SHEET};
 #define EDIT_COUNT (sizeof EDITS / sizeof EDITS[0])
 
+/* What comes before an edit is tried: nothing, an edit of the document, by which what marks elements is made, or that and
+ * then one of the sheets, with which it goes. */
+enum came { NOTHING, AN_EDIT, A_SHEET_EDIT, CAME_COUNT };
+static int came = NOTHING;
+static const char EARLIER[] = "{\"op\":\"state\",\"node\":2,\"state\":\"focus\",\"on\":true}";
+
 /* What a call told. */
 static bokdrez_why why;
 static bokdrez_counts counts;
@@ -99,6 +105,12 @@ static void make_ready(int call, bokdrez_session *session) {
     return;
   }
   restyle_right(session);
+  if (came != NOTHING) {
+    edit_right(session, EARLIER);
+  }
+  if (came == A_SHEET_EDIT) {
+    edit_right(session, ADD);
+  }
   if (call == RESTYLE) {
     edit_right(session, INSERT);
     edit_right(session, SET);
@@ -210,16 +222,26 @@ static void open_into_none(void) {
   }
 }
 
+/* Makes a call with each of its allocations refused in turn. */
+static void try_each(int call) {
+  struct due due = due_of(call);
+  long number = 0;
+  while (is_tried(call, number, &due)) {
+    number++;
+  }
+  free(due.before);
+  free(due.without);
+  free(due.with);
+}
+
 int main(void) {
-  for (int call = OPEN; call < EDITED + (int)EDIT_COUNT; call++) {
-    struct due due = due_of(call);
-    long number = 0;
-    while (is_tried(call, number, &due)) {
-      number++;
+  for (int call = OPEN; call < EDITED; call++) {
+    try_each(call);
+  }
+  for (came = NOTHING; came < CAME_COUNT; came++) {
+    for (int edit = 0; edit < (int)EDIT_COUNT; edit++) {
+      try_each(EDITED + edit);
     }
-    free(due.before);
-    free(due.without);
-    free(due.with);
   }
   open_into_none();
   return ended();

@@ -1,6 +1,6 @@
 //! Which elements an edit marks.
 //!
-//! `dom_edits::apply` edits the document and answers what it touched; a name in a touch of at most seven bytes is kept
+//! `dom_edits::commit` edits the document and answers what it touched; a name in a touch of at most seven bytes is kept
 //! as a number, so it takes no memory. A `Dependencies` has a row for each dependency of the selectors, made once for
 //! the sheets, in buckets by the keys of what touches them, where the rows of a compound share its path and those of a
 //! selector its key; `Marker::mark` takes the rows of each touch, found in the bucket of its key, walks their paths

@@ -1,246 +1,202 @@
 -- Edits of a document: room for what they come to, what they make fresh, and what they take away.
-use Rattle.std.proofs.Common.{◌≡◌, ℕ, ◌+◌, ◌<◌, ◌≤◌, List, Bool, true, false, ◌||◌, ◌&&◌, nat_le, nat_lt, ◌==◌, Option, Some, None, option_map, refl, sym, ap, subst, ◌∙◌, arith}
-use Rattle.std.specs.Option.{option_or}
-use Rattle.std.proofs.lemmas.Bool.{eq-eqb, false≢true, le-leb, lt-leb, or_left}
+use Rattle.std.proofs.Common.{◌≡◌, ℕ, ◌+◌, ◌<◌, ◌≤◌, List, Bool, true, false, cond, not, ◌||◌, ◌&&◌, nat_le, nat_lt, ◌==◌, Option, Some, None, IfSome, refl, sym, ap, subst, ◌∙◌, arith}
+use Rattle.std.specs.Option.{option_map_or}
+use Rattle.std.proofs.lemmas.Bool.{false≢true, le-ltb}
 use Rattle.scene_model.specs.Document.{Document}
 use Rattle.scene_model.specs.Lookups.{is_element, IsElement}
-use Rattle.scene_model.specs.Nodes.{IsNodeList}
 use Rattle.scene_model.specs.Numbers.{is_in}
 use Rattle.scene_model.proofs.Found.{parent_of-element}
+use Rattle.change_model.specs.Fresh.{is_still}
 use Rattle.change_model.specs.Sound.{is_below, IsSound}
-use Rattle.change_model.proofs.Moved.{is_element-moved}
-use Rattle.edit_model.specs.Apply.{after, applied, limit_past, misplaced, nodes_past, refusal, unknown}
-use Rattle.edit_model.specs.Edit.{DocEdit as ModelEdit, insert, remove, move, set, unset, set_state, IsShaped}
+use Rattle.change_model.proofs.InPlace.{here, IsInPlace-here, is_element-map, IsInPlace-attribute, IsInPlace-no_attribute, IsInPlace-state}
+use Rattle.change_model.proofs.Moved.{is_below-moved, is_element-moved}
+use Rattle.edit_model.specs.Apply.{after, applied, is_fresh, refusal}
+use Rattle.edit_model.specs.Edit.{DocEdit, insert, remove, move, set, unset, set_state, IsShaped}
 use Rattle.edit_model.specs.Refusal.{Refusal, accepted, outcome_of}
-use Rattle.edit_model.specs.Touched.{Touch, is_touched, positional}
-use Rattle.edit_model.specs.TouchedBy.{AreTouched, is_listed}
-use Rattle.edit_model.proofs.Accepted.{none_parts, of_move, of_remove, sound-after}
-use Rattle.dom_edits.specs.EditView.{doc_edit_seen, refusal_answered, new_count, nodes_beyond, nodes_seen}
-use Rattle.dom_edits.specs.declared.edits.DocEdit.{DocEdit}
-use Rattle.dom_edits.specs.declared.edits.DocEdit.TheVariants.{Insert, Remove, Move, Set, Unset, State}
-use Rattle.dom_edits.specs.declared.edits.NewNodes.{NewNodes}
-use Rattle.dom_edits.specs.declared.edits.NewNodes.TheVariants.{Kept, Past}
-use Rattle.dom_edits.specs.declared.edits.NodeLimit.{NodeLimit}
-use Rattle.dom_edits.proofs.BeyondLemmas.{beyond_past}
-use Rattle.invalidation_map.specs.Marks.{IsGrown}
-use Rattle.invalidation_map.specs.Members.{Members}
+use Rattle.edit_model.proofs.Accepted.{of_move, of_remove, sound-after}
+use Rattle.dom_edits.specs.Plans.{changes_a_list, element_moved, element_taken}
 use Rattle.invalidation_map.specs.Steps.{HasRoom}
-use Rattle.style_session.specs.Edits.{AreFreshToo, AreGoneToo, HasRoomFor, IsRemoval, MakesFresh, MovesElement, TakesElement, is_in_place}
+use Rattle.invalidation_map.proofs.SetLemmas.{or_no}
+use Rattle.style_session.specs.Edits.{AreFreshToo, AreGoneToo}
 use Rattle.style_session.specs.declared.fresh.Fresh.{Fresh}
 use Rattle.style_session.proofs.EditedLemmas.{last_stays}
-use Rattle.style_session.proofs.SessionEdits.{IsInOne, fresh-too, gone-too, same-elements}
-use Rattle.style_session.proofs.TreeEdits.{below_there, fresh-inserted, fresh-moved, fresh-removed, gone-inserted, gone-moved, gone-removed, gone-same}
+use Rattle.style_session.proofs.TreeEdits.{gone-inserted, gone-moved, gone-removed, gone-same}
 
 -- an accepted edit is not refused, and the document is the one after it
-pub accepted_is : (d new : Document) (edit : ModelEdit) → applied d edit ≡ accepted new → (refusal d edit ≡ None) × (after d edit ≡ new)
+pub accepted_is : (d new : Document) (edit : DocEdit) → applied d edit ≡ accepted new → (refusal d edit ≡ None) × (after d edit ≡ new)
 accepted_is d new edit h = by (refusal d edit) refl h
   where
     by : (o : Option Refusal) → refusal d edit ≡ o → outcome_of o (after d edit) ≡ accepted new → (refusal d edit ≡ None) × (after d edit ≡ new)
     by None e k = (e, cc)
     by (Some why) e k = absurd (cc)
 
--- edits in place
+module _ (d : Document) (s : IsSound d) where
+  -- where no list of children changes each element stays, and none comes
+  same-elements : (edit : DocEdit) → refusal d edit ≡ None → changes_a_list d edit ≡ false → (x : ℕ) → is_element (after d edit).elements x ≡ is_element d.elements x
+  same-elements (insert p index nodes) h same x = absurd (false≢true (sym same))
+  same-elements (remove n) h same x = absurd (false≢true (sym same))
+  same-elements (move n p index) h same x = let (o, can) = of_move d s n p index h in is_element-moved can index x
+  same-elements (set y name text) h same x =
+      is_element-map (here y _) (IsInPlace-here y _ (IsInPlace-attribute name text)).number d.elements x
+  same-elements (unset y name) h same x =
+      is_element-map (here y _) (IsInPlace-here y _ (IsInPlace-no_attribute name)).number d.elements x
+  same-elements (set_state y state on) h same x =
+      is_element-map (here y _) (IsInPlace-here y _ (IsInPlace-state state on)).number d.elements x
 
-pub in_one_of : (edit : ModelEdit) → is_in_place edit ≡ true → IsInOne edit
-in_one_of (insert p index nodes) h = absurd (false≢true h)
-in_one_of (remove n) h = absurd (false≢true h)
-in_one_of (move n p index) h = absurd (false≢true h)
-in_one_of (set x name text) h = tt
-in_one_of (unset x name) h = tt
-in_one_of (set_state x state on) h = tt
+  module _ (edit : DocEdit) (w : IsShaped edit) (h : refusal d edit ≡ None) where
+    last-after : (x : ℕ) → IsElement (after d edit).elements x → x ≤ (after d edit).last
+    last-after x there = ((sound-after d s edit w h).given x there).1
 
-no_removal : (edit : ModelEdit) → is_in_place edit ≡ true → IsRemoval edit → ⊥
-no_removal (insert p index nodes) h is = is
-no_removal (remove n) h is = false≢true h
-no_removal (move n p index) h is = is
-no_removal (set x name text) h is = is
-no_removal (unset x name) h is = is
-no_removal (set_state x state on) h is = is
+    -- room up to the last number is room for each element, before and afterwards
 
-makes_none : (edit : ModelEdit) → is_in_place edit ≡ true → MakesFresh edit → ⊥
-makes_none (insert p index nodes) h is = false≢true h
-makes_none (remove n) h is = is
-makes_none (move n p index) h is = false≢true h
-makes_none (set x name text) h is = is
-makes_none (unset x name) h is = is
-makes_none (set_state x state on) h is = is
+    abbrev HasRoomIfChanged : ℕ → Type 0
+    HasRoomIfChanged room = changes_a_list d edit ≡ true → (after d edit).last < room
 
-takes_none : (doc : Document) (edit : ModelEdit) → is_in_place edit ≡ true → TakesElement doc.elements edit
-takes_none doc (insert p index nodes) h = tt
-takes_none doc (remove n) h = absurd (false≢true h)
-takes_none doc (move n p index) h = tt
-takes_none doc (set x name text) h = tt
-takes_none doc (unset x name) h = tt
-takes_none doc (set_state x state on) h = tt
+    room-after : (room : ℕ) → HasRoom d.elements room → HasRoomIfChanged room → HasRoom (after d edit).elements room
+    room-after room has more x there = by (changes_a_list d edit) refl
+      where
+        by : (b : Bool) → changes_a_list d edit ≡ b → x < room
+        by true e = let enough = more e in omega (arith, enough, last-after x there)
+        by false e = has x (sym (same-elements edit h e x) ∙ there)
 
-room-in_place : (d new : Document) (edit : ModelEdit) → is_in_place edit ≡ true → applied d edit ≡ accepted new → (room : ℕ) → HasRoom d.elements room → HasRoom new.elements room
-room-in_place d new edit one h room has x there = has x (sym (same-elements d new edit (in_one_of edit one) h x) ∙ there)
+    room-before : (room : ℕ) → (after d edit).last < room → HasRoom d.elements room
+    room-before room enough x there = let given = (s.given x there).1 in omega (arith, given, last_stays d edit, enough)
 
-pub room_for-in_place : (d : Document) (edit : ModelEdit) (marker marks fresh gone : ℕ) → is_in_place edit ≡ true → HasRoom d.elements marker → HasRoom d.elements marks → HasRoomFor d edit marker marks fresh gone
-room_for-in_place d edit marker marks fresh gone one has_marker has_marks = record {
-  marker = λ new h. room-in_place d new edit one h marker has_marker;
-  marks = λ new h. room-in_place d new edit one h marks has_marks;
-  fresh = λ new h makes. absurd (makes_none edit one makes);
-  gone = λ is. absurd (no_removal edit one is);
-  there = takes_none d edit one;
-}
+  pub room-taken : (edit : DocEdit) → IsShaped edit → refusal d edit ≡ None → (room : ℕ)
+      → (changes_a_list d edit ≡ true → (after d edit).last < room)
+      → IfSome (element_taken edit) (λ x. HasRoom d.elements room)
+  room-taken (insert p index nodes) w h room more = tt
+  room-taken (remove n) w h room more = room-before (remove n) w h room (more refl)
+  room-taken (move n p index) w h room more = tt
+  room-taken (set y name text) w h room more = tt
+  room-taken (unset y name) w h room more = tt
+  room-taken (set_state y state on) w h room more = tt
 
--- no refusal is answered where there is none
-pub none_refused : (o : Option Refusal) → None ≡ option_map refusal_answered o → o ≡ None
-none_refused None h = refl
-none_refused (Some why) h = cc
+  pub room-given : (edit : DocEdit) (room : ℕ) → (changes_a_list d edit ≡ true → (after d edit).last < room) → d.last < (after d edit).last → (after d edit).last < room
+  room-given (insert p index nodes) room more above = more refl
+  room-given (remove n) room more above = more refl
+  room-given (move n p index) room more above = absurd (omega (arith, above))
+  room-given (set y name text) room more above = absurd (omega (arith, above))
+  room-given (unset y name) room more above = absurd (omega (arith, above))
+  room-given (set_state y state on) room more above = absurd (omega (arith, above))
 
--- what an edit takes out is there, and what it has moved
+  -- what a move makes of an element, unless it is there already
+  module _ (n p index : ℕ) (h : refusal d (move n p index) ≡ None) where
+    abbrev later : Document
+    later = after d (move n p index)
 
-taken-there : (d : Document) (edit : ModelEdit) → IsSound d → refusal d edit ≡ None → TakesElement d.elements edit
-taken-there d (insert p index nodes) s h = tt
-taken-there d (remove n) s h = let (o, can) = of_remove d s n h in parent_of-element d.elements n o can.parent
-taken-there d (move n p index) s h = tt
-taken-there d (set x name text) s h = tt
-taken-there d (unset x name) s h = tt
-taken-there d (set_state x state on) s h = tt
+    abbrev still : Bool
+    still = is_still d.elements later.elements n
 
-pub moved-there : (d new : Document) (edit : ModelEdit) → IsSound d → applied d edit ≡ accepted new → MovesElement new.elements edit
-moved-there d new (insert p index nodes) s h = tt
-moved-there d new (remove n) s h = tt
-moved-there d new (move n p index) s h =
-    let (none, same) = accepted_is d new (move n p index) h in
-    let (o, can) = of_move d s n p index none in
-    subst (λ (e : Document). IsElement e.elements n) same (is_element-moved can index n ∙ parent_of-element d.elements n o can.parent)
-moved-there d new (set x name text) s h = tt
-moved-there d new (unset x name) s h = tt
-moved-there d new (set_state x state on) s h = tt
+    top-there : IsElement later.elements n
+    top-there = let (o, can) = of_move d s n p index h in is_element-moved can index n ∙ parent_of-element d.elements n o can.parent
 
--- the last number afterwards
+    if-moved : (P : ℕ → Type 0) (b : Bool) → (b ≡ false → P n) → IfSome (cond b None (Some n)) P
+    if-moved P true holds = tt
+    if-moved P false holds = holds refl
 
-beyond_refused : (d : Document) (p index : ℕ) (which : NodeLimit) → refusal d (insert p index (nodes_beyond which)) ≡ None → ⊥
-beyond_refused d p index which h =
-    let edit = insert p index (nodes_beyond which) in
-    let later = none_parts (unknown d edit) (option_or (misplaced d edit) (limit_past d edit)) h in
-    let limits = none_parts (misplaced d edit) (limit_past d edit) later.1 in
-    let first = none_parts (nodes_past (nodes_beyond which)) _ limits.1 in
-    some_none (sym (beyond_past which) ∙ first.0)
-  where
-    some_none : {X : Type 0} {x : X} → Some x ≡ None → ⊥
-    some_none e = cc
+    below-moved : (b : Bool) (x : ℕ) → option_map_or (λ top. is_below later.elements top x) (cond b None (Some n)) false ≡ (not b && is_below d.elements n x)
+    below-moved true x = refl
+    below-moved false x = let (o, can) = of_move d s n p index h in is_below-moved can index x
 
-pub last-after : (d : Document) (edit : DocEdit) → refusal d (doc_edit_seen edit) ≡ None → d.last + new_count edit ≡ (after d (doc_edit_seen edit)).last
-last-after d (Insert p index (Kept nodes)) h = refl
-last-after d (Insert p index (Past which)) h = absurd (beyond_refused d p index which h)
-last-after d (Remove n) h = omega arith
-last-after d (Move n p index) h = omega arith
-last-after d (Set n name value) h = omega arith
-last-after d (Unset n name) h = omega arith
-last-after d (State n state on) h = omega arith
+  pub moved-there : (edit : DocEdit) → refusal d edit ≡ None → IfSome (element_moved d edit) (IsElement (after d edit).elements)
+  moved-there (insert p index nodes) h = tt
+  moved-there (remove n) h = tt
+  moved-there (move n p index) h =
+      if-moved n p index h (IsElement (later n p index h).elements) (still n p index h) (λ e. top-there n p index h)
+  moved-there (set y name text) h = tt
+  moved-there (unset y name) h = tt
+  moved-there (set_state y state on) h = tt
 
--- room for an edit that changes lists of children
+  pub room-moved : (edit : DocEdit) → IsShaped edit → refusal d edit ≡ None → (room : ℕ)
+      → (changes_a_list d edit ≡ true → (after d edit).last < room)
+      → IfSome (element_moved d edit) (λ x. HasRoom (after d edit).elements room)
+  room-moved (insert p index nodes) w h room more = tt
+  room-moved (remove n) w h room more = tt
+  room-moved (move n p index) w h room more =
+      if-moved n p index h (λ x. HasRoom (later n p index h).elements room) (still n p index h)
+      (λ e x there. let enough = more (ap not e) in omega (arith, enough, last-after (move n p index) w h x there))
+  room-moved (set y name text) w h room more = tt
+  room-moved (unset y name) w h room more = tt
+  room-moved (set_state y state on) w h room more = tt
 
-room-after : (d new : Document) (edit : ModelEdit) → IsSound d → IsShaped edit → applied d edit ≡ accepted new → (room : ℕ) → (after d edit).last < room → HasRoom new.elements room
-room-after d new edit s w h room has x there =
+  -- what an edit makes fresh: the numbers that it gives, and what is below an element that it moves
+
+  abbrev pub freshens : DocEdit → ℕ → Bool
+  freshens edit x =
+      nat_lt d.last x || option_map_or (λ top. is_below (after d edit).elements top x) (element_moved d edit) false
+
+  none-given : (edit : DocEdit) → IsShaped edit → refusal d edit ≡ None → (after d edit).last ≡ d.last → (x : ℕ) → IsElement (after d edit).elements x → nat_lt d.last x ≡ false
+  none-given edit w h same x there = le-ltb d.last x (let near = last-after edit w h x there in omega (arith, near, same))
+
+  freshens-is : (edit : DocEdit) → IsShaped edit → refusal d edit ≡ None → (x : ℕ) → IsElement (after d edit).elements x → freshens edit x ≡ is_fresh d edit x
+  freshens-is (insert p index nodes) w h x there = sym (or_no (nat_lt d.last x))
+  freshens-is (remove n) w h x there = sym (or_no (nat_lt d.last x)) ∙ none-given (remove n) w h refl x there
+  freshens-is (move n p index) w h x there =
+      ap (λ b. b || option_map_or (λ top. is_below (later n p index h).elements top x) (element_moved d (move n p index)) false) (none-given (move n p index) w h refl x there)
+      ∙ below-moved n p index h (still n p index h) x
+  freshens-is (set y name text) w h x there = sym (or_no (nat_lt d.last x)) ∙ none-given (set y name text) w h refl x there
+  freshens-is (unset y name) w h x there = sym (or_no (nat_lt d.last x)) ∙ none-given (unset y name) w h refl x there
+  freshens-is (set_state y state on) w h x there =
+      sym (or_no (nat_lt d.last x)) ∙ none-given (set_state y state on) w h refl x there
+
+  pub fresh-after : (edit : DocEdit) → IsShaped edit → refusal d edit ≡ None → (fresh now : Fresh)
+      → now.all ≡ fresh.all
+      → ((x : ℕ) → x ≤ (after d edit).last → is_in x now.set.items ≡ (is_in x fresh.set.items || freshens edit x))
+      → AreFreshToo d (after d edit) edit fresh now
+  fresh-after edit w h fresh now all grown = record {
+    all = all;
+    each = λ x there. grown x (last-after edit w h x there) ∙ ap (λ b. is_in x fresh.set.items || b) (freshens-is edit w h x there);
+  }
+
+  -- the numbers of what is taken out
+
+  gone-stay : (edit : DocEdit) → refusal d edit ≡ None → changes_a_list d edit ≡ false → (gone : List ℕ) → AreGoneToo d (after d edit) gone gone
+  gone-stay edit h same gone = gone-same d (after d edit) gone (λ x there. same-elements edit h same x ∙ there)
+
+  pub gone-kept : (edit : DocEdit) → IsShaped edit → refusal d edit ≡ None → element_taken edit ≡ None → (gone : List ℕ) → AreGoneToo d (after d edit) gone gone
+  gone-kept (insert p index nodes) w h none gone = gone-inserted d s p index nodes w h gone
+  gone-kept (remove n) w h none gone = absurd (cc)
+  gone-kept (move n p index) w h none gone = gone-moved d s n p index h gone
+  gone-kept (set y name text) w h none gone = gone-stay (set y name text) h refl gone
+  gone-kept (unset y name) w h none gone = gone-stay (unset y name) h refl gone
+  gone-kept (set_state y state on) w h none gone = gone-stay (set_state y state on) h refl gone
+
+  pub gone-taken : (edit : DocEdit) → refusal d edit ≡ None → (n : ℕ) → element_taken edit ≡ Some n
+      → (gone now : List ℕ) → ((x : ℕ) → is_in x now ≡ (is_in x gone || is_below d.elements n x))
+      → AreGoneToo d (after d edit) gone now
+  gone-taken (insert p index nodes) h n is gone now grown = absurd (cc)
+  gone-taken (remove y) h n is gone now grown =
+      gone-removed d s y h gone now (λ x. grown x ∙ ap (λ z. is_in x gone || is_below d.elements z x) (same n y is))
+    where
+      same : (n y : ℕ) → Some y ≡ Some n → n ≡ y
+      same n y e = cc
+  gone-taken (move y p index) h n is gone now grown = absurd (cc)
+  gone-taken (set y name text) h n is gone now grown = absurd (cc)
+  gone-taken (unset y name) h n is gone now grown = absurd (cc)
+  gone-taken (set_state y state on) h n is gone now grown = absurd (cc)
+
+  pub taken-there : (edit : DocEdit) → refusal d edit ≡ None → (n : ℕ) → element_taken edit ≡ Some n → IsElement d.elements n
+  taken-there (insert p index nodes) h n is = absurd (cc)
+  taken-there (remove y) h n is =
+      let (o, can) = of_remove d s y h in
+      subst (IsElement d.elements) (same n y is) (parent_of-element d.elements y o can.parent)
+    where
+      same : (n y : ℕ) → Some y ≡ Some n → y ≡ n
+      same n y e = cc
+  taken-there (move y p index) h n is = absurd (cc)
+  taken-there (set y name text) h n is = absurd (cc)
+  taken-there (unset y name) h n is = absurd (cc)
+  taken-there (set_state y state on) h n is = absurd (cc)
+
+-- room for each element there was, where it has grown as the edit asks for it
+pub room-new : (d new : Document) → IsSound d → (edit : DocEdit) → IsShaped edit → applied d edit ≡ accepted new
+    → (old room : ℕ) → HasRoom d.elements old → old ≤ room
+    → (changes_a_list d edit ≡ true → (after d edit).last < room) → HasRoom new.elements room
+room-new d new s edit w h old room has wider more =
     let (none, same) = accepted_is d new edit h in
-    let given : x ≤ (after d edit).last = ((sound-after d s edit w none).given x (subst (λ (e : Document). IsElement e.elements x) (sym same) there)).1 in
-    omega (arith, given, has)
-
-pub room_for-after : (d : Document) (edit : ModelEdit) (marker marks fresh gone : ℕ) → IsSound d → IsShaped edit → refusal d edit ≡ None → (after d edit).last < marker → (after d edit).last < marks → (after d edit).last < fresh → (after d edit).last < gone → HasRoomFor d edit marker marks fresh gone
-room_for-after d edit marker marks fresh gone s w none has_marker has_marks has_fresh has_gone = record {
-  marker = λ new h. room-after d new edit s w h marker has_marker;
-  marks = λ new h. room-after d new edit s w h marks has_marks;
-  fresh = λ new h makes. subst (λ (e : Document). e.last < fresh) (accepted_is d new edit h).1 has_fresh;
-  gone = λ is x there. let given = (s.given x there).1 in omega (arith, given, last_stays d edit, has_gone);
-  there = taken-there d edit s none;
-}
-
--- the numbers of what is taken out
-
-pub gone-left : (d new : Document) (gone now : List ℕ) → AreGoneToo d new gone now → AreGoneToo d d gone now
-gone-left d new gone now too = record {
-  stays = too.stays;
-  removed = λ x there out. absurd (false≢true (sym out ∙ there));
-  of_old = too.of_old;
-}
-
-pub none-gone : (d : Document) (gone now : List ℕ) → now ≡ gone → AreGoneToo d d gone now
-none-gone d gone now same = subst (AreGoneToo d d gone) (sym same) (gone-same d d gone (λ x there. there))
-
--- an edit that removes nothing
-pub gone-kept : (d : Document) (edit : ModelEdit) (gone : List ℕ) → (IsRemoval edit → ⊥) → IsSound d → IsShaped edit → refusal d edit ≡ None → AreGoneToo d (after d edit) gone gone
-gone-kept d (insert p index nodes) gone none s w h = gone-inserted d s p index nodes w h gone
-gone-kept d (remove n) gone none s w h = absurd (none tt)
-gone-kept d (move n p index) gone none s w h = gone-moved d s n p index h gone
-gone-kept d (set x name text) gone none s w h = gone-too d (after d (set x name text)) (set x name text) gone tt (ap (λ o. outcome_of o (after d (set x name text))) h)
-gone-kept d (unset x name) gone none s w h = gone-too d (after d (unset x name)) (unset x name) gone tt (ap (λ o. outcome_of o (after d (unset x name))) h)
-gone-kept d (set_state x state on) gone none s w h = gone-too d (after d (set_state x state on)) (set_state x state on) gone tt (ap (λ o. outcome_of o (after d (set_state x state on))) h)
-
--- what an edit makes fresh
-
-pub freshened-inserted : (d new : Document) (edit : DocEdit) (p index : ℕ) (nodes : NewNodes) → edit ≡ Insert p index nodes → IsSound d → IsShaped (doc_edit_seen edit) → applied d (doc_edit_seen edit) ≡ accepted new → (fresh now : Fresh) → now.all ≡ fresh.all → ((x : ℕ) → x ≤ new.last → is_in x now.set.items ≡ (is_in x fresh.set.items || nat_lt d.last x)) → AreFreshToo d new (doc_edit_seen edit) fresh now
-freshened-inserted d new edit p index nodes is s w h fresh now all grown =
-    let (none, same) = accepted_is d new (doc_edit_seen edit) h in
-    let Goal : Document → DocEdit → Type 0 = λ e f. AreFreshToo d e (doc_edit_seen f) fresh now in
-    subst (λ (e : Document). Goal e edit) same
-    (subst (λ (f : DocEdit). Goal (after d (doc_edit_seen edit)) f) refl
-    (by edit is w none (subst (λ (e : Document). (x : ℕ) → x ≤ e.last → is_in x now.set.items ≡ (is_in x fresh.set.items || nat_lt d.last x)) (sym same) grown)))
-  where
-    by : (f : DocEdit) → f ≡ Insert p index nodes → IsShaped (doc_edit_seen f) → refusal d (doc_edit_seen f) ≡ None → ((x : ℕ) → x ≤ (after d (doc_edit_seen f)).last → is_in x now.set.items ≡ (is_in x fresh.set.items || nat_lt d.last x)) → AreFreshToo d (after d (doc_edit_seen f)) (doc_edit_seen f) fresh now
-    by (Insert q i list) e v none all_grown = fresh-inserted d s q i (nodes_seen list) v none fresh now all all_grown
-    by (Remove n) e v none all_grown = absurd (cc)
-    by (Move n q i) e v none all_grown = absurd (cc)
-    by (Set n name value) e v none all_grown = absurd (cc)
-    by (Unset n name) e v none all_grown = absurd (cc)
-    by (State n state on) e v none all_grown = absurd (cc)
-
-pub freshened-moved : (d new : Document) (edit : DocEdit) (n p index : ℕ) (pairs : List (Touch × ℕ)) → edit ≡ Move n p index → IsSound d → applied d (doc_edit_seen edit) ≡ accepted new → AreTouched d.elements new.elements pairs → (fresh now : Fresh) → now.all ≡ fresh.all → ((x : ℕ) → is_in x now.set.items ≡ (is_in x fresh.set.items || (is_listed pairs positional n && is_below new.elements n x))) → AreFreshToo d new (doc_edit_seen edit) fresh now
-freshened-moved d new edit n p index pairs is s h touched fresh now all grown =
-    let (none, same) = accepted_is d new (move n p index) (subst (λ (f : DocEdit). applied d (doc_edit_seen f) ≡ accepted new) is h) in
-    let told : is_listed pairs positional n ≡ is_touched d.elements (after d (move n p index)).elements positional n =
-    touched.exact positional n ∙ ap (λ (e : Document). is_touched d.elements e.elements positional n) (sym same) in
-    let all_grown : (x : ℕ) → is_in x now.set.items ≡ (is_in x fresh.set.items || (is_listed pairs positional n && is_below (after d (move n p index)).elements n x)) =
-    λ x. grown x ∙ ap (λ (e : Document). is_in x fresh.set.items || (is_listed pairs positional n && is_below e.elements n x)) (sym same) in
-    subst (λ (f : DocEdit). AreFreshToo d new (doc_edit_seen f) fresh now) (sym is)
-    (subst (λ (e : Document). AreFreshToo d e (move n p index) fresh now) same
-    (fresh-moved d s n p index none (is_listed pairs positional n) fresh now told all all_grown))
-
--- an edit that makes nothing fresh
-pub freshened-none : (d new : Document) (edit : ModelEdit) → (MakesFresh edit → ⊥) → IsSound d → applied d edit ≡ accepted new → (fresh : Fresh) → AreFreshToo d new edit fresh fresh
-freshened-none d new (insert p index nodes) makes s h fresh = absurd (makes tt)
-freshened-none d new (remove n) makes s h fresh =
-    let (none, same) = accepted_is d new (remove n) h in
-    subst (λ (e : Document). AreFreshToo d e (remove n) fresh fresh) same (fresh-removed d s n none fresh)
-freshened-none d new (move n p index) makes s h fresh = absurd (makes tt)
-freshened-none d new (set x name text) makes s h fresh = fresh-too d new (set x name text) fresh tt
-freshened-none d new (unset x name) makes s h fresh = fresh-too d new (unset x name) fresh tt
-freshened-none d new (set_state x state on) makes s h fresh = fresh-too d new (set_state x state on) fresh tt
-
--- what is taken out of the document
-pub gone-taken : (d : Document) (edit : DocEdit) (n : ℕ) (old now : Members) → edit ≡ Remove n → IsSound d → IsGrown (is_below d.elements n) old now → refusal d (doc_edit_seen edit) ≡ None → AreGoneToo d (after d (doc_edit_seen edit)) old.items now.items
-gone-taken d edit n old now is s grown =
-    subst (λ (f : DocEdit). refusal d (doc_edit_seen f) ≡ None → AreGoneToo d (after d (doc_edit_seen f)) old.items now.items) (sym is)
-    (λ none. gone-removed d s n none old.items now.items grown.each)
-
-pub left-taken : (d : Document) (n : ℕ) (old now : Members) → IsSound d → IsElement d.elements n → IsGrown (is_below d.elements n) old now → AreGoneToo d d old.items now.items
-left-taken d n old now s there grown = record {
-  stays = λ x h. grown.each x ∙ or_left (is_in x old.items) (is_below d.elements n x) h;
-  removed = λ x there_too out. absurd (false≢true (sym out ∙ there_too));
-  of_old = λ x h none. below_there d s n x there (sym (ap (λ b. b || is_below d.elements n x) none) ∙ (sym (grown.each x) ∙ h));
-}
-
--- edits of the code that remove nothing, and that make nothing fresh
-
-pub keeps_all : (edit : DocEdit) → ((n : ℕ) → edit ≡ Remove n → ⊥) → IsRemoval (doc_edit_seen edit) → ⊥
-keeps_all (Insert p index nodes) not is = is
-keeps_all (Remove n) not is = not n refl
-keeps_all (Move n p index) not is = is
-keeps_all (Set n name value) not is = is
-keeps_all (Unset n name) not is = is
-keeps_all (State n state on) not is = is
-
-pub freshens_none : (edit : DocEdit) → ((p index : ℕ) (nodes : NewNodes) → edit ≡ Insert p index nodes → ⊥) → ((n p index : ℕ) → edit ≡ Move n p index → ⊥) → MakesFresh (doc_edit_seen edit) → ⊥
-freshens_none (Insert p index nodes) no_insert no_move is = no_insert p index nodes refl
-freshens_none (Remove n) no_insert no_move is = is
-freshens_none (Move n p index) no_insert no_move is = no_move n p index refl
-freshens_none (Set n name value) no_insert no_move is = is
-freshens_none (Unset n name) no_insert no_move is = is
-freshens_none (State n state on) no_insert no_move is = is
+    subst (λ (e : Document). HasRoom e.elements room) same
+    (room-after d s edit w none room (λ x there. let near = has x there in omega (arith, near, wider)) more)
 
 -- numbers that were given, one after another
 

@@ -11,24 +11,23 @@ use Rattle.scene_model.specs.Lookups.{is_element, IsElement}
 use Rattle.scene_model.specs.Numbers.{is_in}
 use Rattle.scene_model.specs.Scene.{Scene}
 use Rattle.change_model.specs.Sound.{IsSound}
-use Rattle.change_model.proofs.InPlace.{here, IsInPlace-here, is_element-map, IsInPlace-attribute, IsInPlace-no_attribute, IsInPlace-state}
 use Rattle.value_model.specs.Style.{Style}
 use Rattle.stylo_base.specs.declared.refusal.EditRefused.{EditRefused}
 use Rattle.stylo_base.specs.declared.refusal.EditRefused.TheVariants.{NoMemory}
 use Rattle.sheet_model.specs.Sources.{Sources}
 use Rattle.edit_model.specs.Apply.{after, applied, is_fresh, refusal}
-use Rattle.edit_model.specs.Edit.{DocEdit as ModelEdit, of_document, insert, remove, move, set, unset, set_state, IsShaped}
+use Rattle.edit_model.specs.Edit.{DocEdit as ModelEdit, of_document, IsShaped}
 use Rattle.edit_model.specs.Marked.{is_marked}
 use Rattle.edit_model.specs.Refusal.{Refusal, accepted, outcome_of}
+use Rattle.edit_model.specs.Steady.{SameTags}
 use Rattle.edit_model.specs.Touched.{Touch}
 use Rattle.edit_model.specs.TouchedBy.{AreTouched}
+use Rattle.edit_model.proofs.Accepted.{tags-after}
 use Rattle.dom_edits.specs.EditView.{doc_edit_seen, refusal_answered}
 use Rattle.dom_edits.specs.declared.edits.DocEdit.{DocEdit}
 use Rattle.invalidation_map.specs.Marks.{AreMarked}
 use Rattle.invalidation_map.specs.Members.{Members}
 use Rattle.invalidation_map.specs.Rows.{Row}
-use Rattle.invalidation_map.proofs.EditLemmas.{same_tags}
-use Rattle.invalidation_map.proofs.SetLemmas.{or_no}
 use Rattle.sheet_set.specs.View.{kept_seen, sources_seen}
 use Rattle.sheet_set.specs.declared.sheets.Sheets.{Sheets}
 use Rattle.plain_style.specs.declared.prepared.Prepared.{Prepared}
@@ -43,69 +42,18 @@ use Rattle.style_session.specs.declared.fresh.Fresh.{Fresh}
 use Rattle.style_session.specs.declared.marking.Marking.{Marking}
 use Rattle.style_session.specs.declared.style_cache.StyleCache.{StyleCache}
 use Rattle.style_session.proofs.EditedLemmas.{Changes, changes-applied, edited-with, keeps-edited, sound-edited}
+use Rattle.style_session.proofs.ListEdits.{accepted_is}
 use Rattle.style_session.proofs.SessionSheets.{sources-texts}
 use Rattle.style_session.proofs.SessionStarts.{no-element}
-use Rattle.style_session.proofs.TreeEdits.{gone-same}
-
--- edits that change one element in place
-
-abbrev pub IsInOne : ModelEdit → Type 0
-IsInOne (set x name text) = Unit {0}
-IsInOne (unset x name) = Unit {0}
-IsInOne (set_state x state on) = Unit {0}
-IsInOne edit = ⊥
-
-pub shaped : (edit : ModelEdit) → IsInOne edit → IsShaped edit
-shaped (set x name text) w = tt
-shaped (unset x name) w = tt
-shaped (set_state x state on) w = tt
-shaped (insert p index nodes) w = absurd w
-shaped (remove n) w = absurd w
-shaped (move n p index) w = absurd w
-
-makes_none_fresh : (d : Document) (edit : ModelEdit) → IsInOne edit → (x : ℕ) → is_fresh d edit x ≡ false
-makes_none_fresh d (set y name text) w x = refl
-makes_none_fresh d (unset y name) w x = refl
-makes_none_fresh d (set_state y state on) w x = refl
-makes_none_fresh d (insert p index nodes) w x = absurd w
-makes_none_fresh d (remove n) w x = absurd w
-makes_none_fresh d (move n p index) w x = absurd w
-
-elements_after : (d : Document) (edit : ModelEdit) → IsInOne edit → (x : ℕ) → is_element (after d edit).elements x ≡ is_element d.elements x
-elements_after d (set y name text) w x =
-    is_element-map (here y _) (IsInPlace-here y _ (IsInPlace-attribute name text)).number d.elements x
-elements_after d (unset y name) w x =
-    is_element-map (here y _) (IsInPlace-here y _ (IsInPlace-no_attribute name)).number d.elements x
-elements_after d (set_state y state on) w x =
-    is_element-map (here y _) (IsInPlace-here y _ (IsInPlace-state state on)).number d.elements x
-elements_after d (insert p index nodes) w x = absurd w
-elements_after d (remove n) w x = absurd w
-elements_after d (move n p index) w x = absurd w
-
-pub same-elements : (old new : Document) (edit : ModelEdit) → IsInOne edit → applied old edit ≡ accepted new → (x : ℕ) → is_element new.elements x ≡ is_element old.elements x
-same-elements old new edit w h x = by (refusal old edit) h
-  where
-    by : (o : Option Refusal) → outcome_of o (after old edit) ≡ accepted new → is_element new.elements x ≡ is_element old.elements x
-    by None h =
-        let same : after old edit ≡ new = cc in
-        sym (ap (λ (d : Document). is_element d.elements x) same) ∙ elements_after old edit w x
-    by (Some why) h = absurd (cc)
-
--- it makes nothing fresh, and removes nothing
-
-pub fresh-too : (old new : Document) (edit : ModelEdit) (fresh : Fresh) → IsInOne edit → AreFreshToo old new edit fresh fresh
-fresh-too old new edit fresh w = record {
-  all = refl;
-  each = λ x there. or_no (is_in x fresh.set.items) ∙ ap (λ b. is_in x fresh.set.items || b) (sym (makes_none_fresh old edit w x));
-}
-
-pub gone-too : (old new : Document) (edit : ModelEdit) (gone : List ℕ) → IsInOne edit → applied old edit ≡ accepted new → AreGoneToo old new gone gone
-gone-too old new edit gone w h = gone-same old new gone (λ x there. same-elements old new edit w h x ∙ there)
 
 -- what the marker adds is what the edit marks
-pub adds-marks : (old new : Document) (edit : DocEdit) (pairs : List (Touch × ℕ)) (rows : List Row) (marks : List ℕ) (before now : Members) → IsSound old → IsShaped (doc_edit_seen edit) → applied old (doc_edit_seen edit) ≡ accepted new → AreTouched old.elements new.elements pairs → before.items ≡ marks → AreMarked new.elements pairs rows before now → AddsMarks old.elements new.elements rows marks now.items
+pub adds-marks : (old new : Document) (edit : ModelEdit) (pairs : List (Touch × ℕ)) (rows : List Row) (marks : List ℕ) (before now : Members)
+    → IsSound old → IsShaped edit → applied old edit ≡ accepted new → AreTouched old.elements new.elements pairs
+    → before.items ≡ marks → AreMarked new.elements pairs rows before now
+    → AddsMarks old.elements new.elements rows marks now.items
 adds-marks old new edit pairs rows marks before now sound w h touched same marked = λ selectors are x.
-    (marked old.elements selectors (same_tags old new edit sound w h) touched.exact are).each x
+    let (none, is) = accepted_is old new edit h in
+    (marked old.elements selectors (subst (λ (d : Document). SameTags old.elements d.elements) is (tags-after old sound edit w none)) touched.exact are).each x
     ∙ ap (λ l. is_in x l || is_marked old.elements new.elements selectors x) same
 
 -- the answer to an edit that is not done
@@ -117,7 +65,9 @@ pub error-seen : (scene : Scene) (edit : ModelEdit) → refusal_of scene (of_doc
 error-seen scene edit = error_by scene (refusal scene.document edit) _
 
 -- The marks are those that the model tells of.
-marked-now : (old new : Document) (sheets : Sheets) (marks now : List ℕ) → AreMarkedToo old.elements new.elements (sources_seen sheets) marks now → (x : ℕ) → is_in x now ≡ (is_in x marks || is_marked old.elements new.elements (marking_selectors (map kept_seen sheets.sheets.items)) x)
+marked-now : (old new : Document) (sheets : Sheets) (marks now : List ℕ)
+    → AreMarkedToo old.elements new.elements (sources_seen sheets) marks now → (x : ℕ)
+    → is_in x now ≡ (is_in x marks || is_marked old.elements new.elements (marking_selectors (map kept_seen sheets.sheets.items)) x)
 marked-now old new sheets marks now h x =
     ∥∥₁_elim (sources-texts sheets) (Coded-set coded_bool _ _) (λ same.
     subst (λ (s : Sources). is_in x now ≡ (is_in x marks || is_marked old.elements new.elements (selectors_of s) x)) same (h x))
@@ -212,7 +162,9 @@ module _ {A : Type 0} (old : Document) (sheets : Sheets) (prepared : Option Prep
       ap (λ l. standing_seen old sheets l (is_fresh_in later) kept recent) marks_same
       ∙ ap (λ (f : ℕ → Bool). standing_seen old sheets marks.items f kept recent) (sym (same_fresh fresh later still))
 
-  pub session-refused : (new : Document) (marking_later : Option Marking) → AreGoneToo old old gone left → new ≡ old → IfSome marking_later (CanMark new (sources_seen sheets) now) → IsSession new sheets prepared marking_later now later left kept recent cache
+  pub session-refused : (new : Document) (marking_later : Option Marking) → AreGoneToo old old gone left → new ≡ old
+      → IfSome marking_later (CanMark new (sources_seen sheets) now)
+      → IsSession new sheets prepared marking_later now later left kept recent cache
   session-refused new marking_later too same can =
       subst (λ (d : Document). IsSession d sheets prepared marking_later now later left kept recent cache) (sym same)
       (record {
@@ -229,24 +181,42 @@ module _ {A : Type 0} (old : Document) (sheets : Sheets) (prepared : Option Prep
 
 -- an edit of the code, done or not
 
-pub edit-seen : {A T E : Type 0} (result : Result T E) (old new : Document) (sheets : Sheets) (prepared : Option Prepared) (marking : Option Marking) (marks now : Members) (fresh later : Fresh) (gone left : List ℕ) (kept : List (Option (Arc Style A))) (recent : List ℕ) (cache : StyleCache) (edit : DocEdit) → IsSession old sheets prepared marking marks fresh gone kept recent cache → IsShaped (doc_edit_seen edit) → OnOk result (applied old (doc_edit_seen edit) ≡ accepted new) → OnOk result (AreMarkedToo old.elements new.elements (sources_seen sheets) marks.items now.items) → OnOk result (AreFreshToo old new (doc_edit_seen edit) fresh later) → OnOk result (standing_seen new sheets now.items (is_fresh_in later) kept recent ≡ edited (standing_seen old sheets marks.items (is_fresh_in fresh) kept recent) (of_document (doc_edit_seen edit)))
+pub edit-seen : {A T E : Type 0} (result : Result T E) (old new : Document) (sheets : Sheets) (prepared : Option Prepared) (marking : Option Marking) (marks now : Members) (fresh later : Fresh) (gone left : List ℕ) (kept : List (Option (Arc Style A))) (recent : List ℕ) (cache : StyleCache) (edit : DocEdit)
+    → IsSession old sheets prepared marking marks fresh gone kept recent cache → IsShaped (doc_edit_seen edit)
+    → OnOk result (applied old (doc_edit_seen edit) ≡ accepted new)
+    → OnOk result (AreMarkedToo old.elements new.elements (sources_seen sheets) marks.items now.items)
+    → OnOk result (AreFreshToo old new (doc_edit_seen edit) fresh later)
+    → OnOk result (standing_seen new sheets now.items (is_fresh_in later) kept recent ≡ edited (standing_seen old sheets marks.items (is_fresh_in fresh) kept recent) (of_document (doc_edit_seen edit)))
 edit-seen (Ok x) old new sheets prepared marking marks now fresh later gone left kept recent cache edit was w h marked freshened =
     edited-seen old new sheets prepared marking marks now fresh later gone left kept recent cache (doc_edit_seen edit) w was h marked freshened
 edit-seen (Err e) old new sheets prepared marking marks now fresh later gone left kept recent cache edit was w h marked freshened = tt
 
-pub edit-refused : {A T E : Type 0} (result : Result T E) (old new : Document) (sheets : Sheets) (prepared : Option Prepared) (marking : Option Marking) (marks now : Members) (fresh later : Fresh) (gone : List ℕ) (kept : List (Option (Arc Style A))) (recent : List ℕ) (cache : StyleCache) → IsSession old sheets prepared marking marks fresh gone kept recent cache → OnErr result (new ≡ old) → OnErr result (now.items ≡ marks.items) → OnErr result (IsFreshStill fresh later) → OnErr result (standing_seen new sheets now.items (is_fresh_in later) kept recent ≡ standing_seen old sheets marks.items (is_fresh_in fresh) kept recent)
+pub edit-refused : {A T E : Type 0} (result : Result T E) (old new : Document) (sheets : Sheets) (prepared : Option Prepared) (marking : Option Marking) (marks now : Members) (fresh later : Fresh) (gone : List ℕ) (kept : List (Option (Arc Style A))) (recent : List ℕ) (cache : StyleCache)
+    → IsSession old sheets prepared marking marks fresh gone kept recent cache → OnErr result (new ≡ old)
+    → OnErr result (now.items ≡ marks.items) → OnErr result (IsFreshStill fresh later)
+    → OnErr result (standing_seen new sheets now.items (is_fresh_in later) kept recent ≡ standing_seen old sheets marks.items (is_fresh_in fresh) kept recent)
 edit-refused (Ok x) old new sheets prepared marking marks now fresh later gone kept recent cache was same marks_same still = tt
 edit-refused (Err e) old new sheets prepared marking marks now fresh later gone kept recent cache was same marks_same still =
     ap (λ (d : Document). standing_seen d sheets now.items (is_fresh_in later) kept recent) same
     ∙ refused-same old sheets prepared marking marks now fresh later gone gone kept recent cache was marks_same still
 
-pub edit-session : {A T E : Type 0} (result : Result T E) (old new : Document) (sheets : Sheets) (prepared : Option Prepared) (marking later : Option Marking) (marks now : Members) (fresh fresh_later : Fresh) (gone left : List ℕ) (kept : List (Option (Arc Style A))) (recent : List ℕ) (cache : StyleCache) (edit : DocEdit) → IsSession old sheets prepared marking marks fresh gone kept recent cache → IsShaped (doc_edit_seen edit) → OnOk result (applied old (doc_edit_seen edit) ≡ accepted new) → OnOk result (AreMarkedToo old.elements new.elements (sources_seen sheets) marks.items now.items) → OnOk result (AreFreshToo old new (doc_edit_seen edit) fresh fresh_later) → OnOk result (AreGoneToo old new gone left) → OnErr result (new ≡ old) → OnErr result (now.items ≡ marks.items) → OnErr result (IsFreshStill fresh fresh_later) → OnErr result (AreGoneToo old old gone left) → IfSome later (CanMark new (sources_seen sheets) now) → IsSession new sheets prepared later now fresh_later left kept recent cache
+pub edit-session : {A T E : Type 0} (result : Result T E) (old new : Document) (sheets : Sheets) (prepared : Option Prepared) (marking later : Option Marking) (marks now : Members) (fresh fresh_later : Fresh) (gone left : List ℕ) (kept : List (Option (Arc Style A))) (recent : List ℕ) (cache : StyleCache) (edit : DocEdit)
+    → IsSession old sheets prepared marking marks fresh gone kept recent cache → IsShaped (doc_edit_seen edit)
+    → OnOk result (applied old (doc_edit_seen edit) ≡ accepted new)
+    → OnOk result (AreMarkedToo old.elements new.elements (sources_seen sheets) marks.items now.items)
+    → OnOk result (AreFreshToo old new (doc_edit_seen edit) fresh fresh_later)
+    → OnOk result (AreGoneToo old new gone left) → OnErr result (new ≡ old) → OnErr result (now.items ≡ marks.items)
+    → OnErr result (IsFreshStill fresh fresh_later) → OnErr result (AreGoneToo old old gone left)
+    → IfSome later (CanMark new (sources_seen sheets) now)
+    → IsSession new sheets prepared later now fresh_later left kept recent cache
 edit-session (Ok x) old new sheets prepared marking later marks now fresh fresh_later gone left kept recent cache edit was w h marked freshened taken _ _ _ _ can =
     session-edited old new sheets prepared marking marks now fresh fresh_later gone left kept recent cache (doc_edit_seen edit) w was h marked freshened taken later can
 edit-session (Err e) old new sheets prepared marking later marks now fresh fresh_later gone left kept recent cache edit was _ _ _ _ _ same marks_same still taken can =
     session-refused old sheets prepared marking marks now fresh fresh_later gone left kept recent cache was marks_same still new later taken same can
 
 -- the answer to an edit that is not done, of a session
-pub refused-seen : {T : Type 0} (result : Result T EditRefused) (document : Document) (sheets : Sheets) (edit : DocEdit) → IfErr result (λ why. why ≡ unwrap_or (option_map refusal_answered (refusal document (doc_edit_seen edit))) NoMemory) → IfErr result (λ why. why ≡ refusal_of (scene_seen document sheets) (of_document (doc_edit_seen edit)))
+pub refused-seen : {T : Type 0} (result : Result T EditRefused) (document : Document) (sheets : Sheets) (edit : DocEdit)
+    → IfErr result (λ why. why ≡ unwrap_or (option_map refusal_answered (refusal document (doc_edit_seen edit))) NoMemory)
+    → IfErr result (λ why. why ≡ refusal_of (scene_seen document sheets) (of_document (doc_edit_seen edit)))
 refused-seen (Ok x) document sheets edit h = tt
 refused-seen (Err why) document sheets edit h = h ∙ sym (error-seen (scene_seen document sheets) (doc_edit_seen edit))

@@ -1,5 +1,5 @@
 -- What an edit of a session adds to its marks, to what is fresh and to what is gone.
-use Rattle.std.specs.Prelude.{◌≡◌, ⊤, ℕ, ◌<◌, ◌||◌, List, Bool, false, true}
+use Rattle.std.specs.Prelude.{◌≡◌, ℕ, ◌<◌, ◌||◌, List, false, true}
 use Rattle.std.specs.List.Sorted.{IsPermutation}
 use Rattle.scene_model.specs.Element.{Element}
 use Rattle.scene_model.specs.Document.{Document}
@@ -7,13 +7,11 @@ use Rattle.scene_model.specs.Lookups.{IsElement, is_element}
 use Rattle.scene_model.specs.Numbers.{is_in}
 use Rattle.selector_model.specs.Selector.{Selector}
 use Rattle.sheet_model.specs.Sources.{Sources}
-use Rattle.edit_model.specs.Apply.{applied, is_fresh}
-use Rattle.edit_model.specs.Edit.{DocEdit, SheetEdit, insert, remove, move, set}
-use Rattle.edit_model.specs.Refusal.{accepted}
+use Rattle.edit_model.specs.Apply.{is_fresh}
+use Rattle.edit_model.specs.Edit.{DocEdit, SheetEdit}
 use Rattle.edit_model.specs.Marked.{is_marked}
 use Rattle.edit_model.specs.SheetApply.{SheetList, number_in}
 use Rattle.invalidation_map.specs.Rows.{Row, rows_of}
-use Rattle.invalidation_map.specs.Steps.{HasRoom}
 use Rattle.session_model.specs.Marking.{selectors_of}
 use Rattle.sheet_edit_model.specs.SheetMarks.{is_marked_by_sheets}
 use Rattle.style_session.specs.declared.fresh.Fresh.{Fresh}
@@ -52,38 +50,9 @@ pub record IsFreshStill (fresh now : Fresh) : Type 0 where
   pub all : now.all ≡ fresh.all
   pub items : now.set.items ≡ fresh.set.items
 
--- Which edits change lists of children, and which do what.
-
-abbrev pub is_in_place : DocEdit → Bool
-is_in_place (insert p index nodes) = false
-is_in_place (remove n) = false
-is_in_place (move n p index) = false
-is_in_place edit = true
-
-abbrev pub IsRemoval : DocEdit → Type 0
-IsRemoval (remove n) = ⊤
-IsRemoval edit = ⊥
-
-abbrev pub MakesFresh : DocEdit → Type 0
-MakesFresh (insert p index nodes) = ⊤
-MakesFresh (move n p index) = ⊤
-MakesFresh edit = ⊥
-
--- what an edit takes out is an element
-abbrev pub TakesElement : List Element → DocEdit → Type 0
-TakesElement doc (remove n) = IsElement doc n
-TakesElement doc edit = ⊤
-
--- and what it moves
-abbrev pub MovesElement : List Element → DocEdit → Type 0
-MovesElement doc (move n p index) = IsElement doc n
-MovesElement doc edit = ⊤
-
--- Room for what an edit comes to: to mark each element that is there afterwards, to make those fresh that it gives or
--- moves, and to keep the numbers of those that it takes out.
-pub record HasRoomFor (d : Document) (edit : DocEdit) (marker_room marks_room fresh_room gone_room : ℕ) : Type 0 where
-  pub marker : (new : Document) → applied d edit ≡ accepted new → HasRoom new.elements marker_room
-  pub marks : (new : Document) → applied d edit ≡ accepted new → HasRoom new.elements marks_room
-  pub fresh : (new : Document) → applied d edit ≡ accepted new → MakesFresh edit → new.last < fresh_room
-  pub gone : IsRemoval edit → HasRoom d.elements gone_room
-  pub there : TakesElement d.elements edit
+-- room for the numbers up to the last one: to mark elements, to make them fresh, and to keep those that are taken out
+pub record HasRoomUpTo (last marker_room marks_room fresh_room gone_room : ℕ) : Type 0 where
+  pub marker : last < marker_room
+  pub marks : last < marks_room
+  pub fresh : last < fresh_room
+  pub gone : last < gone_room

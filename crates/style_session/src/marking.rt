@@ -8,6 +8,7 @@ ghost use Rattle.edit_model.specs.Apply.{applied, refusal as model_refusal};
 ghost use Rattle.edit_model.specs.Edit.{IsShaped};
 ghost use Rattle.edit_model.specs.Refusal.{accepted};
 ghost use Rattle.dom_edits.specs.EditView.{doc_edit_seen, refusal_answered};
+ghost use Rattle.dom_edits.specs.PlannedView.{Fits, Tells, planned_seen};
 ghost use Rattle.invalidation_map.specs.Rows.{rows_of};
 ghost use Rattle.invalidation_map.specs.RowView.{rows_in};
 ghost use Rattle.invalidation_map.specs.Steps.{HasRoom};
@@ -18,7 +19,7 @@ ghost use Rattle.style_session.specs.Sessions.{CanMark};
 
 use crate::fresh::Fresh;
 use crate::list_edits::{freshen, make_room, take_away};
-use dom_edits::{DocEdit, apply, refusal};
+use dom_edits::{DocEdit, Planned, commit, plan};
 use dom_tree::Doc;
 use invalidation_map::{Dependencies, ElementSet, Marker};
 use sheet_set::Sheets;
@@ -48,8 +49,8 @@ impl Marking {
         })
     }
 
-    /// Edits a document. Adds what the edit marks, what it makes fresh, and the numbers of what it takes out.
-    /// After an error the document is as it was, and nothing more is marked or fresh.
+    /// Makes an edit that was planned. Adds what the edit marks, what it makes fresh, and the numbers of what it takes
+    /// out. After an error the document is as it was, and nothing more is marked or fresh.
     fn edit(
         &mut self,
         alloc: Global,
@@ -57,19 +58,17 @@ impl Marking {
         marks: &mut ElementSet,
         fresh: &mut Fresh,
         gone: &mut ElementSet,
-        edit: &DocEdit,
-    ) -> Result<(), EditRefused>
-        requires sound { IsSound doc.old }
-        requires shaped { IsShaped (doc_edit_seen edit.now) }
+        planned: Planned<'_>,
+    ) -> Result<(), NoMemory>
+        requires fits { Fits doc.old planned }
+        requires tells { Tells doc.old planned }
         requires room { HasRoom doc.old.elements self.old.marker }
         requires marks { HasRoom doc.old.elements marks.old.room }
-        ensures accepted { OnOk result (applied doc.old (doc_edit_seen edit.now) ≡ accepted doc.new) }
+        ensures accepted { OnOk result (applied doc.old (planned_seen planned.entry) ≡ accepted doc.new) }
         ensures marked { OnOk result (AddsMarks doc.old.elements doc.new.elements
             (rows_in self.old.dependencies) marks.old.items marks.new.items) }
-        ensures fresh { OnOk result (AreFreshToo doc.old doc.new (doc_edit_seen edit.now) fresh.old fresh.new) }
+        ensures fresh { OnOk result (AreFreshToo doc.old doc.new (planned_seen planned.entry) fresh.old fresh.new) }
         ensures gone { OnOk result (AreGoneToo doc.old doc.new gone.old.items gone.new.items) }
-        ensures refused { IfErr result (λ why. why ≡ unwrap_or (option_map refusal_answered
-            (model_refusal doc.old (doc_edit_seen edit.now))) out_of_memory) }
         ensures kept { OnErr result (doc.new ≡ doc.old) }
         ensures unmarked { OnErr result (marks.new.items ≡ marks.old.items) }
         ensures still { OnErr result (IsFreshStill fresh.old fresh.new) }
@@ -78,12 +77,14 @@ impl Marking {
         ensures marks { HasRoom doc.new.elements marks.new.room }
         ensures same { self.new.dependencies ≡ self.old.dependencies }
     {
-        make_room(alloc, doc, &mut self.marker, marks, fresh, gone, edit)?;
+        make_room(alloc, &planned, &mut self.marker, marks, fresh, gone)?;
         // From here on only the edit itself takes memory.
-        take_away(doc, &mut self.marker, gone, edit);
+        take_away(doc, &planned, &mut self.marker, gone);
         let before = doc.last() as u32;
-        let touched = apply(alloc, doc, edit)?;
-        freshen(doc, &mut self.marker, fresh, before, &touched, edit);
+        let last = planned.last();
+        let moved = planned.moved();
+        let touched = commit(alloc, doc, planned)?;
+        freshen(doc, &mut self.marker, &mut fresh.set, before, last, moved);
         self.marker.mark(doc, &touched, &self.dependencies, marks);
         Ok(())
     }
@@ -118,17 +119,14 @@ pub(crate) fn edit_marked(
     ensures left { OnErr result (AreGoneToo doc.old doc.old gone.old.items gone.new.items) }
     ensures can_mark { IfSome marking.new (CanMark doc.new (sources_seen sheets.now) marks.new) }
 {
-    // The count is not asked: the call tells that new nodes are a list.
-    let _count = edit.new_count();
+    let planned = plan(doc, edit)?;
     if let Some(made) = marking {
-        return made.edit(alloc, doc, marks, fresh, gone, edit);
-    }
-    if let Some(why) = refusal(doc, edit) {
-        return Err(why);
+        made.edit(alloc, doc, marks, fresh, gone, planned)?;
+        return Ok(());
     }
     let mut made = Marking::of(alloc, doc, sheets)?;
     marks.grow(doc.last() as u32)?;
-    made.edit(alloc, doc, marks, fresh, gone, edit)?;
+    made.edit(alloc, doc, marks, fresh, gone, planned)?;
     *marking = Some(made);
     Ok(())
 }

@@ -1,27 +1,17 @@
-use Rattle.std.proofs.Common.{◌≡◌, refl, sym, subst}
-use Rattle.scene_model.specs.Lookups.{IsElement}
-use Rattle.change_model.specs.Sound.{is_below}
-use Rattle.dom_edits.specs.EditView.{doc_edit_seen}
-use Rattle.dom_edits.specs.declared.edits.DocEdit.{DocEdit}
-use Rattle.invalidation_map.specs.Marks.{IsGrown}
-use Rattle.style_session.specs.Edits.{TakesElement}
-use Rattle.style_session.proofs.ListEdits.{gone-kept, gone-taken, keeps_all, left-taken, none-gone}
+use Rattle.std.proofs.Common.{sym, ◌∙◌}
+use Rattle.dom_edits.specs.PlannedView.{planned_seen}
+use Rattle.dom_edits.proofs.ShapeLemmas.{is-shaped}
+use Rattle.style_session.proofs.ListEdits.{gone-kept, gone-taken, taken-there}
 use Rattle.style_session.proofs.list_edits.take_away.Goals as goal
 
-pub returns-in-Remove-clause-gone : goal.returns-in-Remove-clause-gone
-returns-in-Remove-clause-gone c =
-    gone-taken c.args.doc.now c.args.edit.now c.in-Remove.node c.args.gone.now c.add_below.new.into c.in-Remove.is c.requires.sound
-    (subst (λ n. IsGrown (is_below c.args.doc.now.elements n) c.args.gone.now c.add_below.new.into) c.number_of.ensures c.add_below.ensures.below)
+pub add_below-requires-clause-element : goal.add_below-requires-clause-element
+add_below-requires-clause-element c =
+    taken-there c.args.doc.now c.requires.fits.sound (planned_seen c.args.planned.now) c.requires.fits.accepted c.in-Some.x (sym c.taken.ensures ∙ c.in-Some.is)
 
-pub returns-in-Remove-clause-left : goal.returns-in-Remove-clause-left
-returns-in-Remove-clause-left c =
-    left-taken c.args.doc.now c.in-Remove.node c.args.gone.now c.add_below.new.into c.requires.sound
-    (subst (λ (e : DocEdit). TakesElement c.args.doc.now.elements (doc_edit_seen e)) c.in-Remove.is c.requires.there)
-    (subst (λ n. IsGrown (is_below c.args.doc.now.elements n) c.args.gone.now c.add_below.new.into) c.number_of.ensures c.add_below.ensures.below)
+pub returns-in-Some-clause-gone : goal.returns-in-Some-clause-gone
+returns-in-Some-clause-gone c =
+    gone-taken c.args.doc.now c.requires.fits.sound (planned_seen c.args.planned.now) c.requires.fits.accepted c.in-Some.x (sym c.taken.ensures ∙ c.in-Some.is) c.args.gone.now.items c.add_below.new.into.items c.add_below.ensures.below.each
 
-pub returns-in_default : goal.returns-in_default
-returns-in_default c = record {
-  gone = gone-kept c.args.doc.now (doc_edit_seen c.args.edit.now) c.args.gone.now.items (keeps_all c.args.edit.now c.in_default.not-Remove) c.requires.sound c.requires.shaped;
-  left = none-gone c.args.doc.now c.args.gone.now.items c.args.gone.now.items refl;
-  same = refl;
-}
+pub returns-in_default-clause-gone : goal.returns-in_default-clause-gone
+returns-in_default-clause-gone c =
+    gone-kept c.args.doc.now c.requires.fits.sound (planned_seen c.args.planned.now) (is-shaped (planned_seen c.args.planned.now) c.args.planned.now.shaped) c.requires.fits.accepted (sym c.taken.ensures ∙ c.in_default.is) c.args.gone.now.items
