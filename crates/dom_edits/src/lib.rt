@@ -1,9 +1,9 @@
 //! Edits of a document: what refuses one, what it does, and what it touches; the edits of style sheets as data.
 //!
 //! An edit is planned first, and then made. `plan` judges it once, takes no memory, and tells what it will do, so that
-//! a caller can make room for it; `commit` makes it and answers what it touched, and after it no memory is owed. `apply`
-//! does both. The classes before a change of `class` are those that the document keeps, with their keys: they are not
-//! cut and hashed again.
+//! a caller can make room for it; `commit` makes it and answers what it touched, and after it no memory is owed.
+//! `apply` does both. The classes before a change of `class` are those that the document keeps, with their keys: they
+//! are not cut and hashed again.
 #![tactic(auto)]
 
 mod accepted;
