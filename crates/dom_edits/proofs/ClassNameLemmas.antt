@@ -49,7 +49,7 @@ classes-are doc x names found is told =
     told
     ∙ (ap (λ (l : List ElementName). distinct_from [] (class_texts l)) is
     ∙ (ap (distinct_from []) (texts-with (tag_of doc x) (option_and_then id_text (attribute_of doc x (codes "id")))
-        (class_words (attribute_of doc x (codes "class"))))
+    (class_words (attribute_of doc x (codes "class"))))
     ∙ words-kept (attribute_of doc x (codes "class"))))
 
 -- one name more
