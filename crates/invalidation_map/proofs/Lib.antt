@@ -12,6 +12,7 @@ pub mod KeyLemmas
 pub mod RowLemmas
 pub mod SharedLemmas
 pub mod StepEqLemmas
+pub mod EditSetLemmas
 pub mod EditLemmas
 pub mod BelowLemmas
 pub mod KeySetLemmas

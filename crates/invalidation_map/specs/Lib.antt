@@ -1,4 +1,5 @@
 pub mod Members
+pub mod EditMembers
 pub mod Steps
 pub mod Paths
 pub mod Rows

@@ -14,7 +14,7 @@ ghost use Rattle.edit_model.specs.TouchedBy.{AreTouched};
 ghost use Rattle.dom_edits.specs.EditView.{doc_edit_seen};
 ghost use Rattle.invalidation_map.specs.Steps.{HasRoom};
 
-use crate::{Dependencies, ElementSet, Marker};
+use crate::{EditSets, InvalidationMap};
 use dom_edits::{DocEdit, Touched};
 use dom_tree::Doc;
 use selector_types::Selector;
@@ -39,12 +39,12 @@ pub fn marks(
         (flat_map (λ list. selectors_of list.items) selectors.now) x) }
     ensures once { IfOk result (λ v. IsDistinct nat_eq v.items) }
 {
-    let dependencies = Dependencies::of(alloc, selectors)?;
     let last = last_after(before, edit)?;
-    let mut marker = Marker::new(alloc, last)?;
-    let mut set = ElementSet::new(alloc, last)?;
-    marker.mark(after, touched, &dependencies, &mut set);
-    Ok(Vec::from_slice(alloc, set.as_slice())?)
+    let map = InvalidationMap::of(alloc, selectors)?;
+    let mut sets = EditSets::new(alloc);
+    sets.reserve(last)?;
+    sets.mark(after, touched, &map);
+    Ok(Vec::from_slice(alloc, sets.marked())?)
 }
 
 /// The last number that there is after an edit that nothing refuses. Where there would be more than the limit of

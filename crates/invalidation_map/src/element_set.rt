@@ -1,6 +1,7 @@
 //! Sets of elements that take no memory once they are made.
 
-ghost use Rattle.std.specs.Prelude.{◌≡◌, ◌+◌, ◌<◌, ◌==◌, ◌≤◌, ◌^◌, [], IfOk, OnErr, OnOk, OnSome, length, nat_eq, slice_get};
+ghost use Rattle.std.specs.Prelude.{◌≡◌, ◌+◌, ◌<◌, ◌==◌, ◌≤◌, ◌^◌, [], length, nat_eq, slice_get};
+ghost use Rattle.std.specs.Prelude.{IfOk, OnErr, OnOk, OnSome};
 ghost use Rattle.std.specs.List.{IsDistinct};
 ghost use Rattle.scene_model.specs.Numbers.{is_in};
 ghost use Rattle.invalidation_map.specs.Members.{AreAdded, AreBelow, AreUnset, added};
@@ -46,8 +47,19 @@ impl ElementSet {
         })
     }
 
+    /// The empty set, which takes no memory and has no room.
+    pub fn empty(alloc: Global) -> ElementSet
+        ensures { result ≡ record { items = []; room = 0 } }
+    {
+        ElementSet {
+            flags: Vec::new(alloc),
+            list: Vec::new(alloc),
+            count: 0,
+        }
+    }
+
     /// Makes room for the numbers up to `last`, where there is not yet. After an error the set is as it was.
-    pub fn grow(&mut self, last: u32) -> Result<(), NoMemory>
+    pub fn reserve(&mut self, last: u32) -> Result<(), NoMemory>
         ensures room { OnOk result (last < self.new.room) }
         ensures wider { self.old.room ≤ self.new.room }
         ensures items { self.new.items ≡ self.old.items }
@@ -63,13 +75,6 @@ impl ElementSet {
         // There is room.
         let _done = self.list.resize(room, 0);
         Ok(())
-    }
-
-    /// The room: numbers below it can be added.
-    pub fn room(&self) -> usize
-        ensures { result ≡ self.now.room }
-    {
-        self.flags.len()
     }
 
     /// Whether no number is in the set.

@@ -13,7 +13,7 @@ ghost use Rattle.invalidation_map.specs.SharedRows.{AreWithin, IsAlone, rows_see
 ghost use Rattle.invalidation_map.specs.RowView.{rows_in};
 
 use crate::key_index::{KeyIndex, spread};
-use crate::rows::Dependencies;
+use crate::rows::InvalidationMap;
 use crate::selector_key::{is_touch_of, name_of};
 use crate::shared::{DependencyRow, Shared, place_of_key, place_of_path};
 use dependency_map::{Dep, Part, PathStep, deps};
@@ -22,9 +22,9 @@ use selector_types::{Key, Selector, Simple, key_of};
 use std::alloc::Global;
 use stylo_base::NoMemory;
 
-impl Dependencies {
+impl InvalidationMap {
     /// Those of the selectors of rules: of each rule a list.
-    pub fn of(alloc: Global, rules: &[Vec<Selector>]) -> Result<Dependencies, NoMemory>
+    pub fn of(alloc: Global, rules: &[Vec<Selector>]) -> Result<InvalidationMap, NoMemory>
         ensures { IfOk result (λ d. IsPermutation
             (rows_of (flat_map (λ list. selectors_of list.items) rules.now)) (rows_in d)) }
     {
@@ -39,7 +39,7 @@ impl Dependencies {
         rows.sort_by_key(|row| spread(row.touch.key()))?;
         let index = KeyIndex::of(alloc, keys_of(alloc, &rows)?)?;
         let style = Touch::Attribute(TouchName::of(alloc, "style")?);
-        Ok(Dependencies {
+        Ok(InvalidationMap {
             rows,
             index,
             shared,

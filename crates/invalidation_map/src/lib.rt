@@ -12,11 +12,12 @@
 
 mod change_marks;
 mod edit_marks;
+mod edit_sets;
 mod element_set;
 mod gather;
+mod invalidator;
 mod key_index;
 mod key_sets;
-mod marker;
 mod paths;
 mod rows;
 mod selector_key;
@@ -25,6 +26,6 @@ mod steps;
 
 pub use change_marks::sheet_marks;
 pub use edit_marks::marks;
+pub use edit_sets::EditSets;
 pub use element_set::ElementSet;
-pub use marker::Marker;
-pub use rows::Dependencies;
+pub use rows::InvalidationMap;

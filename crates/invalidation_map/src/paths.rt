@@ -1,6 +1,7 @@
 //! Paths from elements to those whose matching rests on them.
 
-ghost use Rattle.std.specs.Prelude.{◌≡◌};
+ghost use Rattle.std.specs.Prelude.{◌≡◌, ℕ};
+ghost use Rattle.invalidation_map.specs.EditMembers.{BothHaveRoom};
 ghost use Rattle.invalidation_map.specs.Paths.{AreReached, AreStepped};
 ghost use Rattle.dependency_map.specs.DepView.{path_of, step_of};
 ghost use Rattle.invalidation_map.specs.Steps.{AreElements, HasRoom};
@@ -33,11 +34,10 @@ fn take_step(doc: &Doc, step: PathStep, from: &[u32], into: &mut ElementSet)
 pub(crate) fn walk(doc: &Doc, path: &[PathStep], from: &mut ElementSet, next: &mut ElementSet)
     requires elements { AreElements doc.now.elements from.old.items }
     requires room { HasRoom doc.now.elements from.old.room }
-    requires same { next.old.room ≡ from.old.room }
+    requires next { HasRoom doc.now.elements next.old.room }
     ensures reached { AreReached doc.now.elements (path_of path.now) from.old.items from.new.items }
     ensures elements { AreElements doc.now.elements from.new.items }
-    ensures room { from.new.room ≡ from.old.room }
-    ensures same { next.new.room ≡ from.old.room }
+    ensures room { (room : ℕ) → BothHaveRoom room from.old next.old → BothHaveRoom room from.new next.new }
 {
     for step in path {
         take_step(doc, *step, from.as_slice(), next);

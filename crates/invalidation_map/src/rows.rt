@@ -12,7 +12,7 @@ use dom_edits::Touch;
 
 /// The rows of a list of selectors.
 #[derive(Drop)]
-pub struct Dependencies {
+pub struct InvalidationMap {
     /// In the order of the keys of their touches by `spread`.
     pub(crate) rows: Vec<DependencyRow>,
     /// The keys of their touches.
@@ -25,7 +25,7 @@ pub struct Dependencies {
     ghost styled: { touch_seen style ≡ style_touch },
 }
 
-impl Dependencies {
+impl InvalidationMap {
     /// Whether the row at a place is one of a touch, which has this key. The row is looked at only where its
     /// key is the same.
     pub(crate) fn is_of(&self, place: usize, touch: &Touch, key: u64) -> bool

@@ -2,7 +2,7 @@ use Rattle.std.proofs.Common.{◌≡◌, flat_map, take}
 use Rattle.selector_types.specs.View.{selectors_of}
 use Rattle.invalidation_map.specs.Rows.{rows_of}
 use Rattle.invalidation_map.specs.SharedRows.{AreWithin, rows_seen}
-use Rattle.invalidation_map.proofs.rows.Dependencies.of.Given as goal
+use Rattle.invalidation_map.proofs.rows.InvalidationMap.of.Given as goal
 
 abbrev pub invariant-loop-selectors : goal.invariant-loop-selectors
 invariant-loop-selectors l = record {

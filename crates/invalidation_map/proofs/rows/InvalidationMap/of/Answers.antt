@@ -10,7 +10,7 @@ use Rattle.invalidation_map.specs.SharedRows.{IsWithin, row_seen, rows_seen}
 use Rattle.invalidation_map.specs.KeyBuckets.{spread}
 use Rattle.invalidation_map.proofs.BucketLemmas.{keys_sorted}
 use Rattle.invalidation_map.proofs.KeyLemmas.{key_at}
-use Rattle.invalidation_map.proofs.rows.Dependencies.of.Goals as goal
+use Rattle.invalidation_map.proofs.rows.InvalidationMap.of.Goals as goal
 
 pub of-requires : goal.of-requires
 of-requires c =

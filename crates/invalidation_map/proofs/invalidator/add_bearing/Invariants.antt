@@ -3,7 +3,7 @@ use Rattle.selector_model.specs.Bears.{bears}
 use Rattle.selector_types.specs.SimpleView.{key_seen}
 use Rattle.scene_model.specs.Numbers.{is_in}
 use Rattle.invalidation_map.specs.Marks.{IsGrown}
-use Rattle.invalidation_map.proofs.marker.add_bearing.Given as goal
+use Rattle.invalidation_map.proofs.invalidator.add_bearing.Given as goal
 
 abbrev pub invariant-loop-x : goal.invariant-loop-x
 invariant-loop-x l =

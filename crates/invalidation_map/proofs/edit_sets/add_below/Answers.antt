@@ -6,7 +6,7 @@ use Rattle.invalidation_map.proofs.BelowLemmas.{below_added}
 use Rattle.invalidation_map.proofs.PathLemmas.{step_elements}
 use Rattle.invalidation_map.proofs.SetLemmas.{one_added}
 use Rattle.invalidation_map.proofs.StepLemmas.{below_all}
-use Rattle.invalidation_map.proofs.marker.Marker.add_below.Goals as goal
+use Rattle.invalidation_map.proofs.edit_sets.add_below.Goals as goal
 
 pub add_all-requires : goal.add_all-requires
 add_all-requires c =

@@ -6,8 +6,8 @@ use Rattle.invalidation_map.specs.Members.{Members}
 use Rattle.invalidation_map.specs.Marks.{IsGrown}
 use Rattle.invalidation_map.proofs.StepLemmas.{each_get}
 use Rattle.invalidation_map.proofs.GrowthLemmas.{member_added, member_passed}
-use Rattle.invalidation_map.proofs.marker.add_bearing.Goals as goal
-use Rattle.invalidation_map.proofs.marker.add_bearing.Goals.{then-bears_around, else-bears_around}
+use Rattle.invalidation_map.proofs.invalidator.add_bearing.Goals as goal
+use Rattle.invalidation_map.proofs.invalidator.add_bearing.Goals.{then-bears_around, else-bears_around}
 
 pub add-requires : goal.add-requires
 add-requires c =

@@ -3,7 +3,7 @@ use Rattle.std.proofs.lemmas.List.{get_or-map}
 use Rattle.scene_model.proofs.Numbers.{differs}
 use Rattle.dom_edits.specs.TouchView.{touch_seen}
 use Rattle.invalidation_map.proofs.KeyLemmas.{key_at, other_key}
-use Rattle.invalidation_map.proofs.rows.Dependencies.is_of.Goals as goal
+use Rattle.invalidation_map.proofs.rows.InvalidationMap.is_of.Goals as goal
 
 pub returns-else-index-key : goal.returns-else-index-key
 returns-else-index-key c = λ d.

@@ -2,7 +2,7 @@ use Rattle.std.proofs.Common.{◌≡◌, ◌+◌, ◌-◌, ◌++◌, true, false
 use Rattle.std.proofs.lemmas.List.{take_all}
 use Rattle.invalidation_map.specs.Members.{AreFlags, Members}
 use Rattle.invalidation_map.proofs.RoomLemmas.{flags_grown, front_stays, list_grown}
-use Rattle.invalidation_map.proofs.element_set.ElementSet.grow.Goals as goal
+use Rattle.invalidation_map.proofs.element_set.ElementSet.reserve.Goals as goal
 
 pub invariant_of-self-2 : goal.invariant_of-self-2
 invariant_of-self-2 c =
