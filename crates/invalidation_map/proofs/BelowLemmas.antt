@@ -18,7 +18,8 @@ or_parted false true c = refl
 or_parted false false true = refl
 or_parted false false false = refl
 
-pub below_added : (doc : List Element) (n : ℕ) (empty reached old mid new : Members) (shown : List ℕ) → empty.items ≡ [] → AreLed (is_in_relation doc descendant) (n ∷ []) empty reached → shown ≡ reached.items → mid ≡ added old n → AreAdded shown mid new → IsGrown (is_below doc n) old new
+pub below_added : (doc : List Element) (n : ℕ) (empty reached old mid new : Members) (shown : List ℕ) → empty.items ≡ [] → AreLed (is_in_relation doc descendant) (n ∷ []) empty reached
+    → shown ≡ reached.items → mid ≡ added old n → AreAdded shown mid new → IsGrown (is_below doc n) old new
 below_added doc n empty reached old mid new shown none led same one more = record {
   room = more.room ∙ first.room;
   each = λ x.

@@ -67,7 +67,8 @@ module _ (doc : List Element) (from : List ℕ) (valid : 0 < length from → IsV
   descent_begins old now none led = record {
     room = led.room;
     below = below;
-    first = λ x p e i. led.each x ∙ or_right (is_in x old.items) (list_any (λ y. is_in_relation doc child y x) from) (in_any (λ y. is_in_relation doc child y x) p from i (option_in (parent_of doc x) p e));
+    first = λ x p e i. led.each x ∙ or_right (is_in x old.items) (list_any (λ y. is_in_relation doc child y x) from)
+        (in_any (λ y. is_in_relation doc child y x) p from i (option_in (parent_of doc x) p e));
     next = λ x p e i. absurd (false≢true i);
   }
     where
@@ -77,7 +78,8 @@ module _ (doc : List Element) (from : List ℕ) (valid : 0 < length from → IsV
           let (y, (i, t)) = any_in (λ y. is_in_relation doc child y x) from any in
           in_any (λ y. is_in_relation doc descendant y x) y from i (child_below doc (valid (some_to_lead (λ y. is_in_relation doc child y x) from any)) y x (in_option (parent_of doc x) y t))
 
-  pub descent_next : (done x : ℕ) (old now later : Members) → IsDescent doc from done old now → slice_get now.items done ≡ Some x → AreAdded (children doc x) now later → IsDescent doc from (done + 1) old later
+  pub descent_next : (done x : ℕ) (old now later : Members) → IsDescent doc from done old now → slice_get now.items done ≡ Some x → AreAdded (children doc x) now later
+      → IsDescent doc from (done + 1) old later
   descent_next done x old now later d got added = record {
     room = added.room ∙ d.room;
     below = λ z h. elim (or_cases (is_in z now.items) (is_in z (children doc x)) (sym (added.each z) ∙ h)) [
@@ -126,6 +128,7 @@ module _ (doc : List Element) (from : List ℕ) (valid : 0 < length from → IsV
     pub descent_ends : old.items ≡ [] → AreLed (is_in_relation doc descendant) from old now
     descent_ends none = record {
       room = d.room;
-      each = λ x. both_ways (is_in x now.items) (list_any (λ y. is_in_relation doc descendant y x) from) (d.below x) (there x) ∙ ap (λ l. is_in x l || list_any (λ y. is_in_relation doc descendant y x) from) (sym none);
+      each = λ x. both_ways (is_in x now.items) (list_any (λ y. is_in_relation doc descendant y x) from) (d.below x) (there x)
+          ∙ ap (λ l. is_in x l || list_any (λ y. is_in_relation doc descendant y x) from) (sym none);
       front = ap (λ l. take (length l) now.items) none ∙ sym none;
     }

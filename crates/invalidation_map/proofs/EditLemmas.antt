@@ -72,7 +72,9 @@ same_tags before now edit sound shaped h = by (refusal before (doc_edit_seen edi
     by (Some why) e k = absurd (cc)
 
 -- so a set that was empty has what is marked
-pub marks_are : (before now : Document) (edit : DocEdit) (pairs : List (Touch × ℕ)) (rows : List Row) (selectors : List Selector) (old new : Members) (shown list : List ℕ) → IsSound before → IsShaped (doc_edit_seen edit) → applied before (doc_edit_seen edit) ≡ accepted now → AreTouched before.elements now.elements pairs → old.items ≡ [] → IsPermutation (rows_of selectors) rows → AreMarked now.elements pairs rows old new → shown ≡ new.items → list ≡ shown → (x : ℕ) → is_in x list ≡ is_marked before.elements now.elements selectors x
+pub marks_are : (before now : Document) (edit : DocEdit) (pairs : List (Touch × ℕ)) (rows : List Row) (selectors : List Selector) (old new : Members) (shown list : List ℕ) → IsSound before
+    → IsShaped (doc_edit_seen edit) → applied before (doc_edit_seen edit) ≡ accepted now → AreTouched before.elements now.elements pairs → old.items ≡ [] → IsPermutation (rows_of selectors) rows
+    → AreMarked now.elements pairs rows old new → shown ≡ new.items → list ≡ shown → (x : ℕ) → is_in x list ≡ is_marked before.elements now.elements selectors x
 marks_are before now edit pairs rows selectors old new shown list sound shaped accepts touched none are marked same copied x =
     ap (is_in x) (copied ∙ same)
     ∙ ((marked before.elements selectors (same_tags before now edit sound shaped accepts) touched.exact are).each x

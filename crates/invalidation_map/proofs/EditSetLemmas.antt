@@ -1,5 +1,5 @@
 -- The sets that edits fill: what is known of one of them is known of all.
-use Rattle.std.proofs.Common.{◌≡◌, ℕ, ◌<◌, ◌≤◌, ◌&&◌, nat_le, Bool, List, refl, arith}
+use Rattle.std.proofs.Common.{◌≡◌, ℕ, ◌≤◌, ◌&&◌, nat_le, Bool, List, refl, arith}
 use Rattle.scene_model.specs.Element.{Element}
 use Rattle.invalidation_map.specs.EditMembers.{is_given}
 use Rattle.invalidation_map.specs.Members.{Members}

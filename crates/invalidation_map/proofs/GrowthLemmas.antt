@@ -83,7 +83,8 @@ module _ (test : ℕ → Bool) (from : List ℕ) (i : ℕ) (m n : Members) (l : 
       record {
         room = one.room ∙ grown.room;
         each = λ x.
-            one.each x ∙ (ap (λ b. b || is_in x (y ∷ [])) (grown.each x) ∙ (tested (is_in x m.items) (test x) (is_in x (take i from)) (is_in x (y ∷ [])) (passes_it x (y == x) refl h) ∙ ap (λ b. is_in x m.items || (test x && b)) (sym (more x))));
+            one.each x ∙ (ap (λ b. b || is_in x (y ∷ [])) (grown.each x)
+            ∙ (tested (is_in x m.items) (test x) (is_in x (take i from)) (is_in x (y ∷ [])) (passes_it x (y == x) refl h) ∙ ap (λ b. is_in x m.items || (test x && b)) (sym (more x))));
       }
 
   pub member_passed : test (get_or from i 0) ≡ false → IsGrown (λ x. test x && is_in x (take (i + 1) from)) m n
@@ -118,7 +119,8 @@ module _ (doc : List Element) (pairs : List (Touch × ℕ)) (touch : Touch) (xs 
       there : list_any (λ y. reaches doc path y x) xs ≡ true → is_led_to doc pairs touch path x ≡ true
       there h =
           let (y, (i, t)) = any_in (λ y. reaches doc path y x) xs h in
-          in_any (λ y. is_listed pairs touch y && reaches doc path y x) y (numbers doc) (sym (is_element-numbers doc y) ∙ each_is_in (IsElement doc) y xs are i) (and_from (is_listed pairs touch y) (reaches doc path y x) (sym (listed y) ∙ i) t)
+          in_any (λ y. is_listed pairs touch y && reaches doc path y x) y (numbers doc) (sym (is_element-numbers doc y) ∙ each_is_in (IsElement doc) y xs are i)
+          (and_from (is_listed pairs touch y) (reaches doc path y x) (sym (listed y) ∙ i) t)
 
       back : is_led_to doc pairs touch path x ≡ true → list_any (λ y. reaches doc path y x) xs ≡ true
       back h =
@@ -126,14 +128,18 @@ module _ (doc : List Element) (pairs : List (Touch × ℕ)) (touch : Touch) (xs 
           let parts = and_parts (is_listed pairs touch y) (reaches doc path y x) t in
           in_any (λ y. reaches doc path y x) y xs (listed y ∙ parts.0) parts.1
 
-pub added_elements : (doc : List Element) (pairs : List (Touch × ℕ)) (touch : Touch) (xs : List ℕ) → ((y : ℕ) → is_in y xs ≡ is_listed pairs touch y) → AreAtElements doc pairs → (cleared first : Members) → cleared.items ≡ [] → AreAdded xs cleared first → AreElements doc first.items
+pub added_elements : (doc : List Element) (pairs : List (Touch × ℕ)) (touch : Touch) (xs : List ℕ) → ((y : ℕ) → is_in y xs ≡ is_listed pairs touch y) → AreAtElements doc pairs
+    → (cleared first : Members) → cleared.items ≡ [] → AreAdded xs cleared first → AreElements doc first.items
 added_elements doc pairs touch xs listed are cleared first none more =
     listed_elements doc pairs touch first.items (begins doc pairs touch xs listed cleared first none more) are
 
 -- by a row
 
 module _ (doc : List Element) (pairs : List (Touch × ℕ)) (row : Row) (elements : List ℕ) (listed : (y : ℕ) → is_in y elements ≡ is_listed pairs row.touch y) where
-  pub marked_by_row : (cleared first : Members) (reached shown bearing : List ℕ) (path : List Step) (key : Key) (marks new : Members) → AreAtElements doc pairs → cleared.items ≡ [] → AreAdded elements cleared first → path ≡ row.path → AreReached doc path first.items reached → shown ≡ reached → key ≡ row.key → ((x : ℕ) → is_in x bearing ≡ option_map_or (λ touch. is_listed pairs touch x) (touch_of_key key) false) → IsGrown (λ x. (bears doc key x || is_in x bearing) && is_in x shown) marks new → IsGrown (marks_by_row doc pairs row) marks new
+  pub marked_by_row : (cleared first : Members) (reached shown bearing : List ℕ) (path : List Step) (key : Key) (marks new : Members) → AreAtElements doc pairs → cleared.items ≡ []
+      → AreAdded elements cleared first → path ≡ row.path → AreReached doc path first.items reached → shown ≡ reached → key ≡ row.key
+      → ((x : ℕ) → is_in x bearing ≡ option_map_or (λ touch. is_listed pairs touch x) (touch_of_key key) false) → IsGrown (λ x. (bears doc key x || is_in x bearing) && is_in x shown) marks new
+      → IsGrown (marks_by_row doc pairs row) marks new
   marked_by_row cleared first reached shown bearing path key marks new are none more way to same alike borne grown =
       grown_same (λ x. (bears doc key x || is_in x bearing) && is_in x shown) (marks_by_row doc pairs row) marks new (λ x.
       ap (λ c. (bears doc key x || c) && is_in x shown) (borne x)

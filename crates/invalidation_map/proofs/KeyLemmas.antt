@@ -1,5 +1,6 @@
 -- Rows with the keys of their touches: those of one key are found, and all others mark nothing.
-use Rattle.std.proofs.Common.{◌≡◌, ℕ, zero, suc, ◌+◌, ◌<◌, ◌≤◌, ◌==◌, ◌||◌, ◌&&◌, Bool, true, false, List, [], ◌∷◌, ◌++◌, length, map, take, drop, get_or, refl, sym, ap, ◌∙◌, subst, inl, inr, arith, length-drop}
+use Rattle.std.proofs.Common.{◌≡◌, ℕ, zero, suc, ◌+◌, ◌<◌, ◌≤◌, ◌==◌, ◌||◌, ◌&&◌, Bool, true, false, List, [], ◌∷◌, ◌++◌, length, map, take, drop, get_or, refl, sym, ap, ◌∙◌}
+use Rattle.std.proofs.Common.{subst, inl, inr, arith, length-drop}
 use Rattle.std.specs.List.{list_any}
 use Rattle.std.proofs.Math.Bool.{or_assoc}
 use Rattle.std.proofs.lemmas.Bool.{and_from, and_parts, and_right, eq-eqb, false≢true, or_cases, or_left, or_right}
@@ -67,11 +68,13 @@ get_any (x ∷ xs) zero c d l = refl
 get_any (x ∷ xs) (suc n) c d l = get_any xs n c d (omega arith)
 
 -- a set that grows by something, and then by each of a list
-pub grown_next : {X : Type 0} (base : ℕ → Bool) (f : X → ℕ → Bool) (near : List X) (i : ℕ) (x : X) (g : ℕ → Bool) (m n o : Members) → i < length near → x ≡ get_or near i x → ((y : ℕ) → g y ≡ f x y) → IsGrown (λ y. base y || list_any (λ x. f x y) (take i near)) m n → IsGrown g n o → IsGrown (λ y. base y || list_any (λ x. f x y) (take (i + 1) near)) m o
+pub grown_next : {X : Type 0} (base : ℕ → Bool) (f : X → ℕ → Bool) (near : List X) (i : ℕ) (x : X) (g : ℕ → Bool) (m n o : Members) → i < length near → x ≡ get_or near i x → ((y : ℕ) → g y ≡ f x y)
+    → IsGrown (λ y. base y || list_any (λ x. f x y) (take i near)) m n → IsGrown g n o → IsGrown (λ y. base y || list_any (λ x. f x y) (take (i + 1) near)) m o
 grown_next base f near i x g m n o l is same grown more = record {
   room = more.room ∙ grown.room;
   each = λ y.
-      more.each y ∙ (ap (λ b. b || g y) (grown.each y) ∙ (or_assoc (is_in y m.items) (base y || list_any (λ x. f x y) (take i near)) (g y) ∙ ap (λ b. is_in y m.items || b) (or_assoc (base y) (list_any (λ x. f x y) (take i near)) (g y) ∙ ap (λ b. base y || b) (longer y))));
+      more.each y ∙ (ap (λ b. b || g y) (grown.each y) ∙ (or_assoc (is_in y m.items) (base y || list_any (λ x. f x y) (take i near)) (g y)
+      ∙ ap (λ b. is_in y m.items || b) (or_assoc (base y) (list_any (λ x. f x y) (take i near)) (g y) ∙ ap (λ b. base y || b) (longer y))));
 }
   where
     longer : (y : ℕ) → (list_any (λ x. f x y) (take i near) || g y) ≡ list_any (λ x. f x y) (take (i + 1) near)
@@ -172,18 +175,23 @@ module _ (doc : List Element) (pairs : List (model.Touch × ℕ)) where
         let led = (and_parts (bears_around (is_listed pairs) doc row.key x) (is_led_to doc pairs row.touch row.path x) h).1 in
         let (y, (i, t)) = any_in (λ y. is_listed pairs row.touch y && reaches doc row.path y x) (numbers doc) led in
         let here = (and_parts (is_listed pairs row.touch y) (reaches doc row.path y x) t).0 in
-        any_weaker (λ (touch : Touch). same_touch row.touch (touch_seen touch)) (λ (touch : Touch). same_touch row.touch (touch_seen touch) && true) (λ touch s. and_from (same_touch row.touch (touch_seen touch)) true s refl) touches
+        any_weaker (λ (touch : Touch). same_touch row.touch (touch_seen touch)) (λ (touch : Touch). same_touch row.touch (touch_seen touch) && true)
+        (λ touch s. and_from (same_touch row.touch (touch_seen touch)) true s refl) touches
         (sym (any-map (same_touch row.touch) touch_seen touches) ∙ all row.touch y here)
 
     -- no other row marks anything
     pub by_touches : (rows : List Row) → list_any (λ (touch : Touch). marks_by_touch doc pairs rows (touch_seen touch) x) touches ≡ list_any (λ row. marks_by_row doc pairs row x) rows
     by_touches rows =
         exchange (λ (touch : Touch) (row : Row). same_touch row.touch (touch_seen touch) && marks_by_row doc pairs row x) touches rows
-        ∙ any_alike (λ (row : Row). list_any (λ (touch : Touch). same_touch row.touch (touch_seen touch) && marks_by_row doc pairs row x) touches) (λ row. marks_by_row doc pairs row x) rows (λ row. row_found row (marks_by_row doc pairs row x) refl)
+        ∙ any_alike (λ (row : Row). list_any (λ (touch : Touch). same_touch row.touch (touch_seen touch) && marks_by_row doc pairs row x) touches) (λ row. marks_by_row doc pairs row x) rows
+        (λ row. row_found row (marks_by_row doc pairs row x) refl)
 
-  pub by_all_touches : (style : ℕ → Bool) (touches : List Touch) (i : ℕ) (rows : List Row) (m n : Members) → AreAllTouches (map touch_seen touches) pairs → length touches ≤ i → IsGrown (λ x. style x || list_any (λ touch. marks_by_touch doc pairs rows (touch_seen touch) x) (take i touches)) m n → IsGrown (λ x. style x || list_any (λ row. marks_by_row doc pairs row x) rows) m n
+  pub by_all_touches : (style : ℕ → Bool) (touches : List Touch) (i : ℕ) (rows : List Row) (m n : Members) → AreAllTouches (map touch_seen touches) pairs → length touches ≤ i
+      → IsGrown (λ x. style x || list_any (λ touch. marks_by_touch doc pairs rows (touch_seen touch) x) (take i touches)) m n
+      → IsGrown (λ x. style x || list_any (λ row. marks_by_row doc pairs row x) rows) m n
   by_all_touches style touches i rows m n all l grown =
-      grown_same (λ x. style x || list_any (λ (touch : Touch). marks_by_touch doc pairs rows (touch_seen touch) x) (take i touches)) (λ x. style x || list_any (λ row. marks_by_row doc pairs row x) rows) m n
+      grown_same (λ x. style x || list_any (λ (touch : Touch). marks_by_touch doc pairs rows (touch_seen touch) x) (take i touches))
+      (λ x. style x || list_any (λ row. marks_by_row doc pairs row x) rows) m n
       (λ x. ap (λ b. style x || b) (ap (list_any (λ (touch : Touch). marks_by_touch doc pairs rows (touch_seen touch) x)) (take_all i touches l) ∙ by_touches touches all x rows)) grown
 
 -- the three touches of lists
@@ -191,7 +199,8 @@ abbrev pub code_touches : List Touch
 code_touches = kinds.Empty ∷ kinds.Positional ∷ kinds.Sibling ∷ []
 
 -- what the three touches of lists add, one after the other
-pub grown_three : (f : model.Touch → ℕ → Bool) (m n o q : Members) → IsGrown (f model.empty) m n → IsGrown (f model.positional) n o → IsGrown (f model.sibling) o q → IsGrown (λ x. list_any (λ touch. f touch x) list_touches) m q
+pub grown_three : (f : model.Touch → ℕ → Bool) (m n o q : Members) → IsGrown (f model.empty) m n → IsGrown (f model.positional) n o → IsGrown (f model.sibling) o q
+    → IsGrown (λ x. list_any (λ touch. f touch x) list_touches) m q
 grown_three f m n o q first second third = record {
   room = third.room ∙ (second.room ∙ first.room);
   each = λ x.
@@ -208,12 +217,15 @@ grown_three f m n o q first second third = record {
     turned false false false false = refl
 
 -- where lists changed: what the style's rows add, and then those
-pub grown_lists : (style : ℕ → Bool) (by : Touch → ℕ → Bool) (f : model.Touch → ℕ → Bool) (touches : List Touch) (i : ℕ) (m n o : Members) → ((touch : Touch) (x : ℕ) → by touch x ≡ f (touch_seen touch) x) → length touches ≡ 0
+pub grown_lists : (style : ℕ → Bool) (by : Touch → ℕ → Bool) (f : model.Touch → ℕ → Bool) (touches : List Touch) (i : ℕ) (m n o : Members)
+    → ((touch : Touch) (x : ℕ) → by touch x ≡ f (touch_seen touch) x) → length touches ≡ 0
     → IsGrown (λ x. style x || list_any (λ touch. by touch x) (take i touches)) m n → IsGrown (λ x. list_any (λ touch. f touch x) list_touches) n o
     → IsGrown (λ x. style x || list_any (λ touch. f (touch_seen touch) x) code_touches) m o
 grown_lists style by f touches i m n o same none first second = record {
   room = second.room ∙ first.room;
-  each = λ x. second.each x ∙ (ap (λ b. b || list_any (λ touch. f touch x) list_touches) (first.each x ∙ ap (λ l. is_in x m.items || (style x || list_any (λ touch. by touch x) l)) (nothing i touches none)) ∙ turned (is_in x m.items) (style x) (list_any (λ touch. f touch x) list_touches));
+  each = λ x. second.each x ∙ (ap (λ b. b || list_any (λ touch. f touch x) list_touches)
+      (first.each x ∙ ap (λ l. is_in x m.items || (style x || list_any (λ touch. by touch x) l)) (nothing i touches none))
+      ∙ turned (is_in x m.items) (style x) (list_any (λ touch. f touch x) list_touches));
 }
   where
     nothing : (i : ℕ) (l : List Touch) → length l ≡ 0 → take i l ≡ []

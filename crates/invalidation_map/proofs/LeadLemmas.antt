@@ -65,12 +65,15 @@ module _ (doc : List Element) (v : IsValid doc) where
   -- so what it leads to need not be known as an element
   pub later_led : (y x : ℕ) → IsElement doc y → is_in x (right_of y (siblings doc y)) ≡ is_in_relation doc later_sibling y x
   later_led y x t =
-      both_ways (is_in x (right_of y (siblings doc y))) (is_in_relation doc later_sibling y x) (λ h. later_leads doc v y x t (each_is_in (IsElement doc) x (right_of y (siblings doc y)) (after_are y) h) ∙ h) (λ h. sym (later_leads doc v y x t (led_element later_sibling y x h)) ∙ h)
+      both_ways (is_in x (right_of y (siblings doc y))) (is_in_relation doc later_sibling y x)
+      (λ h. later_leads doc v y x t (each_is_in (IsElement doc) x (right_of y (siblings doc y)) (after_are y) h) ∙ h) (λ h. sym (later_leads doc v y x t (led_element later_sibling y x h)) ∙ h)
 
   pub next_led : (y x : ℕ) → IsElement doc y → is_in x (take 1 (right_of y (siblings doc y))) ≡ is_in_relation doc next_sibling y x
   next_led y x t =
       let first : is_in x (take 1 (right_of y (siblings doc y))) ≡ is_in x (option_to_list (slice_get (right_of y (siblings doc y)) 0)) = ap (λ l. is_in x l) (one_at (right_of y (siblings doc y))) in
-      both_ways (is_in x (take 1 (right_of y (siblings doc y)))) (is_in_relation doc next_sibling y x) (λ h. next_leads doc v y x t (each_is_in (IsElement doc) x (take 1 (right_of y (siblings doc y))) (next_are y) h) ∙ (sym first ∙ h)) (λ h. first ∙ (sym (next_leads doc v y x t (led_element next_sibling y x h)) ∙ h))
+      both_ways (is_in x (take 1 (right_of y (siblings doc y)))) (is_in_relation doc next_sibling y x)
+      (λ h. next_leads doc v y x t (each_is_in (IsElement doc) x (take 1 (right_of y (siblings doc y))) (next_are y) h) ∙ (sym first ∙ h))
+      (λ h. first ∙ (sym (next_leads doc v y x t (led_element next_sibling y x h)) ∙ h))
 
   distinct_at : (x : ℕ) (b : Bool) (o : Option ℕ) → IsDistinct nat_eq (cond b (beside doc x o) [])
   unfolding IsDistinct

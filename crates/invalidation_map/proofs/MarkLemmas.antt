@@ -54,31 +54,39 @@ module _ (b : List Element) (pairs : List (Touch × ℕ)) where
       let (y, (i, t)) = any_in (λ y. is_listed pairs k y && reaches b path y x) (numbers b) h in
       reaches_element b path y x (is_element-numbers b y ∙ i) (and_parts (is_listed pairs k y) (reaches b path y x) t).1
 
-  row_hit : (key : Key) (path : List Step) (x : ℕ) (o : Option Touch) (rest : List Row) (h : Bool) → list_any (λ row. marks_by_row b pairs row x) rest ≡ (bears_around (is_listed pairs) b key x && h) → list_any (λ row. marks_by_row b pairs row x) (cons_option (option_map (λ touch. record { touch = touch; path = path; key = key }) o) rest) ≡ (bears_around (is_listed pairs) b key x && (option_map_or (λ k. is_led_to b pairs k path x) o false || h))
+  row_hit : (key : Key) (path : List Step) (x : ℕ) (o : Option Touch) (rest : List Row) (h : Bool) → list_any (λ row. marks_by_row b pairs row x) rest ≡ (bears_around (is_listed pairs) b key x && h)
+      → list_any (λ row. marks_by_row b pairs row x) (cons_option (option_map (λ touch. record { touch = touch; path = path; key = key }) o) rest)
+      ≡ (bears_around (is_listed pairs) b key x && (option_map_or (λ k. is_led_to b pairs k path x) o false || h))
   row_hit key path x None rest h e = e
   row_hit key path x (Some k) rest h e =
       ap (λ c. (bears_around (is_listed pairs) b key x && is_led_to b pairs k path x) || c) e
       ∙ and_or (bears_around (is_listed pairs) b key x) (is_led_to b pairs k path x) h
 
-  by_rows : (key : Key) (x : ℕ) (ds : List Dependency) → list_any (λ row. marks_by_row b pairs row x) (filter_map (row_of key) ds) ≡ (bears_around (is_listed pairs) b key x && list_any (λ d. is_hit_after (is_listed pairs) b d x) ds)
+  by_rows : (key : Key) (x : ℕ) (ds : List Dependency) → list_any (λ row. marks_by_row b pairs row x)
+      (filter_map (row_of key) ds) ≡ (bears_around (is_listed pairs) b key x && list_any (λ d. is_hit_after (is_listed pairs) b d x) ds)
   by_rows key x [] = no_and (bears_around (is_listed pairs) b key x)
   by_rows key x (d ∷ ds) =
       row_hit key d.path x (touch_of d.part) (filter_map (row_of key) ds) (list_any (λ d. is_hit_after (is_listed pairs) b d x) ds) (by_rows key x ds)
 
   by_selectors : (x : ℕ) (selectors : List Selector) → list_any (λ row. marks_by_row b pairs row x) (rows_of selectors) ≡ list_any (λ selector. marks_after (is_listed pairs) b selector x) selectors
   by_selectors x selectors =
-      any-flat_map (λ row. marks_by_row b pairs row x) rows_of_selector selectors ∙ any_alike (λ selector. list_any (λ row. marks_by_row b pairs row x) (rows_of_selector selector)) (λ selector. marks_after (is_listed pairs) b selector x) selectors (λ selector. by_rows (key_of selector) x (dependencies selector))
+      any-flat_map (λ row. marks_by_row b pairs row x) rows_of_selector selectors
+      ∙ any_alike (λ selector. list_any (λ row. marks_by_row b pairs row x) (rows_of_selector selector)) (λ selector. marks_after (is_listed pairs) b selector x) selectors
+      (λ selector. by_rows (key_of selector) x (dependencies selector))
 
   -- no row marks what is not in the document
   none_off : (rows : List Row) (x : ℕ) → is_element b x ≡ false → list_any (λ row. marks_by_row b pairs row x) rows ≡ false
   none_off [] x off = refl
   none_off (row ∷ rows) x off =
       or_from (marks_by_row b pairs row x) (list_any (λ row. marks_by_row b pairs row x) rows)
-      (false_from_ne_true (marks_by_row b pairs row x) (λ h. false≢true (sym off ∙ led_to_element row.touch row.path x (and_parts (bears_around (is_listed pairs) b row.key x) (is_led_to b pairs row.touch row.path x) h).1)))
+      (false_from_ne_true (marks_by_row b pairs row x) (λ h. false≢true
+      (sym off ∙ led_to_element row.touch row.path x (and_parts (bears_around (is_listed pairs) b row.key x) (is_led_to b pairs row.touch row.path x) h).1)))
       (none_off rows x off)
 
   module _ (at : AreAtElements b pairs) where
-    marks_at : (selectors : List Selector) (x : ℕ) (e : Bool) → is_element b x ≡ e → (is_listed pairs style_touch x || list_any (λ row. marks_by_row b pairs row x) (rows_of selectors)) ≡ (e && (is_listed pairs style_touch x || list_any (λ selector. marks_after (is_listed pairs) b selector x) selectors))
+    marks_at : (selectors : List Selector) (x : ℕ) (e : Bool) → is_element b x ≡ e
+        → (is_listed pairs style_touch x || list_any (λ row. marks_by_row b pairs row x) (rows_of selectors))
+        ≡ (e && (is_listed pairs style_touch x || list_any (λ selector. marks_after (is_listed pairs) b selector x) selectors))
     marks_at selectors x true there = ap (λ c. is_listed pairs style_touch x || c) (by_selectors x selectors)
     marks_at selectors x false off =
         or_from (is_listed pairs style_touch x) (list_any (λ row. marks_by_row b pairs row x) (rows_of selectors))
@@ -86,7 +94,10 @@ module _ (b : List Element) (pairs : List (Touch × ℕ)) where
         (none_off (rows_of selectors) x off)
 
     -- what the rows of some selectors add is what they mark
-    pub marked : (a : List Element) → SameTags a b → AreListed a b pairs → (selectors : List Selector) (rows : List Row) (style : Touch) (old new : Members) → style ≡ style_touch → IsPermutation (rows_of selectors) rows → IsGrown (λ x. is_listed pairs style x || list_any (λ row. marks_by_row b pairs row x) rows) old new → IsGrown (is_marked a b selectors) old new
+    pub marked : (a : List Element) → SameTags a b → AreListed a b pairs → (selectors : List Selector) (rows : List Row) (style : Touch) (old new : Members) → style ≡ style_touch
+        → IsPermutation (rows_of selectors) rows → IsGrown (λ x. is_listed pairs style x || list_any (λ row. marks_by_row b pairs row x) rows) old new → IsGrown (is_marked a b selectors) old new
     marked a tags listed selectors rows style old new is_style are grown =
         grown_same (λ x. is_listed pairs style x || list_any (λ row. marks_by_row b pairs row x) rows) (is_marked a b selectors) old new
-        (λ x. ap (λ k. is_listed pairs k x || list_any (λ row. marks_by_row b pairs row x) rows) is_style ∙ (ap (λ c. is_listed pairs style_touch x || c) (sym (list_any-IsPermutation (λ row. marks_by_row b pairs row x) (rows_of selectors) rows are)) ∙ (marks_at selectors x (is_element b x) refl ∙ sym (is_marked_by a b tags (is_listed pairs) listed selectors x)))) grown
+        (λ x. ap (λ k. is_listed pairs k x || list_any (λ row. marks_by_row b pairs row x) rows) is_style
+        ∙ (ap (λ c. is_listed pairs style_touch x || c) (sym (list_any-IsPermutation (λ row. marks_by_row b pairs row x) (rows_of selectors) rows are))
+        ∙ (marks_at selectors x (is_element b x) refl ∙ sym (is_marked_by a b tags (is_listed pairs) listed selectors x)))) grown

@@ -33,7 +33,8 @@ more_at n z ws false h = h
 right_more : (n z w : ℕ) (ws : List ℕ) → is_in z (right_of n ws) ≡ true → is_in z (right_of n (w ∷ ws)) ≡ true
 right_more n z w ws h = more_at n z ws (w == n) h
 
-of_right_at : (n x z w : ℕ) (ws : List ℕ) (b : Bool) → is_in z (right_of n (cond b ws (right_of x ws))) ≡ true → (is_in z (right_of n (right_of x ws)) ≡ true → is_in z (right_of n ws) ≡ true) → is_in z (right_of n ws) ≡ true
+of_right_at : (n x z w : ℕ) (ws : List ℕ) (b : Bool) → is_in z (right_of n (cond b ws (right_of x ws))) ≡ true → (is_in z (right_of n (right_of x ws)) ≡ true → is_in z (right_of n ws) ≡ true)
+    → is_in z (right_of n ws) ≡ true
 of_right_at n x z w ws true h r = h
 of_right_at n x z w ws false h r = r h
 
@@ -50,7 +51,8 @@ unfolding IsDistinct
 distinct_right y [] d = tt
 distinct_right y (w ∷ ws) d = distinct_at y w ws (w == y) d.1 (distinct_right y ws d.1)
 
-later_at : (y n z w : ℕ) (ws : List ℕ) (b c : Bool) → (w == n) ≡ c → AllByRecursion (λ u. (w == u) ≡ false) ws → is_in n (cond b ws (right_of y ws)) ≡ true → is_in z (cond c ws (right_of n ws)) ≡ true → (is_in n (right_of y ws) ≡ true → is_in z (right_of n ws) ≡ true → is_in z (right_of y ws) ≡ true) → is_in z (cond b ws (right_of y ws)) ≡ true
+later_at : (y n z w : ℕ) (ws : List ℕ) (b c : Bool) → (w == n) ≡ c → AllByRecursion (λ u. (w == u) ≡ false) ws → is_in n (cond b ws (right_of y ws)) ≡ true → is_in z (cond c ws (right_of n ws)) ≡ true
+    → (is_in n (right_of y ws) ≡ true → is_in z (right_of n ws) ≡ true → is_in z (right_of y ws) ≡ true) → is_in z (cond b ws (right_of y ws)) ≡ true
 later_at y n z w ws true true e d h k r = k
 later_at y n z w ws true false e d h k r = right_in ws n z k
 later_at y n z w ws false true e d h k r = absurd (false≢true (sym (absent_same w n ws d e) ∙ right_in ws y n h))

@@ -41,15 +41,20 @@ module _ (doc : List Element) where
       led_element doc (valid (some_to_lead (λ y. is_in_relation doc k y x) from any)) k y x t)
 
   -- one step of the path is taken
-  pub step_taken : (path ahead : List Step) (step : Step) (first from new : List ℕ) → AreElements doc new → AreStepped doc step from new → IsAhead doc path (step ∷ ahead) first from → IsAhead doc path ahead first new
-  step_taken path ahead step first from new are to is = record { each = λ x. both_ways (list_any (λ z. reaches doc ahead z x) new) (list_any (λ y. reaches doc (step ∷ ahead) y x) from) (there x) (back x) ∙ is.each x }
+  pub step_taken : (path ahead : List Step) (step : Step) (first from new : List ℕ) → AreElements doc new → AreStepped doc step from new → IsAhead doc path (step ∷ ahead) first from
+      → IsAhead doc path ahead first new
+  step_taken path ahead step first from new are to is = record {
+    each = λ x. both_ways (list_any (λ z. reaches doc ahead z x) new) (list_any (λ y. reaches doc (step ∷ ahead) y x) from) (there x)
+        (back x) ∙ is.each x;
+  }
     where
       there : (x : ℕ) → list_any (λ z. reaches doc ahead z x) new ≡ true → list_any (λ y. reaches doc (step ∷ ahead) y x) from ≡ true
       there x h =
           let (z, (i, t)) = any_in (λ z. reaches doc ahead z x) new h in
           let (y, (j, s)) = any_in (λ y. leads doc step y z) from (sym (to.each z) ∙ i) in
           in_any (λ y. reaches doc (step ∷ ahead) y x) y from j
-          (in_any (λ z. leads doc step y z && reaches doc ahead z x) z (numbers doc) (sym (is_element-numbers doc z) ∙ each_is_in (IsElement doc) z new are i) (and_from (leads doc step y z) (reaches doc ahead z x) s t))
+          (in_any (λ z. leads doc step y z && reaches doc ahead z x) z (numbers doc) (sym (is_element-numbers doc z) ∙ each_is_in (IsElement doc) z new are i)
+          (and_from (leads doc step y z) (reaches doc ahead z x) s t))
 
       back : (x : ℕ) → list_any (λ y. reaches doc (step ∷ ahead) y x) from ≡ true → list_any (λ z. reaches doc ahead z x) new ≡ true
       back x h =
@@ -58,7 +63,8 @@ module _ (doc : List Element) where
           let parts = and_parts (leads doc step y z) (reaches doc ahead z x) t in
           in_any (λ z. reaches doc ahead z x) z new (to.each z ∙ in_any (λ y. leads doc step y z) y from j parts.0) parts.1
 
-  pub path_next : (path : List PathStep) (i : ℕ) (d : PathStep) (first from shown new now : List ℕ) → i < length path → AreElements doc new → AreStepped doc (step_of (get_or path i d)) shown new → shown ≡ from → now ≡ new → IsAhead doc (path_of path) (path_of (drop i path)) first from → IsAhead doc (path_of path) (path_of (drop (i + 1) path)) first now
+  pub path_next : (path : List PathStep) (i : ℕ) (d : PathStep) (first from shown new now : List ℕ) → i < length path → AreElements doc new → AreStepped doc (step_of (get_or path i d)) shown new
+      → shown ≡ from → now ≡ new → IsAhead doc (path_of path) (path_of (drop i path)) first from → IsAhead doc (path_of path) (path_of (drop (i + 1) path)) first now
   path_next path i d first from shown new now l are to same renewed is =
       subst (IsAhead doc (path_of path) (path_of (drop (i + 1) path)) first) (sym renewed)
       (step_taken (path_of path) (path_of (drop (i + 1) path)) (step_of (get_or path i d)) first from new are (subst (λ xs. AreStepped doc (step_of (get_or path i d)) xs new) same to)

@@ -1,5 +1,5 @@
 -- Sets with more room: flags that are not set, and places that are not used, behind those that were there.
-use Rattle.std.proofs.Common.{◌≡◌, ℕ, zero, suc, ◌+◌, ◌-◌, ◌<◌, ◌≤◌, nat_eq, Bool, true, false, cond, List, [], ◌∷◌, ◌++◌, length, take, replicate, get_or, refl, sym, ap, ◌∙◌, subst, arith}
+use Rattle.std.proofs.Common.{◌≡◌, ℕ, zero, suc, ◌-◌, ◌<◌, ◌≤◌, nat_eq, Bool, true, false, cond, List, [], ◌∷◌, ◌++◌, length, take, replicate, get_or, refl, sym, ap, ◌∙◌, subst, arith}
 use Rattle.std.specs.List.{IsDistinct}
 use Rattle.std.proofs.lemmas.List.{length-append, length-replicate, take-append-le, take_all}
 use Rattle.base_model.proofs.Lists.{each_weaker}
@@ -33,12 +33,14 @@ module _ (flags : List Bool) (list : List ℕ) (count k : ℕ) (are : AreFlags f
     room = omega (arith, are.room, length-append list zeros, length-append flags unset, length-replicate {A = ℕ} k 0, length-replicate k false);
     count_is = are.count_is ∙ sym (more_flags flags k);
     each = λ x. more_none flags k x ∙ (are.each x ∙ ap (is_in x) (sym front_stays));
-    below = subst (AreBelow (length (flags ++ replicate k false))) (sym front_stays) (each_weaker (λ y. y < length flags) (λ y. y < length (flags ++ replicate k false)) (λ y l. omega (arith, l, length-append flags unset)) (take count list) are.below);
+    below = subst (AreBelow (length (flags ++ replicate k false))) (sym front_stays)
+        (each_weaker (λ y. y < length flags) (λ y. y < length (flags ++ replicate k false)) (λ y l. omega (arith, l, length-append flags unset)) (take count list) are.below);
     once = subst (IsDistinct nat_eq) (sym front_stays) are.once;
   }
 
 -- a list that has room is filled up
-pub list_grown : (old kept new : List ℕ) (len more n : ℕ) (ok : Bool) → kept ≡ old → new ≡ cond ok (take n kept ++ replicate (n - len) 0) kept → ok ≡ true → length old ≤ n → n - len ≡ more → new ≡ old ++ replicate more 0
+pub list_grown : (old kept new : List ℕ) (len more n : ℕ) (ok : Bool) → kept ≡ old → new ≡ cond ok (take n kept ++ replicate (n - len) 0) kept → ok ≡ true → length old ≤ n → n - len ≡ more
+    → new ≡ old ++ replicate more 0
 list_grown old kept new len more n ok same is done fits count =
     is
     ∙ (ap (λ b. cond b (take n kept ++ replicate (n - len) 0) kept) done

@@ -12,7 +12,8 @@ one_row None = refl
 one_row (Some row) = refl
 
 -- the row of one more dependency, if it has one
-pub row_more : (f : Dependency → Option Row) (g : Dep → Dependency) (deps : List Dep) (i : ℕ) (dep : Dep) (old now new : List Row) (o : Option Row) → i < length deps → dep ≡ get_or deps i dep → now ≡ old ++ filter_map f (map g (take i deps)) → o ≡ f (g dep) → new ≡ now ++ option_to_list o → new ≡ old ++ filter_map f (map g (take (i + 1) deps))
+pub row_more : (f : Dependency → Option Row) (g : Dep → Dependency) (deps : List Dep) (i : ℕ) (dep : Dep) (old now new : List Row) (o : Option Row) → i < length deps → dep ≡ get_or deps i dep
+    → now ≡ old ++ filter_map f (map g (take i deps)) → o ≡ f (g dep) → new ≡ now ++ option_to_list o → new ≡ old ++ filter_map f (map g (take (i + 1) deps))
 row_more f g deps i dep old now new o l is so_far e more =
     more
     ∙ (ap (λ rows. rows ++ option_to_list o) so_far

@@ -1,5 +1,6 @@
 -- Sets of numbers: flags, and a list of the numbers whose flags are set.
-use Rattle.std.proofs.Common.{◌≡◌, ℕ, zero, suc, ◌+◌, ◌<◌, ◌≤◌, ◌==◌, ◌||◌, ◌&&◌, nat_eq, Bool, true, false, not, cond, List, [], ◌∷◌, ◌++◌, length, take, get_or, slice_set, refl, sym, ap, ◌∙◌, subst, inl, inr, arith}
+use Rattle.std.proofs.Common.{◌≡◌, ℕ, zero, suc, ◌+◌, ◌<◌, ◌≤◌, ◌==◌, ◌||◌, ◌&&◌, nat_eq, Bool, true, false, not, cond, List, [], ◌∷◌, ◌++◌, length, take, get_or, slice_set, refl}
+use Rattle.std.proofs.Common.{sym, ap, ◌∙◌, subst, inl, inr, arith}
 use Rattle.std.specs.List.{IsDistinct}
 use Rattle.std.proofs.Math.ListN.{replicate}
 use Rattle.std.proofs.lemmas.Bool.{cases_eq, cond-true, cond-false, eq-eqb, eqb-true, or_parts, true≢false}
@@ -76,14 +77,16 @@ module _ (flags : List Bool) (list : List ℕ) (count x : ℕ) (are : AreFlags f
 
   flags_next : (y : ℕ) → get_or (slice_set flags x true) y false ≡ is_in y (take (count + 1) (slice_set list count x))
   flags_next y =
-      flag_set flags x y true l ∙ (ap (cond (x == y) true) (are.each y) ∙ (or_cond (x == y) (is_in y (take count list)) ∙ (sym (has_last (take count list) x y) ∙ ap (λ items. is_in y items) (sym more))))
+      flag_set flags x y true l ∙ (ap (cond (x == y) true) (are.each y)
+      ∙ (or_cond (x == y) (is_in y (take count list)) ∙ (sym (has_last (take count list) x y) ∙ ap (λ items. is_in y items) (sym more))))
 
   pub flags_added : AreFlags (slice_set flags x true) (slice_set list count x) (count + 1)
   flags_added = record {
     room = length-set list count x ∙ (are.room ∙ sym (length-set flags x true));
     count_is = omega (arith, (set_one flags x l unset).0, are.count_is);
     each = flags_next;
-    below = subst (λ n. AreBelow n (take (count + 1) (slice_set list count x))) (sym (length-set flags x true)) (subst (AreBelow (length flags)) (sym more) (each-append (λ y. y < length flags) (take count list) (x ∷ []) are.below (l, tt)));
+    below = subst (λ n. AreBelow n (take (count + 1) (slice_set list count x))) (sym (length-set flags x true))
+        (subst (AreBelow (length flags)) (sym more) (each-append (λ y. y < length flags) (take count list) (x ∷ []) are.below (l, tt)));
     once = subst (IsDistinct nat_eq) (sym more) (distinct_last (take count list) x are.once (sym (are.each x) ∙ unset));
   }
 

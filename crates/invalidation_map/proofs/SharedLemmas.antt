@@ -76,7 +76,8 @@ module _ (old new : Shared) (paths : IsFront (paths_in old) (paths_in new)) (key
       ∙ ap (λ list. row_seen old row ∷ list) (rows_kept rows (λ k d l. within (suc k) d (omega arith)))
 
   -- one row more
-  module _ (rows : List DependencyRow) (within : AreWithin old rows) (row : DependencyRow) (path : List Step) (key : Key) (path_at : StandsAt (paths_in new) row.path path) (key_at : StandsAt (keys_in new) row.key key) where
+  module _ (rows : List DependencyRow) (within : AreWithin old rows) (row : DependencyRow) (path : List Step) (key : Key) (path_at : StandsAt (paths_in new) row.path path)
+      (key_at : StandsAt (keys_in new) row.key key) where
     row_is : row_seen new row ≡ record { touch = touch_seen row.touch; path = path; key = key }
     row_is =
         ap {B = Row} (λ path. record { touch = touch_seen row.touch; path = path; key = get_or (keys_in new) row.key any_key }) (get_or_from_slice_get (paths_in new) row.path path [] path_at)

@@ -35,16 +35,20 @@ any_last : (p : ℕ → Bool) (xs : List ℕ) (y : ℕ) → list_any p (xs ++ y 
 any_last p xs y = list_any-append p xs (y ∷ []) ∙ ap (λ b. list_any p xs || b) (sym (or_no (p y)))
 
 -- one more of the list
-pub led_next : (f : ℕ → ℕ → Bool) (from ys : List ℕ) (i : ℕ) (m n o : Members) → i < length from → AreLed f (take i from) m n → AreAdded ys n o → ((x : ℕ) → is_in x ys ≡ f (get_or from i 0) x) → AreLed f (take (i + 1) from) m o
+pub led_next : (f : ℕ → ℕ → Bool) (from ys : List ℕ) (i : ℕ) (m n o : Members) → i < length from → AreLed f (take i from) m n → AreAdded ys n o → ((x : ℕ) → is_in x ys ≡ f (get_or from i 0) x)
+    → AreLed f (take (i + 1) from) m o
 led_next f from ys i m n o l led more same = record {
   room = more.room ∙ led.room;
   each = λ x.
-      more.each x ∙ (ap (λ b. b || is_in x ys) (led.each x) ∙ (or_assoc (is_in x m.items) (list_any (λ y. f y x) (take i from)) (is_in x ys) ∙ ap (λ b. is_in x m.items || b) (ap (λ b. list_any (λ y. f y x) (take i from) || b) (same x) ∙ (sym (any_last (λ y. f y x) (take i from) (get_or from i 0)) ∙ ap (list_any (λ y. f y x)) (sym (take_more from i 0 l))))));
+      more.each x ∙ (ap (λ b. b || is_in x ys) (led.each x) ∙ (or_assoc (is_in x m.items) (list_any (λ y. f y x) (take i from)) (is_in x ys)
+      ∙ ap (λ b. is_in x m.items || b) (ap (λ b. list_any (λ y. f y x) (take i from) || b) (same x)
+      ∙ (sym (any_last (λ y. f y x) (take i from) (get_or from i 0)) ∙ ap (list_any (λ y. f y x)) (sym (take_more from i 0 l))))));
   front = front_front m.items n.items o.items led.front more.front;
 }
 
 -- later siblings: a set in which each one's are is closed
-pub closed_now : (doc : List Element) → IsValid doc → (xs : List ℕ) (old now : Members) (x : ℕ) → AreElements doc xs → old.items ≡ [] → AreLed (is_in_relation doc later_sibling) xs old now → IsClosed (right_of x (siblings doc x)) now.items
+pub closed_now : (doc : List Element) → IsValid doc → (xs : List ℕ) (old now : Members) (x : ℕ) → AreElements doc xs → old.items ≡ [] → AreLed (is_in_relation doc later_sibling) xs old now
+    → IsClosed (right_of x (siblings doc x)) now.items
 closed_now doc v xs old now x are none led n z h k =
     let (y, (i, t)) = any_in (λ y. is_in_relation doc later_sibling y n) xs (sym (led.each n ∙ ap (λ l. is_in n l || list_any (λ y. is_in_relation doc later_sibling y n) xs) none) ∙ h) in
     let element : IsElement doc y = each_is_in (IsElement doc) y xs are i in
@@ -54,7 +58,8 @@ closed_now doc v xs old now x are none led n z h k =
     same_siblings doc v x n (right_has n z (siblings doc x) (distinct_siblings doc v x) then) ∙ sym (same_siblings doc v y n (in_after y n (siblings doc y) first)) in
     let after : is_in z (right_of y (siblings doc y)) ≡ true =
     right_later y n z (siblings doc y) (distinct_siblings doc v y) first (ap (λ l. is_in z (right_of n l)) (sym same) ∙ then) in
-    led.each z ∙ or_right (is_in z old.items) (list_any (λ y. is_in_relation doc later_sibling y z) xs) (in_any (λ y. is_in_relation doc later_sibling y z) y xs i (sym (later_led doc v y z element) ∙ after))
+    led.each z ∙ or_right (is_in z old.items) (list_any (λ y. is_in_relation doc later_sibling y z) xs)
+    (in_any (λ y. is_in_relation doc later_sibling y z) y xs i (sym (later_led doc v y z element) ∙ after))
   where
     in_after : (y n : ℕ) (zs : List ℕ) → is_in n (right_of y zs) ≡ true → is_in n zs ≡ true
     in_after y n zs h = right_in zs y n h
@@ -64,8 +69,14 @@ none_same n [] h = refl
 none_same n (x ∷ xs) h = or_from (x == n) (is_in n xs) (differs x n h.0) (none_same n xs h.1)
 
 -- the first that is met is in the set, and so are all after it
-pub met : (numbers : List ℕ) (i : ℕ) (old now : Members) → i < length numbers → IsDistinct nat_eq numbers → IsClosed numbers old.items → AreAdded (take i numbers) old now → is_in (get_or numbers i 0) now.items ≡ true → AreAdded numbers old now
-met numbers i old now l d closed added here = record { room = added.room; each = λ x. added.each x ∙ both_ways (is_in x old.items || is_in x (take i numbers)) (is_in x old.items || is_in x numbers) (there x) (back x); front = added.front }
+pub met : (numbers : List ℕ) (i : ℕ) (old now : Members) → i < length numbers → IsDistinct nat_eq numbers → IsClosed numbers old.items → AreAdded (take i numbers) old now
+    → is_in (get_or numbers i 0) now.items ≡ true → AreAdded numbers old now
+met numbers i old now l d closed added here = record {
+  room = added.room;
+  each = λ x. added.each x
+      ∙ both_ways (is_in x old.items || is_in x (take i numbers)) (is_in x old.items || is_in x numbers) (there x) (back x);
+  front = added.front;
+}
   where
     n : ℕ
     n = get_or numbers i 0

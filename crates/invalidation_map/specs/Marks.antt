@@ -10,6 +10,8 @@ use Rattle.edit_model.specs.Touched.{Touch, is_touched}
 use Rattle.edit_model.specs.TouchedBy.{is_listed}
 use Rattle.edit_model.specs.Marked.{is_marked}
 use Rattle.edit_model.specs.Steady.{SameTags}
+use Rattle.invalidation_map.specs.EditMembers.{EditMembers, but_fresh, but_gone, but_marked}
+use Rattle.invalidation_map.specs.EditMembers.{fresh_in, gone_in, marked_in}
 use Rattle.invalidation_map.specs.Members.{Members}
 use Rattle.invalidation_map.specs.Rows.{Row, rows_of}
 
@@ -25,6 +27,20 @@ AreAtElements doc pairs = AllByRecursion (λ pair. IsElement doc pair.1) pairs
 pub record IsGrown (test : ℕ → Bool) (old new : Members) : Type 0 where
   pub room : new.room ≡ old.room
   pub each : (x : ℕ) → is_in x new.items ≡ (is_in x old.items || test x)
+
+-- Of the sets that edits fill one grew, and all else is as it was.
+
+pub record AddsMarked (test : ℕ → Bool) (old new : EditMembers) : Type 0 where
+  pub grown : IsGrown test (marked_in old) (marked_in new)
+  pub others : but_marked new ≡ but_marked old
+
+pub record AddsFresh (test : ℕ → Bool) (old new : EditMembers) : Type 0 where
+  pub grown : IsGrown test (fresh_in old) (fresh_in new)
+  pub others : but_fresh new ≡ but_fresh old
+
+pub record AddsGone (test : ℕ → Bool) (old new : EditMembers) : Type 0 where
+  pub grown : IsGrown test (gone_in old) (gone_in new)
+  pub others : but_gone new ≡ but_gone old
 
 -- For every document before, with the same tags and from which exactly the listed pairs are touched, and for every list
 -- of selectors with these rows, in whatever order: what was in the set, and the marked elements.

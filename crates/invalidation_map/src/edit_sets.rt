@@ -5,9 +5,8 @@ ghost use Rattle.std.specs.List.{IsDistinct};
 ghost use Rattle.scene_model.specs.Lookups.{IsElement};
 ghost use Rattle.scene_model.specs.Numbers.{is_in};
 ghost use Rattle.change_model.specs.Sound.{is_below};
-ghost use Rattle.invalidation_map.specs.EditMembers.{but_fresh, but_gone, but_marked, but_room};
-ghost use Rattle.invalidation_map.specs.EditMembers.{fresh_in, gone_in, is_given, marked_in};
-ghost use Rattle.invalidation_map.specs.Marks.{AreAtElements, AreMarked, IsGrown};
+ghost use Rattle.invalidation_map.specs.EditMembers.{but_marked, but_room, is_given, marked_in};
+ghost use Rattle.invalidation_map.specs.Marks.{AddsFresh, AddsGone, AreAtElements, AreMarked, IsGrown};
 ghost use Rattle.invalidation_map.specs.Members.{AreAdded, AreBelow};
 ghost use Rattle.invalidation_map.specs.RowView.{rows_in};
 ghost use Rattle.invalidation_map.specs.Steps.{HasRoom};
@@ -150,8 +149,7 @@ impl EditSets {
     /// Makes the numbers after `before`, up to `last`, fresh.
     pub fn add_fresh_given(&mut self, before: u32, last: u32)
         requires { last < self.old.room }
-        ensures given { IsGrown (is_given before last) (fresh_in self.old) (fresh_in self.new) }
-        ensures others { but_fresh self.new ≡ but_fresh self.old }
+        ensures { AddsFresh (is_given before last) self.old self.new }
     {
         add_given(before, last, &mut self.fresh);
     }
@@ -160,8 +158,7 @@ impl EditSets {
     pub fn add_fresh_below(&mut self, doc: &Doc, x: u32)
         requires element { IsElement doc.now.elements x }
         requires room { HasRoom doc.now.elements self.old.room }
-        ensures below { IsGrown (is_below doc.now.elements x) (fresh_in self.old) (fresh_in self.new) }
-        ensures others { but_fresh self.new ≡ but_fresh self.old }
+        ensures { AddsFresh (is_below doc.now.elements x) self.old self.new }
     {
         add_below(doc, x, &mut self.next, &mut self.fresh);
     }
@@ -170,8 +167,7 @@ impl EditSets {
     pub fn add_gone_below(&mut self, doc: &Doc, x: u32)
         requires element { IsElement doc.now.elements x }
         requires room { HasRoom doc.now.elements self.old.room }
-        ensures below { IsGrown (is_below doc.now.elements x) (gone_in self.old) (gone_in self.new) }
-        ensures others { but_gone self.new ≡ but_gone self.old }
+        ensures { AddsGone (is_below doc.now.elements x) self.old self.new }
     {
         add_below(doc, x, &mut self.next, &mut self.gone);
     }

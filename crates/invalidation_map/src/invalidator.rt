@@ -17,7 +17,7 @@ ghost use Rattle.invalidation_map.specs.Steps.{AreElements, HasRoom};
 ghost use Rattle.invalidation_map.specs.Rows.{AreTouchedIn, marks_by_row, marks_by_touch};
 ghost use Rattle.invalidation_map.specs.SharedRows.{IsWithin, row_seen};
 ghost use Rattle.invalidation_map.specs.RowView.{rows_in};
-ghost use Rattle.invalidation_map.specs.Marks.{AreAtElements, AreMarked, IsGrown};
+ghost use Rattle.invalidation_map.specs.Marks.{AddsMarked, AreAtElements, AreMarked, IsGrown};
 
 use crate::ElementSet;
 use crate::edit_sets::EditSets;
@@ -65,9 +65,8 @@ impl Invalidator<'_> {
     /// touches mark.
     fn mark_by_lists(&self, sets: &mut EditSets)
         requires { HasRoom self.now.doc.now.elements sets.old.room }
-        ensures grown { IsGrown (λ x. list_any (λ touch. marks_by_touch self.now.doc.now.elements self.now.touched.now
-            (rows_in self.now.map.now) touch x) list_touches) (marked_in sets.old) (marked_in sets.new) }
-        ensures others { but_marked sets.new ≡ but_marked sets.old }
+        ensures { AddsMarked (λ x. list_any (λ touch. marks_by_touch self.now.doc.now.elements self.now.touched.now
+            (rows_in self.now.map.now) touch x) list_touches) sets.old sets.new }
     {
         self.mark_at(sets, &Touch::Empty);
         self.mark_at(sets, &Touch::Positional);
@@ -77,9 +76,8 @@ impl Invalidator<'_> {
     /// Marks what the rows of a touch mark.
     fn mark_at(&self, sets: &mut EditSets, touch: &Touch)
         requires { HasRoom self.now.doc.now.elements sets.old.room }
-        ensures grown { IsGrown (marks_by_touch self.now.doc.now.elements self.now.touched.now
-            (rows_in self.now.map.now) (touch_seen touch.now)) (marked_in sets.old) (marked_in sets.new) }
-        ensures others { but_marked sets.new ≡ but_marked sets.old }
+        ensures { AddsMarked (marks_by_touch self.now.doc.now.elements self.now.touched.now
+            (rows_in self.now.map.now) (touch_seen touch.now)) sets.old sets.new }
     {
         let elements = self.touched.at(touch);
         self.mark_by_touch(sets, elements, touch);
@@ -90,9 +88,8 @@ impl Invalidator<'_> {
     fn mark_by_touch(&self, sets: &mut EditSets, elements: &[u32], touch: &Touch)
         requires room { HasRoom self.now.doc.now.elements sets.old.room }
         requires elements { AreTouchedIn self.now.touched.now (touch_seen touch.now) elements.now }
-        ensures grown { IsGrown (marks_by_touch self.now.doc.now.elements self.now.touched.now
-            (rows_in self.now.map.now) (touch_seen touch.now)) (marked_in sets.old) (marked_in sets.new) }
-        ensures others { but_marked sets.new ≡ but_marked sets.old }
+        ensures { AddsMarked (marks_by_touch self.now.doc.now.elements self.now.touched.now
+            (rows_in self.now.map.now) (touch_seen touch.now)) sets.old sets.new }
     {
         let key = touch.key();
         let (first, past) = self.map.index.near(key);
@@ -108,9 +105,8 @@ impl Invalidator<'_> {
         requires room { HasRoom self.now.doc.now.elements sets.old.room }
         requires elements { AreTouchedIn self.now.touched.now (touch_seen row.now.touch) elements.now }
         requires within { IsWithin self.now.map.now.shared row.now }
-        ensures grown { IsGrown (marks_by_row self.now.doc.now.elements self.now.touched.now
-            (row_seen self.now.map.now.shared row.now)) (marked_in sets.old) (marked_in sets.new) }
-        ensures others { but_marked sets.new ≡ but_marked sets.old }
+        ensures { AddsMarked (marks_by_row self.now.doc.now.elements self.now.touched.now
+            (row_seen self.now.map.now.shared row.now)) sets.old sets.new }
     {
         if row.alone {
             sets.add_marked(elements);

@@ -2,7 +2,8 @@
 
 ghost use Rattle.std.specs.Prelude.{◌≡◌, IfOk};
 ghost use Rattle.std.specs.List.Sorted.{IsNonDecreasingBy};
-ghost use Rattle.invalidation_map.specs.KeyBuckets.{AreBegun, BeginsAt, IsNear, bucket_of as model_bucket_of, spread as model_spread};
+ghost use Rattle.invalidation_map.specs.KeyBuckets.{AreBegun, BeginsAt, IsNear};
+ghost use Rattle.invalidation_map.specs.KeyBuckets.{bucket_of as model_bucket_of, spread as model_spread};
 
 use std::alloc::Global;
 use stylo_base::NoMemory;

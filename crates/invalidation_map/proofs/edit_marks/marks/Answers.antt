@@ -13,5 +13,6 @@ mark-requires-clause-touched c = touched_at _ _ _ c.requires.touched
 pub returns-clause-marked : goal.returns-clause-marked
 returns-clause-marked c =
     let none = ap (λ (s : EditMembers). s.marked) c.in_ok-reserve.ensures.others ∙ ap (λ (s : EditMembers). s.marked) c.new-sets.ensures in
-    marks_are c.args.before.now c.args.after.now c.args.edit.now c.args.touched.now (rows_in c.in_ok-map.map) (flat_map (λ list. selectors_of list.items) c.args.selectors.now) (marked_in c.reserve.new.self) (marked_in c.mark.new.self)
-    c.marked.result.now c.in_ok-from_slice.field-0.items c.in_ok-last.ensures.sound c.in_ok-last.ensures.shaped c.requires.edit c.requires.touched none c.in_ok-map.ensures c.mark.ensures.marked c.marked.ensures.items c.in_ok-from_slice.ensures.items
+    marks_are c.args.before.now c.args.after.now c.args.edit.now c.args.touched.now (rows_in c.in_ok-map.map) (flat_map (λ list. selectors_of list.items) c.args.selectors.now)
+    (marked_in c.reserve.new.self) (marked_in c.mark.new.self) c.marked.result.now c.in_ok-from_slice.field-0.items c.in_ok-last.ensures.sound
+    c.in_ok-last.ensures.shaped c.requires.edit c.requires.touched none c.in_ok-map.ensures c.mark.ensures.marked c.marked.ensures.items c.in_ok-from_slice.ensures.items

@@ -11,5 +11,7 @@ pub loop-dep-preserved : goal.loop-dep-preserved
 loop-dep-preserved c = record {
   within = c.in_ok-push_row.ensures.within;
   rows =
-      row_more (row_of (key_of (selector_of c.args.selector.now))) dep_of c.deref-dep-items.result.now c.loop-dep.dep-index c.dep-item.result (rows_seen c.args.shared.now c.args.rows.now.items) (rows_seen c.loop-dep.shared c.loop-dep.rows.items) _ _ c.loop-dep-test.true c.dep-item.is c.loop-dep.invariant.rows (ap (λ key. row_of key (dep_of c.dep-item.result)) c.key_of.ensures) c.in_ok-push_row.ensures.rows;
+      row_more (row_of (key_of (selector_of c.args.selector.now))) dep_of c.deref-dep-items.result.now c.loop-dep.dep-index c.dep-item.result (rows_seen c.args.shared.now c.args.rows.now.items)
+      (rows_seen c.loop-dep.shared c.loop-dep.rows.items) _ _ c.loop-dep-test.true c.dep-item.is c.loop-dep.invariant.rows
+      (ap (λ key. row_of key (dep_of c.dep-item.result)) c.key_of.ensures) c.in_ok-push_row.ensures.rows;
 }

@@ -20,7 +20,8 @@ loop-x-preserved c =
     let all = λ (x : ℕ). test x && is_in x (take (c.loop-x.x-index + 1) c.args.from.now) in
     elim c.if-bears_around.branch [
       | then-bears_around w ↦ subst (λ (m : Members). IsGrown all c.args.marks.now m) (sym w.marks-is)
-          (member_added test c.args.from.now c.loop-x.x-index c.args.marks.now c.loop-x.marks c.loop-x-test.true c.loop-x.invariant w.add.new.self (sym c.bears_around.ensures ∙ w.if-bears_around.true) w.add.ensures)
+          (member_added test c.args.from.now c.loop-x.x-index c.args.marks.now c.loop-x.marks c.loop-x-test.true c.loop-x.invariant w.add.new.self
+          (sym c.bears_around.ensures ∙ w.if-bears_around.true) w.add.ensures)
       | else-bears_around w ↦ subst (λ (m : Members). IsGrown all c.args.marks.now m) (sym w.marks-is)
           (member_passed test c.args.from.now c.loop-x.x-index c.args.marks.now c.loop-x.marks c.loop-x-test.true c.loop-x.invariant (sym c.bears_around.ensures ∙ w.if-bears_around.false))
     ]

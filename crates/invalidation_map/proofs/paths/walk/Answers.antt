@@ -1,4 +1,4 @@
-use Rattle.std.proofs.Common.{◌+◌, ◌∙◌, ap, arith, sym, subst}
+use Rattle.std.proofs.Common.{◌+◌, ap, arith, sym, subst}
 use Rattle.selector_types.specs.declared.complex.Combinator.TheVariants.{Descendant}
 use Rattle.dependency_map.specs.declared.dep.PathStep.TheVariants.{Forwards}
 use Rattle.invalidation_map.specs.Members.{Members}
@@ -14,8 +14,8 @@ take_step-requires-clause-room c = λ x there.
 pub loop-step-preserved : goal.loop-step-preserved
 loop-step-preserved c = record {
   ahead =
-      path_next _ _ _ (Forwards Descendant) _ _ _ _ _ c.loop-step-test.true c.take_step.ensures.elements c.take_step.ensures.stepped c.as_slice.ensures.items
-      (ap (λ (m : Members). m.items) c.swap.ensures.x_after) c.loop-step.invariant.ahead;
+      path_next c.args.doc.now.elements c.args.path.now c.loop-step.step-index (Forwards Descendant) _ _ _ _ _ c.loop-step-test.true c.take_step.ensures.elements c.take_step.ensures.stepped
+      c.as_slice.ensures.items (ap (λ (m : Members). m.items) c.swap.ensures.x_after) c.loop-step.invariant.ahead;
   elements = subst (λ (m : Members). AreElements c.args.doc.now.elements m.items) (sym c.swap.ensures.x_after) c.take_step.ensures.elements;
   room = λ room both.
       let now = c.loop-step.invariant.room room both in

@@ -8,4 +8,5 @@ use Rattle.invalidation_map.proofs.shared.end_with_key.Goals as goal
 pub returns-in_ok-push-clause-last : goal.returns-in_ok-push-clause-last
 returns-in_ok-push-clause-last c =
     subst (λ (list : List SelectorKey). EndsWith (keys_seen list) (key_seen c.args.key.now)) (sym c.in_ok-push.ensures.items)
-    (subst (EndsWith (keys_seen (c.args.keys.now.items ++ c.in_ok-of.field-0 ∷ []))) c.in_ok-of.ensures (ends_pushed (λ (key : SelectorKey). key_seen key.key) c.args.keys.now.items c.in_ok-of.field-0))
+    (subst (EndsWith (keys_seen (c.args.keys.now.items ++ c.in_ok-of.field-0 ∷ []))) c.in_ok-of.ensures
+    (ends_pushed (λ (key : SelectorKey). key_seen key.key) c.args.keys.now.items c.in_ok-of.field-0))

@@ -1,4 +1,4 @@
-use Rattle.std.proofs.Common.{◌≡◌, ◌+◌, ◌-◌, ◌++◌, true, false, List, Bool, ℕ, length, take, replicate, vec_len, sym, ap, subst, ◌∙◌, arith}
+use Rattle.std.proofs.Common.{◌≡◌, ◌+◌, ◌-◌, ◌++◌, false, List, Bool, ℕ, take, replicate, vec_len, sym, ap, subst, ◌∙◌, arith}
 use Rattle.std.proofs.lemmas.List.{take_all}
 use Rattle.invalidation_map.specs.Members.{AreFlags, Members}
 use Rattle.invalidation_map.proofs.RoomLemmas.{flags_grown, front_stays, list_grown}

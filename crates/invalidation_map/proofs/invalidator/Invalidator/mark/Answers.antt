@@ -1,4 +1,4 @@
-use Rattle.std.proofs.Common.{◌||◌, ◌∙◌, ℕ, arith, false, refl, sym}
+use Rattle.std.proofs.Common.{◌||◌, ◌∙◌, arith, false, refl, sym}
 use Rattle.edit_model.specs.TouchedBy.{is_listed}
 use Rattle.dom_edits.specs.declared.touch.Touch.{Touch}
 use Rattle.dom_edits.specs.TouchView.{touch_seen}
@@ -28,7 +28,8 @@ loop-touch-init c =
 
 pub mark_by_touch-requires-clause-elements : goal.mark_by_touch-requires-clause-elements
 mark_by_touch-requires-clause-elements c =
-    part_listed c.parts.result.0.now c.parts.result.1.now c.args.self.now.touched.now c.loop-touch.touch-index c.touch-item.result (c.parts.ensures.parts (omega (arith, c.loop-touch-test.true))) c.loop-touch-test.true c.touch-item.is
+    part_listed c.parts.result.0.now c.parts.result.1.now c.args.self.now.touched.now c.loop-touch.touch-index c.touch-item.result
+    (c.parts.ensures.parts (omega (arith, c.loop-touch-test.true))) c.loop-touch-test.true c.touch-item.is
 
 pub loop-touch-preserved : goal.loop-touch-preserved
 loop-touch-preserved c =
@@ -64,5 +65,6 @@ returns-clause-marked c = λ before selectors tags listed are.
     let none = c.if-count-ne0.false in
     marked doc pairs self.at_elements before tags listed selectors rows (touch_seen self.map.now.style) (marked_in c.args.sets.now) (marked_in c.mark_by_lists.new.sets) self.map.now.styled are
     (by_all_touches doc pairs style code_touches 3 rows (marked_in c.args.sets.now) (marked_in c.mark_by_lists.new.sets) (c.parts.ensures.lists none) (omega arith)
-    (grown_lists style (λ touch x. marks_by_touch doc pairs rows (touch_seen touch) x) (λ touch x. marks_by_touch doc pairs rows touch x) c.parts.result.0.now c.loop-touch.touch-index (marked_in c.args.sets.now)
+    (grown_lists style (λ touch x. marks_by_touch doc pairs rows (touch_seen touch) x) (λ touch x. marks_by_touch doc pairs rows touch x) c.parts.result.0.now c.loop-touch.touch-index
+    (marked_in c.args.sets.now)
     (marked_in c.loop-touch.sets) (marked_in c.mark_by_lists.new.sets) (λ touch x. refl) none c.loop-touch.invariant.grown c.mark_by_lists.ensures.grown))

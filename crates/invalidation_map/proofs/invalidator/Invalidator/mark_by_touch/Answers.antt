@@ -49,10 +49,13 @@ loop-place-preserved c =
       }
     ]
 
-pub returns-clause-grown : goal.returns-clause-grown
-returns-clause-grown c =
+pub returns : goal.returns
+returns c =
     let self = c.args.self.now in
     let map = self.map.now in
-    by_touch_all self.doc.now.elements self.touched.now map.shared (touch_seen c.args.touch.now) c.key-key.result c.key-key.ensures map.rows.items
-    map.index.keys.items map.keyed c.near-first.result.0 c.near-first.result.1 c.near-first.ensures c.loop-place.place (marked_in c.args.sets.now)
-    (marked_in c.loop-place.sets) c.loop-place-test.false c.loop-place.invariant.grown
+    record {
+      grown = by_touch_all self.doc.now.elements self.touched.now map.shared (touch_seen c.args.touch.now) c.key-key.result c.key-key.ensures map.rows.items
+          map.index.keys.items map.keyed c.near-first.result.0 c.near-first.result.1 c.near-first.ensures c.loop-place.place (marked_in c.args.sets.now)
+          (marked_in c.loop-place.sets) c.loop-place-test.false c.loop-place.invariant.grown;
+      others = c.loop-place.invariant.others;
+    }

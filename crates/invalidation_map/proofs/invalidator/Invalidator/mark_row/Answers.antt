@@ -1,4 +1,4 @@
-use Rattle.std.proofs.Common.{ℕ, [], Bool, Vec, ap, sym, subst, ◌∙◌}
+use Rattle.std.proofs.Common.{[], Vec, ap, sym, subst, ◌∙◌}
 use Rattle.std.specs.declared.alloc.Global.{Global}
 use Rattle.selector_model.specs.Key.{any_key}
 use Rattle.selector_types.specs.SimpleView.{key_seen}
@@ -6,7 +6,7 @@ use Rattle.dom_edits.specs.TouchView.{touch_seen}
 use Rattle.dependency_map.specs.declared.dep.PathStep.{PathStep}
 use Rattle.dependency_map.specs.DepView.{path_of}
 use Rattle.invalidation_map.specs.declared.selector_key.SelectorKey.{SelectorKey}
-use Rattle.invalidation_map.specs.EditMembers.{EditMembers, marked_in}
+use Rattle.invalidation_map.specs.EditMembers.{EditMembers, but_marked, marked_in}
 use Rattle.invalidation_map.specs.Marks.{IsGrown}
 use Rattle.invalidation_map.specs.Members.{Members, AreBelow}
 use Rattle.invalidation_map.specs.Rows.{marks_by_row}
@@ -40,42 +40,53 @@ add_bearing-requires-clause-elements c =
     let self = c.args.self.now in
     listed_elements self.doc.now.elements self.touched.now _ _ c.requires.elements self.at_elements
 
-pub returns-then-row-clause-grown : goal.returns-then-row-clause-grown
-returns-then-row-clause-grown c =
+pub returns-then-row : goal.returns-then-row
+returns-then-row c =
     let self = c.args.self.now in
-    alone_by_row self.doc.now.elements self.touched.now (row_seen self.map.now.shared c.args.row.now) c.args.elements.now c.requires.elements (marked_in c.args.sets.now)
-    (marked_in c.add_marked.new.self) self.at_elements (c.requires.within.alone c.if-row.true) c.add_marked.ensures.added
+    record {
+      grown = alone_by_row self.doc.now.elements self.touched.now (row_seen self.map.now.shared c.args.row.now) c.args.elements.now c.requires.elements (marked_in c.args.sets.now)
+          (marked_in c.add_marked.new.self) self.at_elements (c.requires.within.alone c.if-row.true) c.add_marked.ensures.added;
+      others = c.add_marked.ensures.others;
+    }
 
-pub returns-then-is_empty-clause-grown : goal.returns-then-is_empty-clause-grown
-returns-then-is_empty-clause-grown c =
+pub returns-then-is_empty : goal.returns-then-is_empty
+returns-then-is_empty c =
     let doc = c.args.self.now.doc.now.elements in
     let pairs = c.args.self.now.touched.now in
     let shared = c.args.self.now.map.now.shared in
     let row = row_seen shared c.args.row.now in
     let path = seen_at (λ (path : Vec PathStep Global). path_of path.items) shared.paths.items c.args.row.now.path c.index.result.now [] c.requires.within.path c.index.ensures in
     let key = seen_at (λ (key : SelectorKey). key_seen key.key) shared.keys.items c.args.row.now.key c.index-key.result.now any_key c.requires.within.key c.index-key.ensures in
+    let old = c.sets.inside.marked in
     let new = c.add_bearing.new.marks in
-    subst (λ (s : EditMembers). IsGrown (marks_by_row doc pairs row) (marked_in s) (record { items = new.items; room = c.sets.inside.room })) c.sets.view_is
-    (grown_in (marks_by_row doc pairs row) c.sets.inside.marked new c.sets.inside.room
-    (here_by_row doc pairs row c.args.elements.now c.requires.elements (path_of c.as_slice-path.result.now)
-    (key_seen c.index-key.result.now.key) c.sets.inside.marked new c.args.self.now.at_elements
-    (no_path c.as_slice-path.result.now (sym c.is_empty.ensures ∙ c.if-is_empty.true)) (ap path_of c.as_slice-path.ensures.value ∙ path) key
-    (here_bearing doc pairs (touch_seen c.args.row.now.touch) c.args.elements.now c.requires.elements
-    (key_seen c.index-key.result.now.key) c.touched_in_key-bearing.result.now c.sets.inside.marked new c.touched_in_key-bearing.ensures.elements c.add_bearing.ensures)))
+    record {
+      grown = subst (λ (s : EditMembers). IsGrown (marks_by_row doc pairs row) (marked_in s) (record { items = new.items; room = c.sets.inside.room })) c.sets.view_is
+          (grown_in (marks_by_row doc pairs row) old new c.sets.inside.room
+          (here_by_row doc pairs row c.args.elements.now c.requires.elements (path_of c.as_slice-path.result.now)
+          (key_seen c.index-key.result.now.key) old new c.args.self.now.at_elements
+          (no_path c.as_slice-path.result.now (sym c.is_empty.ensures ∙ c.if-is_empty.true)) (ap path_of c.as_slice-path.ensures.value ∙ path) key
+          (here_bearing doc pairs (touch_seen c.args.row.now.touch) c.args.elements.now c.requires.elements
+          (key_seen c.index-key.result.now.key) c.touched_in_key-bearing.result.now old new c.touched_in_key-bearing.ensures.elements c.add_bearing.ensures)));
+      others = ap but_marked c.sets.view_is;
+    }
 
-pub returns-clause-grown : goal.returns-clause-grown
-returns-clause-grown c =
+pub returns : goal.returns
+returns c =
     let doc = c.args.self.now.doc.now.elements in
     let pairs = c.args.self.now.touched.now in
     let shared = c.args.self.now.map.now.shared in
     let row = row_seen shared c.args.row.now in
     let path = seen_at (λ (path : Vec PathStep Global). path_of path.items) shared.paths.items c.args.row.now.path c.index.result.now [] c.requires.within.path c.index.ensures in
     let key = seen_at (λ (key : SelectorKey). key_seen key.key) shared.keys.items c.args.row.now.key c.index-key.result.now any_key c.requires.within.key c.index-key.ensures in
+    let old = c.sets.inside.marked in
     let new = c.add_bearing-2.new.marks in
-    subst (λ (s : EditMembers). IsGrown (marks_by_row doc pairs row) (marked_in s) (record { items = new.items; room = c.sets.inside.room })) c.sets.view_is
-    (grown_in (marks_by_row doc pairs row) c.sets.inside.marked new c.sets.inside.room
-    (marked_by_row doc pairs row c.args.elements.now c.requires.elements c.clear.new.self
-    c.add_all.new.self c.walk.new.from.items c.as_slice.result.now c.touched_in_key-bearing.result.now (path_of c.as_slice-path.result.now)
-    (key_seen c.index-key.result.now.key) c.sets.inside.marked new c.args.self.now.at_elements
-    (ap (λ (m : Members). m.items) c.clear.ensures) c.add_all.ensures (ap path_of c.as_slice-path.ensures.value ∙ path) c.walk.ensures.reached
-    c.as_slice.ensures.items key c.touched_in_key-bearing.ensures.elements c.add_bearing-2.ensures))
+    record {
+      grown = subst (λ (s : EditMembers). IsGrown (marks_by_row doc pairs row) (marked_in s) (record { items = new.items; room = c.sets.inside.room })) c.sets.view_is
+          (grown_in (marks_by_row doc pairs row) old new c.sets.inside.room
+          (marked_by_row doc pairs row c.args.elements.now c.requires.elements c.clear.new.self
+          c.add_all.new.self c.walk.new.from.items c.as_slice.result.now c.touched_in_key-bearing.result.now (path_of c.as_slice-path.result.now)
+          (key_seen c.index-key.result.now.key) old new c.args.self.now.at_elements
+          (ap (λ (m : Members). m.items) c.clear.ensures) c.add_all.ensures (ap path_of c.as_slice-path.ensures.value ∙ path) c.walk.ensures.reached
+          c.as_slice.ensures.items key c.touched_in_key-bearing.ensures.elements c.add_bearing-2.ensures));
+      others = ap but_marked c.sets.view_is;
+    }
