@@ -3,6 +3,7 @@ use Rattle.std.proofs.Common.{◌≡◌, ℕ, ◌+◌, ◌||◌, List, [], Optio
 use Rattle.std.specs.Option.{option_or}
 use Rattle.std.specs.List.Sorted.{IsPermutation}
 use Rattle.scene_model.specs.Document.{Document}
+use Rattle.scene_model.specs.Element.{Element}
 use Rattle.scene_model.specs.Numbers.{is_in}
 use Rattle.selector_model.specs.Selector.{Selector}
 use Rattle.change_model.specs.Sound.{IsSound}
@@ -22,7 +23,7 @@ use Rattle.dom_edits.specs.EditView.{doc_edit_seen, new_count, nodes_beyond}
 use Rattle.dom_edits.proofs.BeyondLemmas.{beyond_past}
 use Rattle.invalidation_map.specs.Members.{Members}
 use Rattle.invalidation_map.specs.Rows.{Row, rows_of}
-use Rattle.invalidation_map.specs.Marks.{AreMarked}
+use Rattle.invalidation_map.specs.Marks.{AreMarked, IsMarkedList}
 use Rattle.invalidation_map.specs.Steps.{HasRoom}
 
 -- the last number after an edit
@@ -71,11 +72,17 @@ same_tags before now edit sound shaped h = by (refusal before (doc_edit_seen edi
         subst (λ (d : Document). SameTags before.elements d.elements) (after_is None (after before (doc_edit_seen edit)) now k) (tags-after before sound (doc_edit_seen edit) shaped e)
     by (Some why) e k = absurd (cc)
 
--- so a set that was empty has what is marked
-pub marks_are : (before now : Document) (edit : DocEdit) (pairs : List (Touch × ℕ)) (rows : List Row) (selectors : List Selector) (old new : Members) (shown list : List ℕ) → IsSound before
-    → IsShaped (doc_edit_seen edit) → applied before (doc_edit_seen edit) ≡ accepted now → AreTouched before.elements now.elements pairs → old.items ≡ [] → IsPermutation (rows_of selectors) rows
-    → AreMarked now.elements pairs rows old new → shown ≡ new.items → list ≡ shown → (x : ℕ) → is_in x list ≡ is_marked before.elements now.elements selectors x
-marks_are before now edit pairs rows selectors old new shown list sound shaped accepts touched none are marked same copied x =
-    ap (is_in x) (copied ∙ same)
-    ∙ ((marked before.elements selectors (same_tags before now edit sound shaped accepts) touched.exact are).each x
-    ∙ ap (λ l. is_in x l || is_marked before.elements now.elements selectors x) none)
+-- so a list of all that rows mark has what is marked
+pub marks_are : (before now : Document) (edit : DocEdit) (pairs : List (Touch × ℕ)) (rows : List Row) (selectors : List Selector) (list : List ℕ) → IsSound before
+    → IsShaped (doc_edit_seen edit) → applied before (doc_edit_seen edit) ≡ accepted now → AreTouched before.elements now.elements pairs → IsPermutation (rows_of selectors) rows
+    → IsMarkedList now.elements pairs rows list → (x : ℕ) → is_in x list ≡ is_marked before.elements now.elements selectors x
+marks_are before now edit pairs rows selectors list sound shaped accepts touched are marked =
+    marked before.elements selectors (same_tags before now edit sound shaped accepts) touched.exact are
+
+-- as that of a set that was empty
+pub list_marked : (doc : List Element) (pairs : List (Touch × ℕ)) (rows : List Row) (old new : Members) (list : List ℕ) → old.items ≡ [] → AreMarked doc pairs rows old new
+    → list ≡ new.items → IsMarkedList doc pairs rows list
+list_marked doc pairs rows old new list none marked same = λ before selectors tags listed are x.
+    ap (is_in x) same
+    ∙ ((marked before selectors tags listed are).each x
+    ∙ ap (λ l. is_in x l || is_marked before doc selectors x) none)

@@ -51,3 +51,12 @@ AreMarked doc pairs rows old new =
     → AreListed before doc pairs
     → IsPermutation (rows_of selectors) rows
     → IsGrown (is_marked before doc selectors) old new
+
+-- for them all, a list has the marked elements and no others
+abbrev pub IsMarkedList : List Element → List (Touch × ℕ) → List Row → List ℕ → Type 0
+IsMarkedList doc pairs rows list =
+    (before : List Element) (selectors : List Selector)
+    → SameTags before doc
+    → AreListed before doc pairs
+    → IsPermutation (rows_of selectors) rows
+    → (x : ℕ) → is_in x list ≡ is_marked before doc selectors x

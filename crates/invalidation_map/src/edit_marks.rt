@@ -1,6 +1,6 @@
 //! The marks of one edit.
 
-ghost use Rattle.std.specs.Prelude.{◌≡◌, ◌+◌, ℕ, IfOk, nat_eq};
+ghost use Rattle.std.specs.Prelude.{◌≡◌, ◌+◌, ◌<◌, ℕ, IfOk, [], nat_eq};
 ghost use Rattle.std.specs.List.{IsDistinct, flat_map};
 ghost use Rattle.scene_model.specs.Document.{Document};
 ghost use Rattle.scene_model.specs.Numbers.{is_in};
@@ -12,6 +12,8 @@ ghost use Rattle.edit_model.specs.Marked.{is_marked};
 ghost use Rattle.edit_model.specs.Refusal.{accepted};
 ghost use Rattle.edit_model.specs.TouchedBy.{AreTouched};
 ghost use Rattle.dom_edits.specs.EditView.{doc_edit_seen};
+ghost use Rattle.invalidation_map.specs.Marks.{AreAtElements, IsMarkedList};
+ghost use Rattle.invalidation_map.specs.RowView.{rows_in};
 ghost use Rattle.invalidation_map.specs.Steps.{HasRoom};
 
 use crate::{EditSets, InvalidationMap};
@@ -41,10 +43,39 @@ pub fn marks(
 {
     let last = last_after(before, edit)?;
     let map = InvalidationMap::of(alloc, selectors)?;
+    let found = marked_by(alloc, after, touched, &map, last);
+    drop(map);
+    found
+}
+
+/// The elements that an edit marks by the rows of selectors, each once. No element has a number above `last`.
+fn marked_by(
+    alloc: Global,
+    doc: &Doc,
+    touched: &Touched,
+    map: &InvalidationMap,
+    last: u32,
+) -> Result<Vec<u32>, NoMemory>
+    requires touched { AreAtElements doc.now.elements touched.now }
+    requires last { HasRoom doc.now.elements (last + 1) }
+    ensures marked { IfOk result (λ v. IsMarkedList doc.now.elements touched.now (rows_in map.now) v.items) }
+    ensures once { IfOk result (λ v. IsDistinct nat_eq v.items) }
+{
+    let mut sets = sets_up_to(alloc, last)?;
+    sets.mark(doc, touched, map);
+    let found = Vec::from_slice(alloc, sets.marked());
+    drop(sets);
+    Ok(found?)
+}
+
+/// Sets with room for the numbers up to `last`, in which there is none.
+fn sets_up_to(alloc: Global, last: u32) -> Result<EditSets, NoMemory>
+    ensures room { IfOk result (λ sets. last < sets.room) }
+    ensures none { IfOk result (λ sets. sets.marked ≡ []) }
+{
     let mut sets = EditSets::new(alloc);
     sets.reserve(last)?;
-    sets.mark(after, touched, &map);
-    Ok(Vec::from_slice(alloc, sets.marked())?)
+    Ok(sets)
 }
 
 /// The last number that there is after an edit that nothing refuses. Where there would be more than the limit of
