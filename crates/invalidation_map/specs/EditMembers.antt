@@ -1,5 +1,5 @@
 -- The sets that edits fill, as contracts see them.
-use Rattle.std.specs.Prelude.{ℕ, ◌≤◌, ◌&&◌, nat_le, nat_lt, Bool, List, [], refl}
+use Rattle.std.specs.Prelude.{ℕ, ◌+◌, ◌≤◌, ◌&&◌, max, nat_le, nat_lt, Bool, List, [], refl}
 use Rattle.std.specs.Coded.{Coded, code_by, coded×, coded_ℕ, coded_list}
 use Rattle.invalidation_map.specs.Members.{Members}
 
@@ -40,9 +40,9 @@ but_fresh sets = record sets { fresh = [] }
 abbrev pub but_gone : EditMembers → EditMembers
 but_gone sets = record sets { gone = [] }
 
--- all but the room
-abbrev pub but_room : EditMembers → EditMembers
-but_room sets = record sets { room = 0 }
+-- with room for the numbers up to one
+abbrev pub with_room : ℕ → EditMembers → EditMembers
+with_room last sets = record sets { room = max sets.room (last + 1) }
 
 -- each set has that room at least
 pub record AllHaveRoom (room : ℕ) (marks fresh_ones gone_ones starts ends : Members) : Type 0 where

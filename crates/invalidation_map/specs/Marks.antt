@@ -52,6 +52,12 @@ AreMarked doc pairs rows old new =
     → IsPermutation (rows_of selectors) rows
     → IsGrown (is_marked before doc selectors) old new
 
+-- Of the sets that edits fill the marked grew by these, and all else is as it was.
+pub record AddsMarkedBy (doc : List Element) (pairs : List (Touch × ℕ)) (rows : List Row) (old new : EditMembers)
+    : Type 0 where
+  pub marked : AreMarked doc pairs rows (marked_in old) (marked_in new)
+  pub others : but_marked new ≡ but_marked old
+
 -- for them all, a list has the marked elements and no others
 abbrev pub IsMarkedList : List Element → List (Touch × ℕ) → List Row → List ℕ → Type 0
 IsMarkedList doc pairs rows list =

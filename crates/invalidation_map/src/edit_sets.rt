@@ -1,13 +1,13 @@
 //! The sets that edits fill: whom they mark, what they make fresh, and what they take out.
 
-ghost use Rattle.std.specs.Prelude.{◌≡◌, ◌<◌, ◌≤◌, ◌==◌, ◌&&◌, ℕ, [], OnErr, OnOk, length, nat_eq};
+ghost use Rattle.std.specs.Prelude.{◌≡◌, ◌<◌, ◌==◌, ◌&&◌, ℕ, [], OnErr, OnOk, length, nat_eq};
 ghost use Rattle.std.specs.List.{IsDistinct};
 ghost use Rattle.scene_model.specs.Lookups.{IsElement};
 ghost use Rattle.scene_model.specs.Numbers.{is_in};
 ghost use Rattle.change_model.specs.Sound.{is_below};
-ghost use Rattle.invalidation_map.specs.EditMembers.{but_marked, but_room, is_given, marked_in};
-ghost use Rattle.invalidation_map.specs.Marks.{AddsFresh, AddsGone, AreAtElements, AreMarked, IsGrown};
-ghost use Rattle.invalidation_map.specs.Members.{AreAdded, AreBelow};
+ghost use Rattle.invalidation_map.specs.EditMembers.{is_given, with_room};
+ghost use Rattle.invalidation_map.specs.Marks.{AddsFresh, AddsGone, AddsMarked, AddsMarkedBy, AreAtElements, IsGrown};
+ghost use Rattle.invalidation_map.specs.Members.{AreBelow};
 ghost use Rattle.invalidation_map.specs.RowView.{rows_in};
 ghost use Rattle.invalidation_map.specs.Steps.{HasRoom};
 
@@ -74,9 +74,7 @@ impl EditSets {
     /// Makes room for the numbers up to `last`, where there is not yet. It adds nothing. After an error all is as it
     /// was.
     pub fn reserve(&mut self, last: u32) -> Result<(), NoMemory>
-        ensures room { OnOk result (last < self.new.room) }
-        ensures wider { self.old.room ≤ self.new.room }
-        ensures others { but_room self.new ≡ but_room self.old }
+        ensures ok { OnOk result (self.new ≡ with_room last self.old) }
         ensures kept { OnErr result (self.new ≡ self.old) }
     {
         let room = last as usize + 1;
@@ -140,8 +138,7 @@ impl EditSets {
     /// Marks elements.
     pub fn add_marked(&mut self, numbers: &[u32])
         requires { AreBelow self.old.room numbers.now }
-        ensures added { AreAdded numbers.now (marked_in self.old) (marked_in self.new) }
-        ensures others { but_marked self.new ≡ but_marked self.old }
+        ensures { AddsMarked (λ x. is_in x numbers.now) self.old self.new }
     {
         self.marked.add_all(numbers);
     }
@@ -176,9 +173,7 @@ impl EditSets {
     pub fn mark(&mut self, doc: &Doc, touched: &Touched, map: &InvalidationMap)
         requires room { HasRoom doc.now.elements self.old.room }
         requires touched { AreAtElements doc.now.elements touched.now }
-        ensures marked { AreMarked doc.now.elements touched.now (rows_in map.now) (marked_in self.old)
-            (marked_in self.new) }
-        ensures others { but_marked self.new ≡ but_marked self.old }
+        ensures { AddsMarkedBy doc.now.elements touched.now (rows_in map.now) self.old self.new }
     {
         let invalidator = Invalidator { doc, touched, map };
         invalidator.mark(self);
