@@ -1,4 +1,4 @@
--- Keys in the order of their buckets: all of a key are where its bucket is.
+-- For `KeyIndex::near`: keys in the order of their buckets; all of a key are where its bucket is.
 use Rattle.std.proofs.Common.{◌≡◌, ℕ, ◌+◌, ◌/◌, ◌<◌, ◌≤◌, List, [], ◌∷◌, ◌++◌, length, map, take, get_or, sym, ap, ◌∙◌, subst, arith, leb, ltb, inl, inr}
 use Rattle.std.specs.List.Sorted.{IsNonDecreasingBy, IsPartitionedBy}
 use Rattle.std.proofs.lemmas.Bool.{cases_eq, le-leb, leb-true, lt-ltb, ltb-true}

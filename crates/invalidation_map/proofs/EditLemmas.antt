@@ -1,11 +1,10 @@
 -- For `marks`: what is known of an edit and of what it touches.
-use Rattle.std.proofs.Common.{◌≡◌, ℕ, ◌+◌, ◌||◌, List, [], Option, Some, None, refl, sym, ap, ◌∙◌, subst, arith}
+use Rattle.std.proofs.Common.{◌≡◌, ℕ, ◌+◌, ◌||◌, nat_eq, List, [], Option, Some, None, refl, sym, ap, ◌∙◌, subst, arith}
 use Rattle.std.specs.Option.{option_or}
-use Rattle.std.specs.List.Sorted.{IsPermutation}
+use Rattle.std.specs.List.{IsDistinct}
 use Rattle.scene_model.specs.Document.{Document}
 use Rattle.scene_model.specs.Element.{Element}
 use Rattle.scene_model.specs.Numbers.{is_in}
-use Rattle.selector_model.specs.Selector.{Selector}
 use Rattle.change_model.specs.Sound.{IsSound}
 use Rattle.edit_model.specs.Apply.{after, applied, limit_past, misplaced, nodes_past, refusal, unknown}
 use Rattle.edit_model.specs.Edit.{IsShaped, insert}
@@ -13,7 +12,6 @@ use Rattle.edit_model.specs.Marked.{is_marked}
 use Rattle.edit_model.specs.Refusal.{Refusal, accepted, outcome_of}
 use Rattle.edit_model.specs.Steady.{SameTags}
 use Rattle.edit_model.specs.Touched.{Touch}
-use Rattle.edit_model.specs.TouchedBy.{AreTouched}
 use Rattle.edit_model.proofs.Accepted.{none_parts, sound-after, tags-after}
 use Rattle.dom_edits.specs.declared.edits.DocEdit.{DocEdit}
 use Rattle.dom_edits.specs.declared.edits.DocEdit.TheVariants.{Insert, Remove, Move, Set, Unset, State}
@@ -21,9 +19,9 @@ use Rattle.dom_edits.specs.declared.edits.NewNodes.TheVariants.{Kept, Past}
 use Rattle.dom_edits.specs.declared.edits.NodeLimit.{NodeLimit}
 use Rattle.dom_edits.specs.EditView.{doc_edit_seen, new_count, nodes_beyond}
 use Rattle.dom_edits.proofs.BeyondLemmas.{beyond_past}
-use Rattle.invalidation_map.specs.Members.{Members}
-use Rattle.invalidation_map.specs.Rows.{Row, rows_of}
-use Rattle.invalidation_map.specs.Marks.{AreMarked, IsMarkedList}
+use Rattle.invalidation_map.specs.EditMembers.{EditMembers}
+use Rattle.invalidation_map.specs.Rows.{Row}
+use Rattle.invalidation_map.specs.Marks.{AddsMarkedBy, IsMarkedList}
 use Rattle.invalidation_map.specs.Steps.{HasRoom}
 
 -- the last number after an edit
@@ -72,17 +70,13 @@ same_tags before now edit sound shaped h = by (refusal before (doc_edit_seen edi
         subst (λ (d : Document). SameTags before.elements d.elements) (after_is None (after before (doc_edit_seen edit)) now k) (tags-after before sound (doc_edit_seen edit) shaped e)
     by (Some why) e k = absurd (cc)
 
--- so a list of all that rows mark has what is marked
-pub marks_are : (before now : Document) (edit : DocEdit) (pairs : List (Touch × ℕ)) (rows : List Row) (selectors : List Selector) (list : List ℕ) → IsSound before
-    → IsShaped (doc_edit_seen edit) → applied before (doc_edit_seen edit) ≡ accepted now → AreTouched before.elements now.elements pairs → IsPermutation (rows_of selectors) rows
-    → IsMarkedList now.elements pairs rows list → (x : ℕ) → is_in x list ≡ is_marked before.elements now.elements selectors x
-marks_are before now edit pairs rows selectors list sound shaped accepts touched are marked =
-    marked before.elements selectors (same_tags before now edit sound shaped accepts) touched.exact are
-
--- as that of a set that was empty
-pub list_marked : (doc : List Element) (pairs : List (Touch × ℕ)) (rows : List Row) (old new : Members) (list : List ℕ) → old.items ≡ [] → AreMarked doc pairs rows old new
-    → list ≡ new.items → IsMarkedList doc pairs rows list
-list_marked doc pairs rows old new list none marked same = λ before selectors tags listed are x.
-    ap (is_in x) same
-    ∙ ((marked before selectors tags listed are).each x
-    ∙ ap (λ l. is_in x l || is_marked before doc selectors x) none)
+-- a list of those that were marked in sets where none had been
+pub list_marked : (doc : List Element) (pairs : List (Touch × ℕ)) (rows : List Row) (old new : EditMembers) (list : List ℕ) → old.marked ≡ [] → AddsMarkedBy doc pairs rows old new
+    → list ≡ new.marked → IsDistinct nat_eq list → IsMarkedList doc pairs rows list
+list_marked doc pairs rows old new list none added same once = record {
+  each = λ before selectors tags listed are x.
+      ap (is_in x) same
+      ∙ ((added.marked before selectors tags listed are).each x
+      ∙ ap (λ l. is_in x l || is_marked before doc selectors x) none);
+  once = once;
+}

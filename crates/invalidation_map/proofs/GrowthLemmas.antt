@@ -1,4 +1,4 @@
--- Sets that grow by what is listed, and by what bears a key.
+-- For `Invalidator::mark_row`: sets that grow by what is listed, and by what bears a key.
 use Rattle.std.proofs.Common.{◌≡◌, ℕ, ◌+◌, ◌<◌, ◌==◌, ◌||◌, ◌&&◌, Bool, true, false, List, [], ◌∷◌, Option, Some, None, length, take, get_or, refl, sym, ap, ◌∙◌, subst, inl, inr}
 use Rattle.std.specs.Cmp.{both_ways}
 use Rattle.std.specs.List.{list_any}
@@ -35,10 +35,6 @@ grown_same f g m n same grown = record { room = grown.room; each = λ x. grown.e
 -- by nothing
 pub grown_itself : (m : Members) → IsGrown (λ x. false) m m
 grown_itself m = record { room = refl; each = λ x. or_no (is_in x m.items) }
-
--- by those of a list
-pub grown_added : (test : ℕ → Bool) (xs : List ℕ) (m n : Members) → AreAdded xs m n → ((x : ℕ) → is_in x xs ≡ test x) → IsGrown test m n
-grown_added test xs m n more same = record { room = more.room; each = λ x. more.each x ∙ ap (λ b. is_in x m.items || b) (same x) }
 
 -- by a test of the members of a list
 
@@ -180,9 +176,10 @@ module _ (doc : List Element) (pairs : List (Touch × ℕ)) (touch : Touch) (ele
       absorbed (bears doc key x) (is_listed pairs touch x)
       ∙ ap (λ k. (bears doc key x || is_listed pairs k x) && is_listed pairs touch x) (sym (same_sound k touch h))
 
-  pub here_all : (m n : Members) → option_map_or (λ bearing. same_touch bearing touch) (touch_of_key key) false ≡ true → AreAdded elements m n → IsGrown (marks_here doc pairs touch key) m n
-  here_all m n h more =
-      grown_added (marks_here doc pairs touch key) elements m n more (λ x. listed x ∙ all_bear (touch_of_key key) x h)
+  pub here_all : (m n : Members) → option_map_or (λ bearing. same_touch bearing touch) (touch_of_key key) false ≡ true → IsGrown (λ x. is_in x elements) m n
+      → IsGrown (marks_here doc pairs touch key) m n
+  here_all m n h grown =
+      grown_same (λ x. is_in x elements) (marks_here doc pairs touch key) m n (λ x. listed x ∙ all_bear (touch_of_key key) x h) grown
 
   pub here_bearing : (bearing : List ℕ) (m n : Members) → ((x : ℕ) → is_in x bearing ≡ option_map_or (λ touch. is_listed pairs touch x) (touch_of_key key) false)
       → IsGrown (λ x. (bears doc key x || is_in x bearing) && is_in x elements) m n → IsGrown (marks_here doc pairs touch key) m n
@@ -193,7 +190,7 @@ module _ (doc : List Element) (pairs : List (Touch × ℕ)) (touch : Touch) (ele
 
 -- one that has the touch of its key, and no path, marks all its elements
 pub alone_by_row : (doc : List Element) (pairs : List (Touch × ℕ)) (row : Row) (elements : List ℕ) → ((y : ℕ) → is_in y elements ≡ is_listed pairs row.touch y)
-    → (m n : Members) → AreAtElements doc pairs → IsAlone row → AreAdded elements m n → IsGrown (marks_by_row doc pairs row) m n
-alone_by_row doc pairs row elements listed m n are alone more =
+    → (m n : Members) → AreAtElements doc pairs → IsAlone row → IsGrown (λ x. is_in x elements) m n → IsGrown (marks_by_row doc pairs row) m n
+alone_by_row doc pairs row elements listed m n are alone grown =
     here_by_row doc pairs row elements listed [] row.key m n are refl (sym alone.path) refl
-    (here_all doc pairs row.touch elements listed row.key m n (ap (λ o. option_map_or (λ bearing. same_touch bearing row.touch) o false) alone.key ∙ same_self row.touch) more)
+    (here_all doc pairs row.touch elements listed row.key m n (ap (λ o. option_map_or (λ bearing. same_touch bearing row.touch) o false) alone.key ∙ same_self row.touch) grown)

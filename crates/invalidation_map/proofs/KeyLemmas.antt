@@ -1,4 +1,4 @@
--- Rows with the keys of their touches: those of one key are found, and all others mark nothing.
+-- For `Invalidator::mark_by_touch`: rows with the keys of their touches; those of one key are found, all others mark nothing.
 use Rattle.std.proofs.Common.{◌≡◌, ℕ, zero, suc, ◌+◌, ◌<◌, ◌≤◌, ◌==◌, ◌||◌, ◌&&◌, Bool, true, false, List, [], ◌∷◌, ◌++◌, length, map, take, drop, get_or, refl, sym, ap, ◌∙◌}
 use Rattle.std.proofs.Common.{subst, inl, inr, arith, length-drop}
 use Rattle.std.specs.List.{list_any}

@@ -1,4 +1,4 @@
--- Sets of the names of keys: who bears one of them.
+-- For `KeySets::bears`: sets of the names of keys, and who bears one of them.
 use Rattle.std.proofs.Common.{◌≡◌, ℕ, ◌+◌, ◌<◌, ◌||◌, ◌++◌, Bool, true, false, cond, List, [], ◌∷◌, map, length, take, drop, take-append-drop, get_or, slice_get, Option, Some}
 use Rattle.std.proofs.Common.{None, IfSome, option_and_then, option_to_list, codes, refl, sym, ap, subst, ◌∙◌}
 use Rattle.std.specs.List.{list_any}

@@ -1,4 +1,4 @@
--- To which elements one leads: children, siblings after it.
+-- For `take_step`: to which elements one leads, children and siblings after it.
 use Rattle.std.proofs.Common.{◌≡◌, ℕ, ◌<◌, nat_eq, Bool, true, false, cond, List, [], ◌∷◌, length, take, Option, Some, None, option_to_list, slice_get, refl, sym, ap, ◌∙◌, arith}
 use Rattle.std.specs.Cmp.{both_ways}
 use Rattle.std.specs.List.{IsDistinct, list_any}

@@ -1,4 +1,4 @@
--- By rows: the elements that are marked.
+-- For `Invalidator::mark`: by rows, the elements that are marked.
 use Rattle.std.proofs.Common.{◌≡◌, ℕ, ◌||◌, ◌&&◌, Bool, true, false, List, [], ◌∷◌, Option, Some, None, option_map, flat_map, refl, sym, ap, ◌∙◌, subst}
 use Rattle.std.specs.List.{cons_option, filter_map, list_any}
 use Rattle.std.specs.List.Sorted.{IsPermutation}

@@ -1,8 +1,9 @@
--- Walks along paths.
-use Rattle.std.proofs.Common.{◌≡◌, ℕ, ◌+◌, ◌<◌, ◌==◌, ◌||◌, ◌&&◌, true, List, [], ◌∷◌, length, drop, get_or, refl, sym, ap, ◌∙◌, subst, arith, add-one, drop-cons}
+-- For `walk`: where a path leads, step by step.
+use Rattle.std.proofs.Common.{◌≡◌, ℕ, ◌+◌, ◌<◌, ◌≤◌, ◌==◌, ◌||◌, ◌&&◌, true, List, [], ◌∷◌, length, drop, get_or, refl, sym, ap, ◌∙◌, subst, arith, add-one, drop-cons}
 use Rattle.std.specs.Cmp.{both_ways}
 use Rattle.std.specs.List.{list_any}
 use Rattle.std.proofs.lemmas.Bool.{and_parts, and_from, eqb-true}
+use Rattle.std.proofs.lemmas.List.{drop_all}
 use Rattle.scene_model.specs.Element.{Element}
 use Rattle.scene_model.specs.Lookups.{IsElement, numbers}
 use Rattle.scene_model.specs.Valid.{IsValid}
@@ -12,12 +13,12 @@ use Rattle.scene_model.proofs.Numbers.{each_is_in}
 use Rattle.selector_model.specs.Selector.{Combinator}
 use Rattle.selector_model.specs.Holds.{is_in_relation}
 use Rattle.change_model.proofs.GraftChildren.{each_of}
-use Rattle.edit_model.specs.Dependencies.{Step, leads, reaches}
+use Rattle.edit_model.specs.Dependencies.{Step, forwards, leads, reaches}
 use Rattle.scene_model.specs.Numbers.{is_in}
 use Rattle.invalidation_map.specs.Members.{Members}
-use Rattle.invalidation_map.specs.Steps.{AreElements, AreLed}
+use Rattle.invalidation_map.specs.Steps.{AddsRelated, AreElements, AreLed}
 use Rattle.dependency_map.specs.DepView.{path_of, step_of}
-use Rattle.invalidation_map.specs.Paths.{AreStepped}
+use Rattle.invalidation_map.specs.Paths.{AreReached, AreStepped, TakesStep}
 use Rattle.dependency_map.specs.declared.dep.PathStep.{PathStep}
 use Rattle.invalidation_map.proofs.LeadLemmas.{led_element, some_to_lead}
 
@@ -39,6 +40,15 @@ module _ (doc : List Element) where
       let any = sym (led.each x ∙ ap (λ l. is_in x l || list_any (λ y. is_in_relation doc k y x) from) none) ∙ h in
       let (y, (i, t)) = any_in (λ y. is_in_relation doc k y x) from any in
       led_element doc (valid (some_to_lead (λ y. is_in_relation doc k y x) from any)) k y x t)
+
+  -- a set that was cleared gets those to which a step leads
+  pub step_made : (from : List ℕ) (k : Combinator) (before cleared new : Members) → cleared.items ≡ [] → cleared.room ≡ before.room → AddsRelated doc k from cleared new
+      → TakesStep doc (forwards k) from before new
+  step_made from k before cleared new none same more = record {
+    stepped = record { each = λ x. more.led.each x ∙ ap (λ l. is_in x l || list_any (λ y. is_in_relation doc k y x) from) none };
+    elements = step_elements from more.valid k cleared new none more.led;
+    room = more.led.room ∙ same;
+  }
 
   -- one step of the path is taken
   pub step_taken : (path ahead : List Step) (step : Step) (first from new : List ℕ) → AreElements doc new → AreStepped doc step from new → IsAhead doc path (step ∷ ahead) first from
@@ -69,3 +79,9 @@ module _ (doc : List Element) where
       subst (IsAhead doc (path_of path) (path_of (drop (i + 1) path)) first) (sym renewed)
       (step_taken (path_of path) (path_of (drop (i + 1) path)) (step_of (get_or path i d)) first from new are (subst (λ xs. AreStepped doc (step_of (get_or path i d)) xs new) same to)
       (subst (λ ahead. IsAhead doc (path_of path) ahead first from) (drop_ahead path i d l) is))
+
+  -- nothing of it is ahead
+  pub path_walked : (path : List PathStep) (i : ℕ) (first now : List ℕ) → length path ≤ i → IsAhead doc (path_of path) (path_of (drop i path)) first now → AreReached doc (path_of path) first now
+  path_walked path i first now l is = record {
+    each = λ x. ap (λ p. list_any (λ y. reaches doc (path_of p) y x) now) (sym (drop_all i path l)) ∙ is.each x;
+  }

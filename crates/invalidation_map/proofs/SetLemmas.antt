@@ -1,4 +1,4 @@
--- Sets of numbers: flags, and a list of the numbers whose flags are set.
+-- For `ElementSet::add`: flags, and a list of the numbers whose flags are set.
 use Rattle.std.proofs.Common.{◌≡◌, ℕ, zero, suc, ◌+◌, ◌<◌, ◌≤◌, ◌==◌, ◌||◌, ◌&&◌, nat_eq, Bool, true, false, not, cond, List, [], ◌∷◌, ◌++◌, length, take, get_or, slice_set, refl}
 use Rattle.std.proofs.Common.{sym, ap, ◌∙◌, subst, inl, inr, arith}
 use Rattle.std.specs.List.{IsDistinct}
@@ -62,7 +62,7 @@ distinct_last (y ∷ ys) x d h =
     let parts = or_parts (y == x) (is_in x ys) h in
     (each-append (λ z. (y == z) ≡ false) ys (x ∷ []) d.0 (parts.0, tt), distinct_last ys x d.1 parts.1)
 
-abbrev members : List ℕ → ℕ → Members
+abbrev pub members : List ℕ → ℕ → Members
 members items room = record { items = items; room = room }
 
 abbrev shown : List Bool → List ℕ → ℕ → Members

@@ -1,5 +1,5 @@
--- Paths and keys that rows share: what is appended to them leaves what rows stand for as it was.
-use Rattle.std.proofs.Common.{◌≡◌, ℕ, true, suc, ◌+◌, ◌-◌, ◌<◌, ◌≤◌, List, [], ◌∷◌, ◌++◌, length, map, take, get_or, Some, option_map, refl, sym, ap, ◌∙◌, subst, arith}
+-- For `GatheredRows::push_row`: what is appended to the paths and keys that rows share leaves what rows stand for as it was.
+use Rattle.std.proofs.Common.{◌≡◌, ℕ, Bool, true, false, cond, suc, ◌+◌, ◌-◌, ◌<◌, ◌≤◌, List, [], ◌∷◌, ◌++◌, length, map, take, get_or, Some, option_map, refl, sym, ap, ◌∙◌, subst, arith}
 use Rattle.std.specs.List.{slice_get}
 use Rattle.std.proofs.Math.Seq.{take-append_seam}
 use Rattle.std.proofs.lemmas.List.{get_or-map, get_or-take, length-append, length-map, length-take, map-append}
@@ -11,7 +11,7 @@ use Rattle.dom_edits.specs.TouchView.{touch_seen}
 use Rattle.invalidation_map.specs.declared.shared.DependencyRow.{DependencyRow}
 use Rattle.invalidation_map.specs.declared.shared.Shared.{Shared}
 use Rattle.invalidation_map.specs.Rows.{Row}
-use Rattle.invalidation_map.specs.Shared.{EndsWith, IsFront, StandsAt, keys_in, paths_in}
+use Rattle.invalidation_map.specs.Shared.{ArePlaced, EndsWith, IsFront, KeepsShared, StandsAt, keys_in, paths_in}
 use Rattle.invalidation_map.specs.SharedRows.{AreWithin, IsAlone, IsWithin, row_seen, rows_seen}
 
 -- lists that grow at the end
@@ -56,16 +56,16 @@ ends_at list x place h e =
 
 -- rows
 
-module _ (old new : Shared) (paths : IsFront (paths_in old) (paths_in new)) (keys : IsFront (keys_in old) (keys_in new)) where
+module _ (old new : Shared) (kept : KeepsShared old new) where
   row_kept : (row : DependencyRow) → IsWithin old row → row_seen new row ≡ row_seen old row
   row_kept row within =
-      ap {B = Row} (λ path. record { touch = touch_seen row.touch; path = path; key = get_or (keys_in new) row.key any_key }) (front_at (paths_in old) (paths_in new) paths row.path [] within.path)
-      ∙ ap {B = Row} (λ key. record { touch = touch_seen row.touch; path = get_or (paths_in old) row.path []; key = key }) (front_at (keys_in old) (keys_in new) keys row.key any_key within.key)
+      ap {B = Row} (λ path. record { touch = touch_seen row.touch; path = path; key = get_or (keys_in new) row.key any_key }) (front_at (paths_in old) (paths_in new) kept.paths row.path [] within.path)
+      ∙ ap {B = Row} (λ key. record { touch = touch_seen row.touch; path = get_or (paths_in old) row.path []; key = key }) (front_at (keys_in old) (keys_in new) kept.keys row.key any_key within.key)
 
   within_kept : (row : DependencyRow) → IsWithin old row → IsWithin new row
   within_kept row within = record {
-    path = omega (arith, within.path, front_length (paths_in old) (paths_in new) paths);
-    key = omega (arith, within.key, front_length (keys_in old) (keys_in new) keys);
+    path = omega (arith, within.path, front_length (paths_in old) (paths_in new) kept.paths);
+    key = omega (arith, within.key, front_length (keys_in old) (keys_in new) kept.keys);
     alone = λ e. subst IsAlone (sym (row_kept row within)) (within.alone e);
   }
 
@@ -75,22 +75,29 @@ module _ (old new : Shared) (paths : IsFront (paths_in old) (paths_in new)) (key
       ap (λ r. r ∷ rows_seen new rows) (row_kept row (within 0 row (omega arith)))
       ∙ ap (λ list. row_seen old row ∷ list) (rows_kept rows (λ k d l. within (suc k) d (omega arith)))
 
+  pub all_within : (rows : List DependencyRow) → AreWithin old rows → AreWithin new rows
+  all_within rows within = All-weaker (IsWithin old) (IsWithin new) within_kept rows within
+
   -- one row more
-  module _ (rows : List DependencyRow) (within : AreWithin old rows) (row : DependencyRow) (path : List Step) (key : Key) (path_at : StandsAt (paths_in new) row.path path)
-      (key_at : StandsAt (keys_in new) row.key key) where
+  module _ (rows : List DependencyRow) (within : AreWithin old rows) (row : DependencyRow) (path : List Step) (key : Key) (placed : ArePlaced new path key (row.path, row.key)) where
     row_is : row_seen new row ≡ record { touch = touch_seen row.touch; path = path; key = key }
     row_is =
-        ap {B = Row} (λ path. record { touch = touch_seen row.touch; path = path; key = get_or (keys_in new) row.key any_key }) (get_or_from_slice_get (paths_in new) row.path path [] path_at)
-        ∙ ap {B = Row} (λ key. record { touch = touch_seen row.touch; path = path; key = key }) (get_or_from_slice_get (keys_in new) row.key key any_key key_at)
+        ap {B = Row} (λ path. record { touch = touch_seen row.touch; path = path; key = get_or (keys_in new) row.key any_key }) (get_or_from_slice_get (paths_in new) row.path path [] placed.of_path)
+        ∙ ap {B = Row} (λ key. record { touch = touch_seen row.touch; path = path; key = key }) (get_or_from_slice_get (keys_in new) row.key key any_key placed.of_key)
 
-    pub within_pushed : (row.alone ≡ true → IsAlone (record { touch = touch_seen row.touch; path = path; key = key })) → AreWithin new (rows ++ row ∷ [])
+    within_pushed : (row.alone ≡ true → IsAlone (record { touch = touch_seen row.touch; path = path; key = key })) → AreWithin new (rows ++ row ∷ [])
     within_pushed alone =
-        All-push (IsWithin new) rows row (All-weaker (IsWithin old) (IsWithin new) within_kept rows within)
+        All-push (IsWithin new) rows row (all_within rows within)
         (record {
-          path = slice_get_within (paths_in new) row.path path path_at;
-          key = slice_get_within (keys_in new) row.key key key_at;
+          path = slice_get_within (paths_in new) row.path path placed.of_path;
+          key = slice_get_within (keys_in new) row.key key placed.of_key;
           alone = λ e. subst IsAlone (sym row_is) (alone e);
         })
+
+    -- or not, where there is no memory for it
+    pub within_tried : (pushed : Bool) → (row.alone ≡ true → IsAlone (record { touch = touch_seen row.touch; path = path; key = key })) → AreWithin new (cond pushed (rows ++ row ∷ []) rows)
+    within_tried true alone = within_pushed alone
+    within_tried false alone = all_within rows within
 
     pub rows_pushed : rows_seen new (rows ++ row ∷ []) ≡ rows_seen old rows ++ record { touch = touch_seen row.touch; path = path; key = key } ∷ []
     rows_pushed =

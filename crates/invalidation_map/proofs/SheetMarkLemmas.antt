@@ -1,4 +1,4 @@
--- Whom a change of sheets marks, as a list in tree order.
+-- For `sheet_marks`: whom a change of sheets marks, as a list in tree order.
 use Rattle.std.proofs.Common.{◌≡◌, ℕ, ◌==◌, ◌&&◌, ◌||◌, nat_eq, Bool, true, false, List, [], filter, refl, sym, ap, ◌∙◌}
 use Rattle.std.specs.List.{AllByRecursion, IsDistinct, list_any}
 use Rattle.std.proofs.lemmas.Bool.{eqb-true, and_right}

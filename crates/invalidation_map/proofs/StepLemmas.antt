@@ -1,4 +1,4 @@
--- The steps of a path: what their loops keep.
+-- For `add_later_siblings`: what the loops keep that take a step of a path.
 use Rattle.std.proofs.Common.{◌≡◌, ℕ, zero, suc, ◌+◌, ◌<◌, ◌≢◌, ◌==◌, ◌||◌, nat_eq, Bool, true, false, List, [], ◌∷◌, ◌++◌, length, take, drop, get_or, refl, sym, ap, ◌∙◌, subst, inl, inr, arith}
 use Rattle.std.specs.Cmp.{both_ways}
 use Rattle.std.specs.List.{AllByRecursion, IsDistinct, list_any}
@@ -17,7 +17,7 @@ use Rattle.selector_model.specs.Holds.{is_in_relation}
 use Rattle.selector_model.specs.Selector.{later_sibling}
 use Rattle.scene_model.specs.Numbers.{is_in}
 use Rattle.invalidation_map.specs.Members.{Members, AreBelow, AreAdded}
-use Rattle.invalidation_map.specs.Steps.{AreElements, AreLed, HasRoom, IsClosed}
+use Rattle.invalidation_map.specs.Steps.{AreElements, AreLed, CanStep, HasRoom, IsClosed}
 use Rattle.std.proofs.Math.Bool.{or_assoc}
 use Rattle.invalidation_map.proofs.SetLemmas.{front_front, or_no}
 use Rattle.invalidation_map.proofs.LeadLemmas.{later_led, distinct_siblings, same_siblings}
@@ -30,6 +30,10 @@ each_get P (x ∷ xs) (suc i) h l = each_get P xs i h.1 (omega arith)
 
 pub below_all : (doc : List Element) (room : ℕ) (xs : List ℕ) → HasRoom doc room → AreElements doc xs → AreBelow room xs
 below_all doc room xs h k = each_weaker (IsElement doc) (λ x. x < room) h xs k
+
+-- also into a set that was cleared
+pub can_cleared : (doc : List Element) (from : List ℕ) (old cleared : Members) → cleared.room ≡ old.room → CanStep doc from old → CanStep doc from cleared
+can_cleared doc from old cleared same can = record { elements = can.elements; room = subst (HasRoom doc) (sym same) can.room }
 
 any_last : (p : ℕ → Bool) (xs : List ℕ) (y : ℕ) → list_any p (xs ++ y ∷ []) ≡ (list_any p xs || p y)
 any_last p xs y = list_any-append p xs (y ∷ []) ∙ ap (λ b. list_any p xs || b) (sym (or_no (p y)))

@@ -1,6 +1,6 @@
--- What marking adds to a set.
-use Rattle.std.specs.Prelude.{◌≡◌, ℕ, ◌||◌, Bool, List}
-use Rattle.std.specs.List.{AllByRecursion}
+-- What marking adds to the sets that edits fill.
+use Rattle.std.specs.Prelude.{◌≡◌, ℕ, ◌+◌, ◌||◌, nat_eq, Bool, List}
+use Rattle.std.specs.List.{AllByRecursion, IsDistinct}
 use Rattle.std.specs.List.Sorted.{IsPermutation}
 use Rattle.scene_model.specs.Element.{Element}
 use Rattle.scene_model.specs.Lookups.{IsElement}
@@ -14,6 +14,7 @@ use Rattle.invalidation_map.specs.EditMembers.{EditMembers, but_fresh, but_gone,
 use Rattle.invalidation_map.specs.EditMembers.{fresh_in, gone_in, marked_in}
 use Rattle.invalidation_map.specs.Members.{Members}
 use Rattle.invalidation_map.specs.Rows.{Row, rows_of}
+use Rattle.invalidation_map.specs.Steps.{HasRoom}
 
 -- the list has exactly what is touched between two documents
 abbrev pub AreListed : List Element → List Element → List (Touch × ℕ) → Type 0
@@ -58,11 +59,13 @@ pub record AddsMarkedBy (doc : List Element) (pairs : List (Touch × ℕ)) (rows
   pub marked : AreMarked doc pairs rows (marked_in old) (marked_in new)
   pub others : but_marked new ≡ but_marked old
 
--- for them all, a list has the marked elements and no others
-abbrev pub IsMarkedList : List Element → List (Touch × ℕ) → List Row → List ℕ → Type 0
-IsMarkedList doc pairs rows list =
-    (before : List Element) (selectors : List Selector)
-    → SameTags before doc
-    → AreListed before doc pairs
-    → IsPermutation (rows_of selectors) rows
-    → (x : ℕ) → is_in x list ≡ is_marked before doc selectors x
+-- for them all, a list has the marked elements and no others, each once
+pub record IsMarkedList (doc : List Element) (pairs : List (Touch × ℕ)) (rows : List Row) (list : List ℕ) : Type 0 where
+  pub each : (before : List Element) (selectors : List Selector) → SameTags before doc → AreListed before doc pairs
+      → IsPermutation (rows_of selectors) rows → (x : ℕ) → is_in x list ≡ is_marked before doc selectors x
+  pub once : IsDistinct nat_eq list
+
+-- of the elements after an edit: none has a number above the last, and who was there before has the tag that it had
+pub record AreAfter (last : ℕ) (before after : List Element) : Type 0 where
+  pub room : HasRoom after (last + 1)
+  pub tags : SameTags before after

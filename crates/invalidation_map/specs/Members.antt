@@ -1,5 +1,5 @@
 -- A set of numbers of elements.
-use Rattle.std.specs.Prelude.{◌≡◌, ℕ, ◌+◌, ◌<◌, ◌||◌, ◌&&◌, not, nat_eq, Bool, false, List, [], ◌∷◌, ◌++◌}
+use Rattle.std.specs.Prelude.{◌≡◌, ℕ, ◌+◌, ◌<◌, ◌||◌, ◌&&◌, max, not, nat_eq, Bool, false, List, [], ◌∷◌, ◌++◌}
 use Rattle.std.specs.Prelude.{length, take, if◌then◌else◌, slice_index_or, refl}
 use Rattle.std.specs.List.{AllByRecursion, IsDistinct}
 use Rattle.std.specs.Coded.{Coded, code_by, coded×, coded_ℕ, coded_list}
@@ -32,6 +32,10 @@ pub record AreFlags (flags : List Bool) (list : List ℕ) (count : ℕ) : Type 0
   pub each : (x : ℕ) → slice_index_or flags x false ≡ is_in x (take count list)
   pub below : AreBelow (length flags) (take count list)
   pub once : IsDistinct nat_eq (take count list)
+
+-- with room for the numbers up to one
+abbrev pub widened : ℕ → Members → Members
+widened last m = record m { room = max m.room (last + 1) }
 
 -- one number more
 abbrev pub added : Members → ℕ → Members

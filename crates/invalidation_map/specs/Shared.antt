@@ -30,6 +30,16 @@ IsFront front whole = take (length front) whole ≡ front
 abbrev pub StandsAt : {X : Type 0} → List X → ℕ → X → Type 0
 StandsAt list place x = slice_get list place ≡ Some x
 
+-- with more paths and keys behind those that were there
+pub record KeepsShared (old new : Shared) : Type 0 where
+  pub paths : IsFront (paths_in old) (paths_in new)
+  pub keys : IsFront (keys_in old) (keys_in new)
+
+-- a path and a key stand at these places
+pub record ArePlaced (shared : Shared) (path : List Step) (key : Key) (places : ℕ × ℕ) : Type 0 where
+  pub of_path : StandsAt (paths_in shared) places.0 path
+  pub of_key : StandsAt (keys_in shared) places.1 key
+
 -- that element is the last
 abbrev pub EndsWith : {X : Type 0} → List X → X → Type 0
 EndsWith list x = StandsAt list (length list - 1) x

@@ -1,21 +1,20 @@
 //! The marks of one edit.
 
-ghost use Rattle.std.specs.Prelude.{◌≡◌, ◌+◌, ◌<◌, ℕ, IfOk, [], nat_eq};
+ghost use Rattle.std.specs.Prelude.{◌≡◌, ◌+◌, ℕ, IfOk, [], nat_eq};
 ghost use Rattle.std.specs.List.{IsDistinct, flat_map};
 ghost use Rattle.scene_model.specs.Document.{Document};
 ghost use Rattle.scene_model.specs.Numbers.{is_in};
-ghost use Rattle.change_model.specs.Sound.{IsSound};
 ghost use Rattle.selector_types.specs.View.{selectors_of};
 ghost use Rattle.edit_model.specs.Apply.{applied};
-ghost use Rattle.edit_model.specs.Edit.{IsShaped};
 ghost use Rattle.edit_model.specs.Marked.{is_marked};
 ghost use Rattle.edit_model.specs.Refusal.{accepted};
 ghost use Rattle.edit_model.specs.TouchedBy.{AreTouched};
 ghost use Rattle.dom_edits.specs.EditView.{doc_edit_seen};
-ghost use Rattle.invalidation_map.specs.Marks.{AreAtElements, IsMarkedList};
+ghost use Rattle.invalidation_map.specs.Marks.{AreAfter, IsMarkedList};
 ghost use Rattle.invalidation_map.specs.RowView.{rows_in};
 ghost use Rattle.invalidation_map.specs.Steps.{HasRoom};
 
+use crate::invalidator::Invalidator;
 use crate::{EditSets, InvalidationMap};
 use dom_edits::{DocEdit, Touched};
 use dom_tree::Doc;
@@ -43,26 +42,24 @@ pub fn marks(
 {
     let last = last_after(before, edit)?;
     let map = InvalidationMap::of(alloc, selectors)?;
-    let found = marked_by(alloc, after, touched, &map, last);
+    let invalidator = Invalidator {
+        doc: after,
+        touched,
+        map: &map,
+    };
+    let found = marked_by(alloc, &invalidator, last);
     drop(map);
     found
 }
 
 /// The elements that an edit marks by the rows of selectors, each once. No element has a number above `last`.
-fn marked_by(
-    alloc: Global,
-    doc: &Doc,
-    touched: &Touched,
-    map: &InvalidationMap,
-    last: u32,
-) -> Result<Vec<u32>, NoMemory>
-    requires touched { AreAtElements doc.now.elements touched.now }
-    requires last { HasRoom doc.now.elements (last + 1) }
-    ensures marked { IfOk result (λ v. IsMarkedList doc.now.elements touched.now (rows_in map.now) v.items) }
-    ensures once { IfOk result (λ v. IsDistinct nat_eq v.items) }
+fn marked_by(alloc: Global, invalidator: &Invalidator<'_>, last: u32) -> Result<Vec<u32>, NoMemory>
+    requires { HasRoom invalidator.now.doc.now.elements (last + 1) }
+    ensures { IfOk result (λ v. IsMarkedList invalidator.now.doc.now.elements invalidator.now.touched.now
+        (rows_in invalidator.now.map.now) v.items) }
 {
     let mut sets = sets_up_to(alloc, last)?;
-    sets.mark(doc, touched, map);
+    invalidator.mark(&mut sets);
     let found = Vec::from_slice(alloc, sets.marked());
     drop(sets);
     Ok(found?)
@@ -70,8 +67,7 @@ fn marked_by(
 
 /// Sets with room for the numbers up to `last`, in which there is none.
 fn sets_up_to(alloc: Global, last: u32) -> Result<EditSets, NoMemory>
-    ensures room { IfOk result (λ sets. last < sets.room) }
-    ensures none { IfOk result (λ sets. sets.marked ≡ []) }
+    ensures { IfOk result (λ sets. sets ≡ record { marked = []; fresh = []; gone = []; room = last + 1 }) }
 {
     let mut sets = EditSets::new(alloc);
     sets.reserve(last)?;
@@ -81,10 +77,8 @@ fn sets_up_to(alloc: Global, last: u32) -> Result<EditSets, NoMemory>
 /// The last number that there is after an edit that nothing refuses. Where there would be more than the limit of
 /// numbers, something does, and no memory is asked for.
 fn last_after(before: &Doc, edit: &DocEdit) -> Result<u32, NoMemory>
-    ensures room { IfOk result (λ last. (after : Document)
-        → applied before.now (doc_edit_seen edit.now) ≡ accepted after → HasRoom after.elements (last + 1)) }
-    ensures sound { IsSound before.now }
-    ensures shaped { IsShaped (doc_edit_seen edit.now) }
+    ensures { IfOk result (λ last. (after : Document) → applied before.now (doc_edit_seen edit.now) ≡ accepted after
+        → AreAfter last before.now.elements after.elements) }
 {
     let last = before.last();
     let more = edit.new_count();

@@ -4,7 +4,7 @@ ghost use Rattle.std.specs.Prelude.{◌≡◌, ◌+◌, ◌<◌, ◌==◌, ◌�
 ghost use Rattle.std.specs.Prelude.{IfOk, OnErr, OnOk, OnSome};
 ghost use Rattle.std.specs.List.{IsDistinct};
 ghost use Rattle.scene_model.specs.Numbers.{is_in};
-ghost use Rattle.invalidation_map.specs.Members.{AreAdded, AreBelow, AreUnset, added};
+ghost use Rattle.invalidation_map.specs.Members.{AreAdded, AreBelow, AreUnset, added, widened};
 
 use std::alloc::Global;
 use std::marker::Model;
@@ -60,9 +60,7 @@ impl ElementSet {
 
     /// Makes room for the numbers up to `last`, where there is not yet. After an error the set is as it was.
     pub fn reserve(&mut self, last: u32) -> Result<(), NoMemory>
-        ensures room { OnOk result (last < self.new.room) }
-        ensures wider { self.old.room ≤ self.new.room }
-        ensures items { self.new.items ≡ self.old.items }
+        ensures ok { OnOk result (self.new ≡ widened last self.old) }
         ensures kept { OnErr result (self.new ≡ self.old) }
     {
         let now = self.flags.len();

@@ -1,6 +1,6 @@
 //! The rows of selectors.
 
-ghost use Rattle.std.specs.Prelude.{◌≡◌, ◌++◌, IfOk, OnOk, map, option_map, option_to_list, true};
+ghost use Rattle.std.specs.Prelude.{◌≡◌, ◌++◌, [], IfOk, OnOk, map, option_map, option_to_list, true};
 ghost use Rattle.std.specs.List.{flat_map};
 ghost use Rattle.std.specs.List.Sorted.{IsPermutation};
 ghost use Rattle.edit_model.specs.Dependencies.{touch_of as model_touch_of};
@@ -9,13 +9,12 @@ ghost use Rattle.selector_types.specs.View.{selector_of, selectors_of};
 ghost use Rattle.dependency_map.specs.DepView.{dep_of, part_of, path_of};
 ghost use Rattle.dom_edits.specs.TouchView.{touch_key, touch_seen};
 ghost use Rattle.invalidation_map.specs.Rows.{row_of, rows_of, rows_of_selector};
-ghost use Rattle.invalidation_map.specs.SharedRows.{AreWithin, IsAlone, rows_seen};
-ghost use Rattle.invalidation_map.specs.RowView.{rows_in};
+ghost use Rattle.invalidation_map.specs.SharedRows.{AreWithin, IsAlone};
 
 use crate::key_index::{KeyIndex, spread};
 use crate::rows::InvalidationMap;
 use crate::selector_key::{is_touch_of, name_of};
-use crate::shared::{DependencyRow, Shared, place_of_key, place_of_path};
+use crate::shared::{DependencyRow, Shared};
 use dependency_map::{Dep, Part, PathStep, deps};
 use dom_edits::{Touch, TouchName};
 use selector_types::{Key, Selector, Simple, key_of};
@@ -23,19 +22,18 @@ use std::alloc::Global;
 use stylo_base::NoMemory;
 
 impl InvalidationMap {
+    ghost use Rattle.invalidation_map.specs.RowView.{rows_in};
+
     /// Those of the selectors of rules: of each rule a list.
     pub fn of(alloc: Global, rules: &[Vec<Selector>]) -> Result<InvalidationMap, NoMemory>
         ensures { IfOk result (λ d. IsPermutation
             (rows_of (flat_map (λ list. selectors_of list.items) rules.now)) (rows_in d)) }
     {
-        let mut rows = Vec::new(alloc);
-        let mut shared = Shared {
-            paths: Vec::new(alloc),
-            keys: Vec::new(alloc),
-        };
+        let mut gathered = GatheredRows::new(alloc);
         for selectors in rules {
-            push_all(alloc, selectors, &mut rows, &mut shared)?;
+            gathered.push_all(alloc, selectors)?;
         }
+        let GatheredRows { mut rows, shared } = gathered;
         rows.sort_by_key(|row| spread(row.touch.key()))?;
         let index = KeyIndex::of(alloc, keys_of(alloc, &rows)?)?;
         let style = Touch::Attribute(TouchName::of(alloc, "style")?);
@@ -59,70 +57,72 @@ fn keys_of(alloc: Global, rows: &[DependencyRow]) -> Result<Vec<u64>, NoMemory>
     Ok(keys)
 }
 
-/// Appends the rows of selectors.
-fn push_all(
-    alloc: Global,
-    selectors: &[Selector],
-    rows: &mut Vec<DependencyRow>,
-    shared: &mut Shared,
-) -> Result<(), NoMemory>
-    requires within { AreWithin shared.old rows.old.items }
-    ensures within { OnOk result (AreWithin shared.new rows.new.items) }
-    ensures rows { OnOk result (rows_seen shared.new rows.new.items
-        ≡ rows_seen shared.old rows.old.items ++ rows_of (selectors_of selectors.now)) }
-{
-    for selector in selectors {
-        push_rows(alloc, selector, rows, shared)?;
-    }
-    Ok(())
+/// Rows that were gathered, and what they share.
+#[derive(Drop)]
+struct GatheredRows {
+    rows: Vec<DependencyRow>,
+    shared: Shared,
+    ghost within: { AreWithin shared rows.items },
 }
 
-/// Appends the rows of a selector.
-fn push_rows(
-    alloc: Global,
-    selector: &Selector,
-    rows: &mut Vec<DependencyRow>,
-    shared: &mut Shared,
-) -> Result<(), NoMemory>
-    requires within { AreWithin shared.old rows.old.items }
-    ensures within { OnOk result (AreWithin shared.new rows.new.items) }
-    ensures rows { OnOk result (rows_seen shared.new rows.new.items
-        ≡ rows_seen shared.old rows.old.items ++ rows_of_selector (selector_of selector.now)) }
-{
-    let found = deps(alloc, selector)?;
-    for dep in &found {
-        push_row(alloc, dep, key_of(selector), rows, shared)?;
-    }
-    Ok(())
-}
+impl GatheredRows {
+    ghost use Rattle.invalidation_map.specs.RowView.{rows_gathered};
 
-/// Appends the row of a dependency of a selector with this key, if anything can touch it.
-fn push_row(
-    alloc: Global,
-    dep: &Dep,
-    key: &Key,
-    rows: &mut Vec<DependencyRow>,
-    shared: &mut Shared,
-) -> Result<(), NoMemory>
-    requires within { AreWithin shared.old rows.old.items }
-    ensures within { OnOk result (AreWithin shared.new rows.new.items) }
-    ensures rows { OnOk result (rows_seen shared.new rows.new.items
-        ≡ rows_seen shared.old rows.old.items ++ option_to_list (row_of (key_seen key.now) (dep_of dep.now))) }
-{
-    let Some(touch) = touch_of(alloc, &dep.part)? else {
-        return Ok(());
-    };
-    let steps = dep.path.as_slice();
-    let alone = is_alone(&touch, steps, key);
-    let path = place_of_path(alloc, steps, &mut shared.paths)?;
-    let key = place_of_key(alloc, key, &mut shared.keys)?;
-    rows.push(DependencyRow {
-        touch,
-        path,
-        key,
-        alone,
-    })?;
-    Ok(())
+    /// None.
+    fn new(alloc: Global) -> GatheredRows
+        ensures { rows_gathered result ≡ [] }
+    {
+        GatheredRows {
+            rows: Vec::new(alloc),
+            shared: Shared {
+                paths: Vec::new(alloc),
+                keys: Vec::new(alloc),
+            },
+        }
+    }
+
+    /// Appends the rows of selectors.
+    fn push_all(&mut self, alloc: Global, selectors: &[Selector]) -> Result<(), NoMemory>
+        ensures { OnOk result (rows_gathered self.new
+            ≡ rows_gathered self.old ++ rows_of (selectors_of selectors.now)) }
+    {
+        for selector in selectors {
+            self.push_rows(alloc, selector)?;
+        }
+        Ok(())
+    }
+
+    /// Appends the rows of a selector.
+    fn push_rows(&mut self, alloc: Global, selector: &Selector) -> Result<(), NoMemory>
+        ensures { OnOk result (rows_gathered self.new
+            ≡ rows_gathered self.old ++ rows_of_selector (selector_of selector.now)) }
+    {
+        let found = deps(alloc, selector)?;
+        for dep in &found {
+            self.push_row(alloc, dep, key_of(selector))?;
+        }
+        Ok(())
+    }
+
+    /// Appends the row of a dependency of a selector with this key, if anything can touch it.
+    fn push_row(&mut self, alloc: Global, dep: &Dep, key: &Key) -> Result<(), NoMemory>
+        ensures { OnOk result (rows_gathered self.new
+            ≡ rows_gathered self.old ++ option_to_list (row_of (key_seen key.now) (dep_of dep.now))) }
+    {
+        let Some(touch) = touch_of(alloc, &dep.part)? else {
+            return Ok(());
+        };
+        let steps = dep.path.as_slice();
+        let alone = is_alone(&touch, steps, key);
+        let (path, key) = self.shared.places(alloc, steps, key)?;
+        self.rows.push(DependencyRow {
+            touch,
+            path,
+            key,
+            alone,
+        })?;
+        Ok(())
+    }
 }
 
 /// Whether a row has no path, and its touch is that of its key.

@@ -12,12 +12,11 @@ ghost use Rattle.edit_model.specs.TouchedBy.{is_listed};
 ghost use Rattle.edit_model.specs.MarkedAfter.{touch_of_key};
 ghost use Rattle.dom_edits.specs.TouchView.{touch_seen};
 ghost use Rattle.dom_edits.specs.TouchedView.{list_touches};
-ghost use Rattle.invalidation_map.specs.EditMembers.{but_marked, marked_in};
 ghost use Rattle.invalidation_map.specs.Steps.{AreElements, HasRoom};
 ghost use Rattle.invalidation_map.specs.Rows.{AreTouchedIn, marks_by_row, marks_by_touch};
 ghost use Rattle.invalidation_map.specs.SharedRows.{IsWithin, row_seen};
 ghost use Rattle.invalidation_map.specs.RowView.{rows_in};
-ghost use Rattle.invalidation_map.specs.Marks.{AddsMarked, AreAtElements, AreMarked, IsGrown};
+ghost use Rattle.invalidation_map.specs.Marks.{AddsMarked, AddsMarkedBy, AreAtElements, IsGrown};
 
 use crate::ElementSet;
 use crate::edit_sets::EditSets;
@@ -45,9 +44,8 @@ impl Invalidator<'_> {
     /// Marks the elements that the edit marks.
     pub(crate) fn mark(&self, sets: &mut EditSets)
         requires { HasRoom self.now.doc.now.elements sets.old.room }
-        ensures marked { AreMarked self.now.doc.now.elements self.now.touched.now (rows_in self.now.map.now)
-            (marked_in sets.old) (marked_in sets.new) }
-        ensures others { but_marked sets.new ≡ but_marked sets.old }
+        ensures { AddsMarkedBy self.now.doc.now.elements self.now.touched.now (rows_in self.now.map.now)
+            sets.old sets.new }
     {
         sets.add_marked(self.touched.at(&self.map.style));
         let (touches, elements) = self.touched.parts();

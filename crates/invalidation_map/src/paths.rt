@@ -1,10 +1,8 @@
 //! Paths from elements to those whose matching rests on them.
 
-ghost use Rattle.std.specs.Prelude.{◌≡◌, ℕ};
-ghost use Rattle.invalidation_map.specs.EditMembers.{BothHaveRoom};
-ghost use Rattle.invalidation_map.specs.Paths.{AreReached, AreStepped};
+ghost use Rattle.invalidation_map.specs.Paths.{TakesStep, WalksPath};
 ghost use Rattle.dependency_map.specs.DepView.{path_of, step_of};
-ghost use Rattle.invalidation_map.specs.Steps.{AreElements, HasRoom};
+ghost use Rattle.invalidation_map.specs.Steps.{CanStep, HasRoom};
 
 use crate::ElementSet;
 use crate::steps::{add_children, add_descendants, add_later_siblings, add_next_siblings};
@@ -14,11 +12,8 @@ use selector_types::Combinator;
 
 /// The elements to which those of a list lead by one step, in place of what is in the set.
 fn take_step(doc: &Doc, step: PathStep, from: &[u32], into: &mut ElementSet)
-    requires elements { AreElements doc.now.elements from.now }
-    requires room { HasRoom doc.now.elements into.old.room }
-    ensures stepped { AreStepped doc.now.elements (step_of step) from.now into.new.items }
-    ensures elements { AreElements doc.now.elements into.new.items }
-    ensures room { into.new.room ≡ into.old.room }
+    requires { CanStep doc.now.elements from.now into.old }
+    ensures { TakesStep doc.now.elements (step_of step) from.now into.old into.new }
 {
     into.clear();
     let PathStep::Forwards(combinator) = step;
@@ -32,12 +27,9 @@ fn take_step(doc: &Doc, step: PathStep, from: &[u32], into: &mut ElementSet)
 
 /// The elements to which those of the set `from` lead by a path, in their place. What is in `next` goes.
 pub(crate) fn walk(doc: &Doc, path: &[PathStep], from: &mut ElementSet, next: &mut ElementSet)
-    requires elements { AreElements doc.now.elements from.old.items }
+    requires can { CanStep doc.now.elements from.old.items next.old }
     requires room { HasRoom doc.now.elements from.old.room }
-    requires next { HasRoom doc.now.elements next.old.room }
-    ensures reached { AreReached doc.now.elements (path_of path.now) from.old.items from.new.items }
-    ensures elements { AreElements doc.now.elements from.new.items }
-    ensures room { (room : ℕ) → BothHaveRoom room from.old next.old → BothHaveRoom room from.new next.new }
+    ensures { WalksPath doc.now.elements (path_of path.now) from.old next.old from.new next.new }
 {
     for step in path {
         take_step(doc, *step, from.as_slice(), next);

@@ -4,7 +4,7 @@ ghost use Rattle.std.specs.Prelude.{◌≡◌, ◌↔◌, ◌+◌, ◌<◌, IfOk
 ghost use Rattle.std.specs.Bool.{IsTrue};
 ghost use Rattle.selector_types.specs.SimpleView.{key_seen};
 ghost use Rattle.dependency_map.specs.DepView.{path_of};
-ghost use Rattle.invalidation_map.specs.Shared.{EndsWith, IsFront, StandsAt, keys_seen, paths_seen};
+ghost use Rattle.invalidation_map.specs.Shared.{ArePlaced, EndsWith, IsFront, KeepsShared, StandsAt, keys_seen, paths_seen};
 
 use crate::selector_key::SelectorKey;
 use dependency_map::PathStep;
@@ -33,13 +33,30 @@ pub(crate) struct Shared {
     pub(crate) keys: Vec<SelectorKey>,
 }
 
+impl Shared {
+    /// The places of a path and of a key.
+    pub(crate) fn places(
+        &mut self,
+        alloc: Global,
+        path: &[PathStep],
+        key: &Key,
+    ) -> Result<(u32, u32), NoMemory>
+        ensures kept { KeepsShared self.old self.new }
+        ensures placed { IfOk result (ArePlaced self.new (path_of path.now) (key_seen key.now)) }
+    {
+        let path = place_of_path(alloc, path, &mut self.paths)?;
+        let key = place_of_key(alloc, key, &mut self.keys)?;
+        Ok((path, key))
+    }
+}
+
 /// The place of a path: that of the last one, if it is the same, else of a new one.
-pub(crate) fn place_of_path(
+fn place_of_path(
     alloc: Global,
     path: &[PathStep],
     paths: &mut Vec<Vec<PathStep>>,
 ) -> Result<u32, NoMemory>
-    ensures front { OnOk result (IsFront (paths_seen paths.old.items) (paths_seen paths.new.items)) }
+    ensures front { IsFront (paths_seen paths.old.items) (paths_seen paths.new.items) }
     ensures place { IfOk result (λ place. StandsAt (paths_seen paths.new.items) place (path_of path.now)) }
 {
     end_with_path(alloc, path, paths)?;
@@ -52,7 +69,7 @@ fn end_with_path(
     path: &[PathStep],
     paths: &mut Vec<Vec<PathStep>>,
 ) -> Result<(), NoMemory>
-    ensures front { OnOk result (IsFront (paths_seen paths.old.items) (paths_seen paths.new.items)) }
+    ensures front { IsFront (paths_seen paths.old.items) (paths_seen paths.new.items) }
     ensures last { OnOk result (EndsWith (paths_seen paths.new.items) (path_of path.now)) }
 {
     if !is_last_path(path, paths) {
@@ -79,12 +96,8 @@ fn is_same_path(one: &[PathStep], other: &[PathStep]) -> bool
 }
 
 /// The place of a key: that of the last one, if it is the same, else of a new one.
-pub(crate) fn place_of_key(
-    alloc: Global,
-    key: &Key,
-    keys: &mut Vec<SelectorKey>,
-) -> Result<u32, NoMemory>
-    ensures front { OnOk result (IsFront (keys_seen keys.old.items) (keys_seen keys.new.items)) }
+fn place_of_key(alloc: Global, key: &Key, keys: &mut Vec<SelectorKey>) -> Result<u32, NoMemory>
+    ensures front { IsFront (keys_seen keys.old.items) (keys_seen keys.new.items) }
     ensures place { IfOk result (λ place. StandsAt (keys_seen keys.new.items) place (key_seen key.now)) }
 {
     end_with_key(alloc, key, keys)?;
@@ -93,7 +106,7 @@ pub(crate) fn place_of_key(
 
 /// Appends a key, unless the last one is the same.
 fn end_with_key(alloc: Global, key: &Key, keys: &mut Vec<SelectorKey>) -> Result<(), NoMemory>
-    ensures front { OnOk result (IsFront (keys_seen keys.old.items) (keys_seen keys.new.items)) }
+    ensures front { IsFront (keys_seen keys.old.items) (keys_seen keys.new.items) }
     ensures last { OnOk result (EndsWith (keys_seen keys.new.items) (key_seen key.now)) }
 {
     if !is_last_key(key, keys) {

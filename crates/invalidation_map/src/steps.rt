@@ -1,23 +1,20 @@
 //! One step of a path, from the elements of a list into a set. Each element is added once.
 
-ghost use Rattle.std.specs.Prelude.{◌≡◌, ◌<◌, ℕ, [], length, nat_eq, take};
+ghost use Rattle.std.specs.Prelude.{◌≡◌, [], nat_eq, take};
 ghost use Rattle.std.specs.List.{IsDistinct};
 ghost use Rattle.scene_model.specs.Lookups.{IsElement, right_of, siblings};
 ghost use Rattle.scene_model.specs.Valid.{IsValid};
-ghost use Rattle.selector_model.specs.Holds.{is_in_relation};
 ghost use Rattle.selector_model.specs.Selector.{child, descendant, next_sibling, later_sibling};
 ghost use Rattle.invalidation_map.specs.Members.{AreAdded, AreBelow};
-ghost use Rattle.invalidation_map.specs.Steps.{AreElements, AreLed, HasRoom, IsClosed};
+ghost use Rattle.invalidation_map.specs.Steps.{AddsRelated, CanStep, IsClosed};
 
 use crate::ElementSet;
 use dom_tree::Doc;
 
 /// Adds the children of each.
 pub(crate) fn add_children(doc: &Doc, from: &[u32], into: &mut ElementSet)
-    requires elements { AreElements doc.now.elements from.now }
-    requires room { HasRoom doc.now.elements into.old.room }
-    ensures led { AreLed (is_in_relation doc.now.elements child) from.now into.old into.new }
-    ensures valid { 0 < length from.now → IsValid doc.now.elements }
+    requires { CanStep doc.now.elements from.now into.old }
+    ensures { AddsRelated doc.now.elements child from.now into.old into.new }
 {
     for x in from {
         into.add_all(doc.children(*x));
@@ -26,10 +23,8 @@ pub(crate) fn add_children(doc: &Doc, from: &[u32], into: &mut ElementSet)
 
 /// Adds the sibling right after each.
 pub(crate) fn add_next_siblings(doc: &Doc, from: &[u32], into: &mut ElementSet)
-    requires elements { AreElements doc.now.elements from.now }
-    requires room { HasRoom doc.now.elements into.old.room }
-    ensures led { AreLed (is_in_relation doc.now.elements next_sibling) from.now into.old into.new }
-    ensures valid { 0 < length from.now → IsValid doc.now.elements }
+    requires { CanStep doc.now.elements from.now into.old }
+    ensures { AddsRelated doc.now.elements next_sibling from.now into.old into.new }
 {
     for x in from {
         into.add_all(next_siblings(doc, *x));
@@ -39,11 +34,9 @@ pub(crate) fn add_next_siblings(doc: &Doc, from: &[u32], into: &mut ElementSet)
 /// Adds all siblings after each, to an empty set. It goes on no further where it meets one that is in the set: then
 /// those after it are too.
 pub(crate) fn add_later_siblings(doc: &Doc, from: &[u32], into: &mut ElementSet)
-    requires elements { AreElements doc.now.elements from.now }
-    requires room { HasRoom doc.now.elements into.old.room }
+    requires can { CanStep doc.now.elements from.now into.old }
     requires empty { into.old.items ≡ [] }
-    ensures led { AreLed (is_in_relation doc.now.elements later_sibling) from.now into.old into.new }
-    ensures valid { 0 < length from.now → IsValid doc.now.elements }
+    ensures { AddsRelated doc.now.elements later_sibling from.now into.old into.new }
 {
     for x in from {
         add_until_met(doc.right_siblings(*x), into);
@@ -53,11 +46,9 @@ pub(crate) fn add_later_siblings(doc: &Doc, from: &[u32], into: &mut ElementSet)
 /// Adds all elements below each, to an empty set: the children, and then the children of what is in the set, while it
 /// grows.
 pub(crate) fn add_descendants(doc: &Doc, from: &[u32], into: &mut ElementSet)
-    requires elements { AreElements doc.now.elements from.now }
-    requires room { HasRoom doc.now.elements into.old.room }
+    requires can { CanStep doc.now.elements from.now into.old }
     requires empty { into.old.items ≡ [] }
-    ensures led { AreLed (is_in_relation doc.now.elements descendant) from.now into.old into.new }
-    ensures valid { 0 < length from.now → IsValid doc.now.elements }
+    ensures { AddsRelated doc.now.elements descendant from.now into.old into.new }
 {
     add_children(doc, from, into);
     let mut index = 0;

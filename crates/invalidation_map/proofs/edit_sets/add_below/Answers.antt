@@ -5,8 +5,13 @@ use Rattle.invalidation_map.specs.Steps.{AreElements}
 use Rattle.invalidation_map.proofs.BelowLemmas.{below_added}
 use Rattle.invalidation_map.proofs.PathLemmas.{step_elements}
 use Rattle.invalidation_map.proofs.SetLemmas.{one_added}
-use Rattle.invalidation_map.proofs.StepLemmas.{below_all}
+use Rattle.invalidation_map.proofs.StepLemmas.{below_all, can_cleared}
 use Rattle.invalidation_map.proofs.edit_sets.add_below.Goals as goal
+
+pub add_descendants-requires-clause-can : goal.add_descendants-requires-clause-can
+add_descendants-requires-clause-can c =
+    can_cleared c.args.doc.now.elements (c.args.x ∷ []) c.args.next.now c.clear.new.self (ap (λ (m : Members). m.room) c.clear.ensures)
+    (record { elements = (c.requires.element, tt); room = c.requires.room })
 
 pub add_all-requires : goal.add_all-requires
 add_all-requires c =

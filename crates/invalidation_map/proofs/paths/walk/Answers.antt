@@ -3,13 +3,16 @@ use Rattle.selector_types.specs.declared.complex.Combinator.TheVariants.{Descend
 use Rattle.dependency_map.specs.declared.dep.PathStep.TheVariants.{Forwards}
 use Rattle.invalidation_map.specs.Members.{Members}
 use Rattle.invalidation_map.specs.Steps.{AreElements}
-use Rattle.invalidation_map.proofs.PathLemmas.{path_next}
+use Rattle.invalidation_map.proofs.PathLemmas.{path_next, path_walked}
 use Rattle.invalidation_map.proofs.paths.walk.Goals as goal
 
-pub take_step-requires-clause-room : goal.take_step-requires-clause-room
-take_step-requires-clause-room c = λ x there.
-    let both = c.loop-step.invariant.room (x + 1) (omega (arith, c.requires.room x there), omega (arith, c.requires.next x there)) in
-    omega (arith, both.1)
+pub take_step-requires : goal.take_step-requires
+take_step-requires c = record {
+  elements = subst (AreElements c.args.doc.now.elements) (sym c.as_slice.ensures.items) c.loop-step.invariant.elements;
+  room = λ x there.
+      let both = c.loop-step.invariant.room (x + 1) (omega (arith, c.requires.room x there), omega (arith, c.requires.can.room x there)) in
+      omega (arith, both.1);
+}
 
 pub loop-step-preserved : goal.loop-step-preserved
 loop-step-preserved c = record {
@@ -20,4 +23,11 @@ loop-step-preserved c = record {
   room = λ room both.
       let now = c.loop-step.invariant.room room both in
       (omega (arith, now.1, ap (λ (m : Members). m.room) c.swap.ensures.x_after, c.take_step.ensures.room), omega (arith, now.0, ap (λ (m : Members). m.room) c.swap.ensures.y_after));
+}
+
+pub returns : goal.returns
+returns c = record {
+  reached = path_walked _ _ _ _ _ c.loop-step-test.false c.loop-step.invariant.ahead;
+  elements = c.loop-step.invariant.elements;
+  room = c.loop-step.invariant.room;
 }

@@ -13,7 +13,7 @@ use Rattle.invalidation_map.proofs.steps.add_later_siblings.Goals as goal
 pub add_until_met-requires-clause-below : goal.add_until_met-requires-clause-below
 add_until_met-requires-clause-below c =
     subst (λ room. AreBelow room c.right_siblings.result.now) (sym c.loop-x.invariant.led.room)
-    (subst (AreBelow c.args.into.now.room) (sym c.right_siblings.ensures.siblings) (below_all _ _ _ c.requires.room (after_are _ c.right_siblings.ensures.valid _)))
+    (subst (AreBelow c.args.into.now.room) (sym c.right_siblings.ensures.siblings) (below_all _ _ _ c.requires.can.room (after_are _ c.right_siblings.ensures.valid _)))
 
 pub add_until_met-requires-clause-once : goal.add_until_met-requires-clause-once
 add_until_met-requires-clause-once c =
@@ -22,12 +22,12 @@ add_until_met-requires-clause-once c =
 pub add_until_met-requires-clause-closed : goal.add_until_met-requires-clause-closed
 add_until_met-requires-clause-closed c =
     subst (λ l. IsClosed l c.loop-x.into.items) (sym c.right_siblings.ensures.siblings)
-    (closed_now _ c.right_siblings.ensures.valid _ _ _ _ (each-take (IsElement c.args.doc.now.elements) c.loop-x.x-index _ c.requires.elements) c.requires.empty c.loop-x.invariant.led)
+    (closed_now _ c.right_siblings.ensures.valid _ _ _ _ (each-take (IsElement c.args.doc.now.elements) c.loop-x.x-index _ c.requires.can.elements) c.requires.empty c.loop-x.invariant.led)
 
 pub loop-x-preserved : goal.loop-x-preserved
 loop-x-preserved c = record {
   led =
       led_next _ _ _ _ _ _ _ c.loop-x-test.true c.loop-x.invariant.led c.add_until_met.ensures
-      (λ x. ap (λ l. is_in x l) c.right_siblings.ensures.siblings ∙ later_led _ c.right_siblings.ensures.valid _ x (each_get _ _ _ c.requires.elements c.loop-x-test.true));
+      (λ x. ap (λ l. is_in x l) c.right_siblings.ensures.siblings ∙ later_led _ c.right_siblings.ensures.valid _ x (each_get _ _ _ c.requires.can.elements c.loop-x-test.true));
   valid = λ some. c.right_siblings.ensures.valid;
 }

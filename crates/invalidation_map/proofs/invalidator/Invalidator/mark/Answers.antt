@@ -1,4 +1,5 @@
 use Rattle.std.proofs.Common.{◌||◌, ◌∙◌, arith, false, refl, sym}
+use Rattle.scene_model.specs.Numbers.{is_in}
 use Rattle.edit_model.specs.TouchedBy.{is_listed}
 use Rattle.dom_edits.specs.declared.touch.Touch.{Touch}
 use Rattle.dom_edits.specs.TouchView.{touch_seen}
@@ -8,7 +9,7 @@ use Rattle.invalidation_map.specs.Rows.{marks_by_touch}
 use Rattle.invalidation_map.specs.RowView.{rows_in}
 use Rattle.invalidation_map.proofs.SetLemmas.{or_no}
 use Rattle.invalidation_map.proofs.StepLemmas.{below_all}
-use Rattle.invalidation_map.proofs.GrowthLemmas.{grown_added, grown_same, listed_elements}
+use Rattle.invalidation_map.proofs.GrowthLemmas.{grown_same, listed_elements}
 use Rattle.invalidation_map.proofs.KeyLemmas.{by_all_touches, code_touches, grown_lists, grown_next, part_listed}
 use Rattle.invalidation_map.proofs.MarkLemmas.{marked}
 use Rattle.invalidation_map.proofs.invalidator.Invalidator.mark.Goals as goal
@@ -22,7 +23,7 @@ pub loop-touch-init : goal.loop-touch-init
 loop-touch-init c =
     let style = is_listed c.args.self.now.touched.now (touch_seen c.args.self.now.map.now.style) in
     record {
-      grown = grown_same style (λ x. style x || false) _ _ (λ x. or_no (style x)) (grown_added style _ _ _ c.add_marked.ensures.added c.at.ensures.elements);
+      grown = grown_same (λ x. is_in x c.at.result.now) (λ x. style x || false) _ _ (λ x. c.at.ensures.elements x ∙ or_no (style x)) c.add_marked.ensures.grown;
       others = c.add_marked.ensures.others;
     }
 
@@ -43,28 +44,37 @@ loop-touch-preserved c =
       others = c.mark_by_touch.ensures.others ∙ c.loop-touch.invariant.others;
     }
 
-pub returns-then-count-ne0-clause-marked : goal.returns-then-count-ne0-clause-marked
-returns-then-count-ne0-clause-marked c = λ before selectors tags listed are.
+pub returns-then-count-ne0 : goal.returns-then-count-ne0
+returns-then-count-ne0 c =
     let self = c.args.self.now in
     let doc = self.doc.now.elements in
     let pairs = self.touched.now in
     let rows = rows_in self.map.now in
     let style = is_listed pairs (touch_seen self.map.now.style) in
-    marked doc pairs self.at_elements before tags listed selectors rows (touch_seen self.map.now.style) (marked_in c.args.sets.now) (marked_in c.loop-touch.sets) self.map.now.styled are
-    (by_all_touches doc pairs style c.parts.result.0.now c.loop-touch.touch-index rows (marked_in c.args.sets.now) (marked_in c.loop-touch.sets)
-    (all_touches c.parts.result.0.now c.parts.result.0.now c.parts.result.1.now pairs (sym (c.parts.ensures.parts (omega (arith, c.if-count-ne0.true)))) refl)
-    c.loop-touch-test.false c.loop-touch.invariant.grown)
+    record {
+      marked = λ before selectors tags listed are.
+          marked doc pairs self.at_elements before tags listed selectors rows (touch_seen self.map.now.style) (marked_in c.args.sets.now) (marked_in c.loop-touch.sets) self.map.now.styled are
+          (by_all_touches doc pairs style c.parts.result.0.now c.loop-touch.touch-index rows (marked_in c.args.sets.now) (marked_in c.loop-touch.sets)
+          (all_touches c.parts.result.0.now c.parts.result.0.now c.parts.result.1.now pairs (sym (c.parts.ensures.parts (omega (arith, c.if-count-ne0.true)))) refl)
+          c.loop-touch-test.false c.loop-touch.invariant.grown);
+      others = c.loop-touch.invariant.others;
+    }
 
-pub returns-clause-marked : goal.returns-clause-marked
-returns-clause-marked c = λ before selectors tags listed are.
+pub returns : goal.returns
+returns c =
     let self = c.args.self.now in
     let doc = self.doc.now.elements in
     let pairs = self.touched.now in
     let rows = rows_in self.map.now in
     let style = is_listed pairs (touch_seen self.map.now.style) in
     let none = c.if-count-ne0.false in
-    marked doc pairs self.at_elements before tags listed selectors rows (touch_seen self.map.now.style) (marked_in c.args.sets.now) (marked_in c.mark_by_lists.new.sets) self.map.now.styled are
-    (by_all_touches doc pairs style code_touches 3 rows (marked_in c.args.sets.now) (marked_in c.mark_by_lists.new.sets) (c.parts.ensures.lists none) (omega arith)
-    (grown_lists style (λ touch x. marks_by_touch doc pairs rows (touch_seen touch) x) (λ touch x. marks_by_touch doc pairs rows touch x) c.parts.result.0.now c.loop-touch.touch-index
-    (marked_in c.args.sets.now)
-    (marked_in c.loop-touch.sets) (marked_in c.mark_by_lists.new.sets) (λ touch x. refl) none c.loop-touch.invariant.grown c.mark_by_lists.ensures.grown))
+    let old = marked_in c.args.sets.now in
+    let new = marked_in c.mark_by_lists.new.sets in
+    record {
+      marked = λ before selectors tags listed are.
+          marked doc pairs self.at_elements before tags listed selectors rows (touch_seen self.map.now.style) old new self.map.now.styled are
+          (by_all_touches doc pairs style code_touches 3 rows old new (c.parts.ensures.lists none) (omega arith)
+          (grown_lists style (λ touch x. marks_by_touch doc pairs rows (touch_seen touch) x) (λ touch x. marks_by_touch doc pairs rows touch x) c.parts.result.0.now c.loop-touch.touch-index
+          old (marked_in c.loop-touch.sets) new (λ touch x. refl) none c.loop-touch.invariant.grown c.mark_by_lists.ensures.grown));
+      others = c.mark_by_lists.ensures.others ∙ c.loop-touch.invariant.others;
+    }

@@ -30,10 +30,13 @@ add_all-requires c =
     subst (λ (m : Members). AreBelow m.room c.args.elements.now) (sym c.clear.ensures)
     (below_all _ _ _ room (listed_elements self.doc.now.elements self.touched.now _ _ c.requires.elements self.at_elements))
 
-pub walk-requires-clause-elements : goal.walk-requires-clause-elements
-walk-requires-clause-elements c =
+pub walk-requires-clause-can : goal.walk-requires-clause-can
+walk-requires-clause-can c =
     let self = c.args.self.now in
-    added_elements self.doc.now.elements self.touched.now _ _ c.requires.elements self.at_elements _ _ (ap (λ (m : Members). m.items) c.clear.ensures) c.add_all.ensures
+    record {
+      elements = added_elements self.doc.now.elements self.touched.now _ _ c.requires.elements self.at_elements _ _ (ap (λ (m : Members). m.items) c.clear.ensures) c.add_all.ensures;
+      room = room_in self.doc.now.elements _ _ _ c.requires.room (ap (λ (s : EditMembers). s.room) c.sets.view_is) c.sets.invariant.next;
+    }
 
 pub add_bearing-requires-clause-elements : goal.add_bearing-requires-clause-elements
 add_bearing-requires-clause-elements c =
@@ -45,7 +48,7 @@ returns-then-row c =
     let self = c.args.self.now in
     record {
       grown = alone_by_row self.doc.now.elements self.touched.now (row_seen self.map.now.shared c.args.row.now) c.args.elements.now c.requires.elements (marked_in c.args.sets.now)
-          (marked_in c.add_marked.new.self) self.at_elements (c.requires.within.alone c.if-row.true) c.add_marked.ensures.added;
+          (marked_in c.add_marked.new.self) self.at_elements (c.requires.within.alone c.if-row.true) c.add_marked.ensures.grown;
       others = c.add_marked.ensures.others;
     }
 

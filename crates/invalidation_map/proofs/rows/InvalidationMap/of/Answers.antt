@@ -21,13 +21,13 @@ of-requires c =
 
 pub invariant_of-result-clause-within : goal.invariant_of-result-clause-within
 invariant_of-result-clause-within c =
-    All-permutation (IsWithin c.loop-selectors.shared) _ _ c.in_ok-sort_by_key.ensures.permutation c.loop-selectors.invariant.within
+    All-permutation (IsWithin c.loop-selectors.gathered.shared) _ _ c.in_ok-sort_by_key.ensures.permutation c.loop-selectors.gathered.within
 
 pub invariant_of-result-clause-styled : goal.invariant_of-result-clause-styled
 invariant_of-result-clause-styled c = ap attribute (c.in_ok-of.ensures ∙ chars-ascii (codes "style") refl)
 
 pub returns : goal.returns
 returns c =
-    subst (λ (l : List Row). IsPermutation l (rows_seen c.loop-selectors.shared c.sort_by_key.new.self.items))
-    (c.loop-selectors.invariant.rows ∙ ap (λ l. rows_of (flat_map (λ list. selectors_of list.items) l)) (take_all c.loop-selectors.selectors-index c.args.rules.now c.loop-selectors-test.false))
-    (IsPermutation-map (row_seen c.loop-selectors.shared) _ _ c.in_ok-sort_by_key.ensures.permutation)
+    subst (λ (l : List Row). IsPermutation l (rows_seen c.loop-selectors.gathered.shared c.sort_by_key.new.self.items))
+    (c.loop-selectors.invariant ∙ ap (λ l. rows_of (flat_map (λ list. selectors_of list.items) l)) (take_all c.loop-selectors.selectors-index c.args.rules.now c.loop-selectors-test.false))
+    (IsPermutation-map (row_seen c.loop-selectors.gathered.shared) _ _ c.in_ok-sort_by_key.ensures.permutation)
