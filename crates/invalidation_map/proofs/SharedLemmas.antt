@@ -59,8 +59,10 @@ ends_at list x place h e =
 module _ (old new : Shared) (kept : KeepsShared old new) where
   row_kept : (row : DependencyRow) → IsWithin old row → row_seen new row ≡ row_seen old row
   row_kept row within =
-      ap {B = Row} (λ path. record { touch = touch_seen row.touch; path = path; key = get_or (keys_in new) row.key any_key }) (front_at (paths_in old) (paths_in new) kept.paths row.path [] within.path)
-      ∙ ap {B = Row} (λ key. record { touch = touch_seen row.touch; path = get_or (paths_in old) row.path []; key = key }) (front_at (keys_in old) (keys_in new) kept.keys row.key any_key within.key)
+      ap {B = Row} (λ path. record { touch = touch_seen row.touch; path = path; key = get_or (keys_in new) row.key any_key })
+      (front_at (paths_in old) (paths_in new) kept.paths row.path [] within.path)
+      ∙ ap {B = Row} (λ key. record { touch = touch_seen row.touch; path = get_or (paths_in old) row.path []; key = key })
+      (front_at (keys_in old) (keys_in new) kept.keys row.key any_key within.key)
 
   within_kept : (row : DependencyRow) → IsWithin old row → IsWithin new row
   within_kept row within = record {
