@@ -40,7 +40,7 @@ but_fresh sets = record sets { fresh = [] }
 abbrev pub but_gone : EditMembers → EditMembers
 but_gone sets = record sets { gone = [] }
 
--- with room for the numbers up to one
+-- with room for the numbers up to `last`, where there is not yet
 abbrev pub with_room : ℕ → EditMembers → EditMembers
 with_room last sets = record sets { room = max sets.room (last + 1) }
 

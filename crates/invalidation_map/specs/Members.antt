@@ -33,7 +33,7 @@ pub record AreFlags (flags : List Bool) (list : List ℕ) (count : ℕ) : Type 0
   pub below : AreBelow (length flags) (take count list)
   pub once : IsDistinct nat_eq (take count list)
 
--- with room for the numbers up to one
+-- with room for the numbers up to `last`, where there is not yet
 abbrev pub widened : ℕ → Members → Members
 widened last m = record m { room = max m.room (last + 1) }
 

@@ -27,7 +27,7 @@ pub record CanStep (doc : List Element) (from : List ℕ) (into : Members) : Typ
   pub elements : AreElements doc from
   pub room : HasRoom doc into.room
 
--- a set with those added that one of a list is in a relation to; where there is one to begin from, the document is valid
+-- a set with those added that one of a list is in a relation to; where the list has one, the document is valid
 pub record AddsRelated (doc : List Element) (k : Combinator) (from : List ℕ) (old new : Members) : Type 0 where
   pub led : AreLed (is_in_relation doc k) from old new
   pub valid : 0 < length from → IsValid doc

@@ -68,7 +68,7 @@ struct GatheredRows {
 impl GatheredRows {
     ghost use Rattle.invalidation_map.specs.RowView.{rows_gathered};
 
-    /// None.
+    /// No rows.
     fn new(alloc: Global) -> GatheredRows
         ensures { rows_gathered result ≡ [] }
     {

@@ -4,7 +4,8 @@ ghost use Rattle.std.specs.Prelude.{◌≡◌, ◌↔◌, ◌+◌, ◌<◌, IfOk
 ghost use Rattle.std.specs.Bool.{IsTrue};
 ghost use Rattle.selector_types.specs.SimpleView.{key_seen};
 ghost use Rattle.dependency_map.specs.DepView.{path_of};
-ghost use Rattle.invalidation_map.specs.Shared.{ArePlaced, EndsWith, IsFront, KeepsShared, StandsAt, keys_seen, paths_seen};
+ghost use Rattle.invalidation_map.specs.Shared.{ArePlaced, EndsWith, IsFront, KeepsShared, StandsAt};
+ghost use Rattle.invalidation_map.specs.Shared.{keys_seen, paths_seen};
 
 use crate::selector_key::SelectorKey;
 use dependency_map::PathStep;
@@ -34,7 +35,7 @@ pub(crate) struct Shared {
 }
 
 impl Shared {
-    /// The places of a path and of a key.
+    /// The places of a path and of a key. After an error there may be a path more.
     pub(crate) fn places(
         &mut self,
         alloc: Global,
