@@ -14,8 +14,8 @@ use Rattle.dom_tree.proofs.DepthLemmas.{get_any}
 use Rattle.session_model.proofs.FlagLemmas.{each_number}
 use Rattle.report_text.specs.Elements.{line_at, lines_bytes}
 use Rattle.style_session.specs.Answers.{IsAnswer}
-use Rattle.style_session.specs.declared.answer.StyleAnswer.{StyleAnswer}
-use Rattle.style_session.specs.declared.answer.StyleAnswer.TheVariants.{Kept, Stale, NoNode}
+use Rattle.style_session.specs.declared.session.StyleAnswer.{StyleAnswer}
+use Rattle.style_session.specs.declared.session.StyleAnswer.TheVariants.{Kept, Stale, NoNode}
 
 -- the lines of the elements before an index are in the text, and none of these is stale
 pub record IsReached (st : Standing) (items : List ℕ) (i : ℕ) (text : Characters) : Type 0 where

@@ -9,8 +9,8 @@ use Rattle.change_model.specs.Sound.{IsSound}
 use Rattle.session_model.specs.Standing.{Standing, is_matched, is_open, kept_at, listed_at, style_in}
 use Rattle.session_model.proofs.ListedLemmas.{listed-styles}
 use Rattle.style_session.specs.Answers.{IsAnswer}
-use Rattle.style_session.specs.declared.answer.StyleAnswer.{StyleAnswer}
-use Rattle.style_session.specs.declared.answer.StyleAnswer.TheVariants.{NoNode, Stale}
+use Rattle.style_session.specs.declared.session.StyleAnswer.{StyleAnswer}
+use Rattle.style_session.specs.declared.session.StyleAnswer.TheVariants.{NoNode, Stale}
 use Rattle.style_session.proofs.SessionParts.{none-pass}
 use Rattle.style_cli.specs.Printing.{IsSettled}
 

@@ -1,5 +1,6 @@
--- Styles that come to their places one after another, from the last of a list to the first.
-use Rattle.std.proofs.Common.{◌≡◌, ℕ, ◌+◌, ◌<◌, ◌==◌, List, [], ◌∷◌, ◌++◌, map, find, length, take, get_or, Bool, true, false, cond, not, ◌&&◌, ◌||◌, Option, Some, None, option_map, slice_set, refl, sym, ap, ◌∙◌}
+-- For `keep_all`: styles that come to their places one after another, from the last of a list to the first.
+use Rattle.std.proofs.Common.{◌≡◌, ℕ, ◌+◌, ◌<◌, ◌==◌, List, [], ◌∷◌, ◌++◌, map, find, length, take, get_or, Bool, true, false, cond, not, ◌&&◌, ◌||◌, Option, Some, None, option_map, slice_set}
+use Rattle.std.proofs.Common.{refl, sym, ap, ◌∙◌}
 use Rattle.std.specs.List.{AllByRecursion}
 use Rattle.std.specs.Option.{option_or}
 use Rattle.std.specs.declared.sync.Arc.{Arc}
@@ -13,7 +14,7 @@ use Rattle.session_model.proofs.OwnLayers.{each-end, each-start}
 use Rattle.session_model.specs.Walk as walk
 use Rattle.session_model.specs.Walk.{result_at}
 use Rattle.style_session.specs.Answers.{styled_seen}
-use Rattle.style_session.specs.SessionView.{is_gone, slot_at}
+use Rattle.style_session.specs.KeptView.{is_gone, slot_at}
 use Rattle.style_session.specs.declared.styled.Styled.{Styled}
 use Rattle.style_session.proofs.SessionParts.{slot-set}
 use Rattle.style_session.proofs.WalkLemmas.{in_more}
@@ -35,14 +36,16 @@ seen-next : (xs : List Styled) (x : Styled) (done : List walk.Styled) → map st
 seen-next [] x done = refl
 seen-next (y ∷ xs) x done = ap (λ l. styled_seen y ∷ l) (seen-next xs x done)
 
-one-placed : (before now later : ℕ → Option Style) (done : List walk.Styled) (one : walk.Styled) → ((x : ℕ) → now x ≡ option_or (result_at done x) (before x)) → ((x : ℕ) → later x ≡ cond (one.number == x) (Some one.style) (now x)) → (x : ℕ) → later x ≡ option_or (result_at (one ∷ done) x) (before x)
+one-placed : (before now later : ℕ → Option Style) (done : List walk.Styled) (one : walk.Styled) → ((x : ℕ) → now x ≡ option_or (result_at done x) (before x))
+    → ((x : ℕ) → later x ≡ cond (one.number == x) (Some one.style) (now x)) → (x : ℕ) → later x ≡ option_or (result_at (one ∷ done) x) (before x)
 one-placed before now later done one h k x = k x ∙ by_place (one.number == x)
   where
     by_place : (b : Bool) → cond b (Some one.style) (now x) ≡ option_or (option_map (λ (s : walk.Styled). s.style) (cond b (Some one) (find (λ (s : walk.Styled). s.number == x) done))) (before x)
     by_place true = refl
     by_place false = h x
 
-pub placed-next : (all old left : List Styled) (one : Styled) (before : ℕ → Option Style) (kept later : List (Option (Arc Style Global))) → ArePlaced all old before (slot_at kept) → old ≡ left ++ one ∷ [] → one.number < length kept → later ≡ slice_set kept one.number (Some one.style) → ArePlaced all left before (slot_at later)
+pub placed-next : (all old left : List Styled) (one : Styled) (before : ℕ → Option Style) (kept later : List (Option (Arc Style Global))) → ArePlaced all old before (slot_at kept)
+    → old ≡ left ++ one ∷ [] → one.number < length kept → later ≡ slice_set kept one.number (Some one.style) → ArePlaced all left before (slot_at later)
 placed-next all old left one before kept later placed popped within set = record {
   done = styled_seen one ∷ placed.done;
   parts = sym (ap (λ l. map styled_seen l ++ placed.done) popped ∙ seen-next left one placed.done) ∙ placed.parts;
@@ -55,7 +58,8 @@ placed-end all left before now placed none x =
     placed.slots x ∙ ap (λ l. option_or (result_at l x) (before x)) done
 
 -- room for a list is room for its last and for those before it
-pub room-popped : (old left : List Styled) (one : Styled) (places : ℕ) → AllByRecursion (λ (s : Styled). s.number < places) old → old ≡ left ++ one ∷ [] → AllByRecursion (λ (s : Styled). s.number < places) left × (one.number < places)
+pub room-popped : (old left : List Styled) (one : Styled) (places : ℕ) → AllByRecursion (λ (s : Styled). s.number < places) old → old ≡ left ++ one ∷ []
+    → AllByRecursion (λ (s : Styled). s.number < places) left × (one.number < places)
 room-popped old left one places room popped =
     let all : AllByRecursion (λ (s : Styled). s.number < places) (left ++ one ∷ []) = rw popped at room in
     (each-start (λ (s : Styled). s.number < places) left (one ∷ []) all, (each-end (λ (s : Styled). s.number < places) left (one ∷ []) all).0)
@@ -77,7 +81,8 @@ module _ (doc : List Element) (list : List ℕ) (i : ℕ) (below : i < length li
   other : (y : ℕ) → (next == y) ≡ false → is_gone doc (take i list) y ≡ is_gone doc (take (i + 1) list) y
   other y e = ap (λ b. b && not (is_element doc y)) (sym (in_next y false e ∙ none_more (is_in y (take i list))))
 
-  pub dropped-more : (later : ℕ → Option Style) → is_element doc next ≡ false → ((y : ℕ) → later y ≡ cond (next == y) None (now y)) → (y : ℕ) → later y ≡ cond (is_gone doc (take (i + 1) list) y) None (before y)
+  pub dropped-more : (later : ℕ → Option Style) → is_element doc next ≡ false → ((y : ℕ) → later y ≡ cond (next == y) None (now y)) → (y : ℕ)
+      → later y ≡ cond (is_gone doc (take (i + 1) list) y) None (before y)
   dropped-more later gone drops y = by (next == y) refl (drops y)
     where
       by : (b : Bool) → (next == y) ≡ b → later y ≡ cond b None (now y) → later y ≡ cond (is_gone doc (take (i + 1) list) y) None (before y)

@@ -1,5 +1,5 @@
--- That the parts of sheets and of sessions may cross threads, each by itself: one search through all of them would be
--- too long.
+-- For `Session`: that the parts of sheets and of sessions may cross threads, each by itself, since one search through all
+-- of them would be too long.
 use denote.Param.Send.{IsSend, IsSync, sendable, view_send}
 use denote.Param.SendFields.{FieldsHave, as_row_send, declared_send}
 use Rattle.std.proofs.Crossing.{crosses}
@@ -24,14 +24,17 @@ use Rattle.style_value.specs.contracts.style.Style as Style
 use Rattle.style_value.specs.contracts.value_columns.ValueColumns as ValueColumns
 use Rattle.style_value.specs.contracts.custom.Custom as Custom
 use Rattle.plain_style.specs.contracts.prepared.Prepared as Prepared
+use Rattle.invalidation_map.specs.contracts.edit_sets.EditSets as EditSets
 use Rattle.invalidation_map.specs.contracts.element_set.ElementSet as ElementSet
-use Rattle.invalidation_map.specs.contracts.marker.Marker as Marker
-use Rattle.style_session.specs.contracts.fresh.Fresh as Fresh
-use Rattle.style_session.specs.contracts.marking.Marking as Marking
+use Rattle.invalidation_map.specs.contracts.rows.InvalidationMap as InvalidationMap
+use Rattle.style_session.specs.contracts.content.Content as Content
+use Rattle.style_session.specs.contracts.derived.Derived as Derived
+use Rattle.style_session.specs.contracts.derived.StyleCache as StyleCache
+use Rattle.style_session.specs.contracts.kept_styles.KeptStyles as KeptStyles
+use Rattle.style_session.specs.contracts.pending.Pending as Pending
 use Rattle.style_session.specs.contracts.session.Session as Session
 use Rattle.style_session.specs.contracts.session.Session.TheInside as Inside
-use Rattle.style_session.specs.contracts.style_cache.StyleCache as StyleCache
-use Rattle.style_session.proofs.style_cache.StyleCache.TheSendSync as cache
+use Rattle.style_session.proofs.derived.StyleCache.TheSendSync as cache
 
 pub text_send : IsSend Text.the_row
 text_send = search (sendable, crosses) depth 40 fits 20000
@@ -129,47 +132,38 @@ cache_send = search (cache.the_field_send, sendable) depth 20
 pub set_send : IsSend ElementSet.the_row
 set_send = search (sendable, crosses) depth 40 fits 20000
 
-pub marker_send : IsSend Marker.the_row
-marker_send = search (set_send, sendable, crosses) depth 40 fits 20000
+pub sets_send : IsSend EditSets.the_row
+sets_send = search (set_send, sendable, crosses) depth 40 fits 20000
 
-pub marking_send : IsSend Marking.the_row
-marking_send = search (text_send, marker_send, sendable, crosses) depth 60 fits 20000
+pub rows_send : IsSend InvalidationMap.the_row
+rows_send = search (text_send, sendable, crosses) depth 60 fits 20000
 
-pub fresh_send : IsSend Fresh.the_row
-fresh_send = search (set_send, sendable, crosses) depth 40 fits 20000
+-- and the four parts
+
+pub content_send : IsSend Content.the_row
+content_send =
+    let parts : FieldsHave IsSend Content.the_type.parts = (search (doc_send, sendable) depth 20, (search (sheets_send, sendable) depth 20, tt)) in
+    declared_send Content.the_type parts
+
+pub pending_send : IsSend Pending.the_row
+pending_send = search (sets_send, sendable, crosses) depth 40 fits 20000
+
+pub kept_styles_send : IsSend KeptStyles.the_row
+kept_styles_send = search (style_send, style_sync, sendable, crosses) depth 60 fits 20000
+
+pub derived_send : IsSend Derived.the_row
+derived_send =
+    let parts : FieldsHave IsSend Derived.the_type.parts = (
+      search (prepared_send, as_row_send, sendable, crosses) depth 40,
+      (search (rows_send, as_row_send, sendable, crosses) depth 40, (search (cache_send, sendable) depth 20, tt)),
+    ) in
+    declared_send Derived.the_type parts
 
 pub inside_send : IsSend Inside.the_row
 inside_send =
     let parts : FieldsHave IsSend Inside.the_type.parts = (
-      search (doc_send, sendable) depth 20,
-      (
-        search (sheets_send, sendable) depth 20,
-        (
-          search (prepared_send, as_row_send, sendable, crosses) depth 40,
-          (
-            search (marking_send, as_row_send, sendable, crosses) depth 40,
-            (
-              search (set_send, sendable) depth 20,
-              (
-                search (fresh_send, sendable) depth 20,
-                (
-                  search (set_send, sendable) depth 20,
-                  (
-                    search (style_send, style_sync, as_row_send, sendable, crosses) depth 40,
-                    (
-                      search (sendable, crosses) depth 30,
-                      (
-                        search (cache_send, sendable) depth 20,
-                        tt,
-                      ),
-                    ),
-                  ),
-                ),
-              ),
-            ),
-          ),
-        ),
-      ),
+      search (content_send, sendable) depth 20,
+      (search (pending_send, sendable) depth 20, (search (kept_styles_send, sendable) depth 20, (search (derived_send, sendable) depth 20, tt))),
     ) in
     declared_send Inside.the_type parts
 

@@ -1,4 +1,4 @@
--- An accepted edit of a document: what it makes of the standing of a session.
+-- For `edit_document`: what an accepted edit of a document makes of the standing of a session.
 use Rattle.std.proofs.Common.{◌≡◌, ℕ, ◌<◌, ◌≤◌, List, filter, Bool, true, false, ◌||◌, Option, Some, None, refl, sym, ap, subst, ◌∙◌, arith}
 use Rattle.std.proofs.lemmas.Bool.{false≢true, or_right}
 use Rattle.base_model.proofs.Lists.{each_any}
@@ -86,7 +86,8 @@ changes-applied old new s edit w = by (refusal old edit) refl
 
 module _ (old new : Document) (edit : DocEdit) (is : Changes old new edit) where
   -- what is listed stays, and what is added comes to it
-  list_grows : (adds : ℕ → Bool) (list now : List ℕ) → AreGiven old.last list → ((x : ℕ) → is_in x now ≡ (is_in x list || adds x)) → elements_in new now ≡ filter (λ x. is_in x (elements_in old list) || adds x) (numbers new.elements)
+  list_grows : (adds : ℕ → Bool) (list now : List ℕ) → AreGiven old.last list → ((x : ℕ) → is_in x now ≡ (is_in x list || adds x))
+      → elements_in new now ≡ filter (λ x. is_in x (elements_in old list) || adds x) (numbers new.elements)
   list_grows adds list now given grown =
       filter_same (λ x. is_in x now) (λ x. is_in x list || adds x) (numbers new.elements) (each_any (λ x. is_in x now ≡ (is_in x list || adds x)) grown (numbers new.elements))
       ∙ flags-changed (λ x. is_in x list) adds old.elements new.elements old.last given is.anew
@@ -94,7 +95,8 @@ module _ (old new : Document) (edit : DocEdit) (is : Changes old new edit) where
   abbrev AreFreshNow : (ℕ → Bool) → (ℕ → Bool) → Type 0
   AreFreshNow fresh now = (x : ℕ) → IsElement new.elements x → now x ≡ (fresh x || is_fresh old edit x)
 
-  fresh_grows : (fresh now : ℕ → Bool) → AreFreshNow fresh now → filter now (numbers new.elements) ≡ filter (λ x. is_in x (filter fresh (numbers old.elements)) || is_fresh old edit x) (numbers new.elements)
+  fresh_grows : (fresh now : ℕ → Bool) → AreFreshNow fresh now
+      → filter now (numbers new.elements) ≡ filter (λ x. is_in x (filter fresh (numbers old.elements)) || is_fresh old edit x) (numbers new.elements)
   fresh_grows fresh now grown =
       filter_same now (λ x. is_in x (filter fresh (numbers old.elements)) || is_fresh old edit x) (numbers new.elements)
       (each_element new.elements (λ x. now x ≡ (is_in x (filter fresh (numbers old.elements)) || is_fresh old edit x)) (λ x there. grown x there ∙ by x there (is_fresh old edit x) refl))
@@ -126,7 +128,9 @@ module _ (scene : Scene) (new : Document) (edit : DocEdit) (w : IsShaped edit) (
   pub sound-edited : IsSound new
   sound-edited = sound-edit scene sound (of_document edit) w later scene_accepted
 
-  module _ (marks now recent : List ℕ) (fresh fresh_now : ℕ → Bool) (slot : ℕ → Option Style) (marks_given : AreGiven old.last marks) (none : (x : ℕ) → old.last < x → slot x ≡ None) (marked : (x : ℕ) → is_in x now ≡ (is_in x marks || is_marked old.elements new.elements (marking_selectors scene.sheets) x)) (freshened : (x : ℕ) → IsElement new.elements x → fresh_now x ≡ (fresh x || is_fresh old edit x)) where
+  module _ (marks now recent : List ℕ) (fresh fresh_now : ℕ → Bool) (slot : ℕ → Option Style) (marks_given : AreGiven old.last marks) (none : (x : ℕ) → old.last < x → slot x ≡ None) (marked : (x
+      : ℕ) → is_in x now ≡ (is_in x marks || is_marked old.elements new.elements (marking_selectors scene.sheets) x)) (freshened : (x : ℕ) → IsElement new.elements x → fresh_now x ≡ (fresh x ||
+      is_fresh old edit x)) where
     changed_with : standing_with later now fresh_now slot recent ≡ changed (standing_with scene marks fresh slot recent) (change_of scene (of_document edit) later)
     changed_with =
         same_parts later _ _ _ _ _ _ _ _
@@ -140,4 +144,5 @@ module _ (scene : Scene) (new : Document) (edit : DocEdit) (w : IsShaped edit) (
     pub keeps-edited : AllKeep (standing_with scene marks fresh slot recent) → AllKeep (standing_with later now fresh_now slot recent)
     keeps-edited all =
         subst AllKeep (sym changed_with)
-        (keep-changed (standing_with scene marks fresh slot recent) (change_of scene (of_document edit) later) sound-edited.valid (covered-edit scene sound (of_document edit) w later scene_accepted) all)
+        (keep-changed (standing_with scene marks fresh slot recent) (change_of scene (of_document edit) later) sound-edited.valid (covered-edit scene sound (of_document edit) w later
+        scene_accepted) all)

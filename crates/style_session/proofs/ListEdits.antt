@@ -1,5 +1,5 @@
--- Edits of a document: room for what they come to, what they make fresh, and what they take away.
-use Rattle.std.proofs.Common.{◌≡◌, ℕ, ◌+◌, ◌<◌, ◌≤◌, List, Bool, true, false, cond, not, ◌||◌, ◌&&◌, nat_le, nat_lt, ◌==◌, Option, Some, None, IfSome, refl, sym, ap, subst, ◌∙◌, arith}
+-- For `make`: room for what an edit of a document comes to, what it makes fresh, and what it takes away.
+use Rattle.std.proofs.Common.{◌≡◌, ℕ, ◌<◌, ◌≤◌, List, Bool, true, false, cond, not, ◌||◌, ◌&&◌, nat_lt, Option, Some, None, IfSome, refl, sym, ap, subst, ◌∙◌, arith}
 use Rattle.std.specs.Option.{option_map_or}
 use Rattle.std.proofs.lemmas.Bool.{false≢true, le-ltb}
 use Rattle.scene_model.specs.Document.{Document}
@@ -18,7 +18,7 @@ use Rattle.dom_edits.specs.Plans.{changes_a_list, element_moved, element_taken}
 use Rattle.invalidation_map.specs.Steps.{HasRoom}
 use Rattle.invalidation_map.proofs.SetLemmas.{or_no}
 use Rattle.style_session.specs.Edits.{AreFreshToo, AreGoneToo}
-use Rattle.style_session.specs.declared.fresh.Fresh.{Fresh}
+use Rattle.style_session.specs.PendingView.{PendingMembers, is_fresh_in}
 use Rattle.style_session.proofs.EditedLemmas.{last_stays}
 use Rattle.style_session.proofs.TreeEdits.{gone-inserted, gone-moved, gone-removed, gone-same}
 
@@ -49,36 +49,11 @@ module _ (d : Document) (s : IsSound d) where
 
     -- room up to the last number is room for each element, before and afterwards
 
-    abbrev HasRoomIfChanged : ℕ → Type 0
-    HasRoomIfChanged room = changes_a_list d edit ≡ true → (after d edit).last < room
+    pub room-after : (room : ℕ) → (after d edit).last < room → HasRoom (after d edit).elements room
+    room-after room enough x there = let near = last-after x there in omega (arith, near, enough)
 
-    room-after : (room : ℕ) → HasRoom d.elements room → HasRoomIfChanged room → HasRoom (after d edit).elements room
-    room-after room has more x there = by (changes_a_list d edit) refl
-      where
-        by : (b : Bool) → changes_a_list d edit ≡ b → x < room
-        by true e = let enough = more e in omega (arith, enough, last-after x there)
-        by false e = has x (sym (same-elements edit h e x) ∙ there)
-
-    room-before : (room : ℕ) → (after d edit).last < room → HasRoom d.elements room
+    pub room-before : (room : ℕ) → (after d edit).last < room → HasRoom d.elements room
     room-before room enough x there = let given = (s.given x there).1 in omega (arith, given, last_stays d edit, enough)
-
-  pub room-taken : (edit : DocEdit) → IsShaped edit → refusal d edit ≡ None → (room : ℕ)
-      → (changes_a_list d edit ≡ true → (after d edit).last < room)
-      → IfSome (element_taken edit) (λ x. HasRoom d.elements room)
-  room-taken (insert p index nodes) w h room more = tt
-  room-taken (remove n) w h room more = room-before (remove n) w h room (more refl)
-  room-taken (move n p index) w h room more = tt
-  room-taken (set y name text) w h room more = tt
-  room-taken (unset y name) w h room more = tt
-  room-taken (set_state y state on) w h room more = tt
-
-  pub room-given : (edit : DocEdit) (room : ℕ) → (changes_a_list d edit ≡ true → (after d edit).last < room) → d.last < (after d edit).last → (after d edit).last < room
-  room-given (insert p index nodes) room more above = more refl
-  room-given (remove n) room more above = more refl
-  room-given (move n p index) room more above = absurd (omega (arith, above))
-  room-given (set y name text) room more above = absurd (omega (arith, above))
-  room-given (unset y name) room more above = absurd (omega (arith, above))
-  room-given (set_state y state on) room more above = absurd (omega (arith, above))
 
   -- what a move makes of an element, unless it is there already
   module _ (n p index : ℕ) (h : refusal d (move n p index) ≡ None) where
@@ -108,18 +83,6 @@ module _ (d : Document) (s : IsSound d) where
   moved-there (unset y name) h = tt
   moved-there (set_state y state on) h = tt
 
-  pub room-moved : (edit : DocEdit) → IsShaped edit → refusal d edit ≡ None → (room : ℕ)
-      → (changes_a_list d edit ≡ true → (after d edit).last < room)
-      → IfSome (element_moved d edit) (λ x. HasRoom (after d edit).elements room)
-  room-moved (insert p index nodes) w h room more = tt
-  room-moved (remove n) w h room more = tt
-  room-moved (move n p index) w h room more =
-      if-moved n p index h (λ x. HasRoom (later n p index h).elements room) (still n p index h)
-      (λ e x there. let enough = more (ap not e) in omega (arith, enough, last-after (move n p index) w h x there))
-  room-moved (set y name text) w h room more = tt
-  room-moved (unset y name) w h room more = tt
-  room-moved (set_state y state on) w h room more = tt
-
   -- what an edit makes fresh: the numbers that it gives, and what is below an element that it moves
 
   abbrev pub freshens : DocEdit → ℕ → Bool
@@ -140,14 +103,11 @@ module _ (d : Document) (s : IsSound d) where
   freshens-is (set_state y state on) w h x there =
       sym (or_no (nat_lt d.last x)) ∙ none-given (set_state y state on) w h refl x there
 
-  pub fresh-after : (edit : DocEdit) → IsShaped edit → refusal d edit ≡ None → (fresh now : Fresh)
-      → now.all ≡ fresh.all
-      → ((x : ℕ) → x ≤ (after d edit).last → is_in x now.set.items ≡ (is_in x fresh.set.items || freshens edit x))
-      → AreFreshToo d (after d edit) edit fresh now
-  fresh-after edit w h fresh now all grown = record {
-    all = all;
-    each = λ x there. grown x (last-after edit w h x there) ∙ ap (λ b. is_in x fresh.set.items || b) (freshens-is edit w h x there);
-  }
+  pub fresh-after : (edit : DocEdit) → IsShaped edit → refusal d edit ≡ None → (before now : PendingMembers)
+      → ((x : ℕ) → x ≤ (after d edit).last → is_fresh_in now x ≡ (is_fresh_in before x || freshens edit x))
+      → AreFreshToo d (after d edit) edit before now
+  fresh-after edit w h before now grown = λ x there.
+      grown x (last-after edit w h x there) ∙ ap (λ b. is_fresh_in before x || b) (freshens-is edit w h x there)
 
   -- the numbers of what is taken out
 
@@ -188,17 +148,3 @@ module _ (d : Document) (s : IsSound d) where
   taken-there (set y name text) h n is = absurd (cc)
   taken-there (unset y name) h n is = absurd (cc)
   taken-there (set_state y state on) h n is = absurd (cc)
-
--- room for each element there was, where it has grown as the edit asks for it
-pub room-new : (d new : Document) → IsSound d → (edit : DocEdit) → IsShaped edit → applied d edit ≡ accepted new
-    → (old room : ℕ) → HasRoom d.elements old → old ≤ room
-    → (changes_a_list d edit ≡ true → (after d edit).last < room) → HasRoom new.elements room
-room-new d new s edit w h old room has wider more =
-    let (none, same) = accepted_is d new edit h in
-    subst (λ (e : Document). HasRoom e.elements room) same
-    (room-after d s edit w none room (λ x there. let near = has x there in omega (arith, near, wider)) more)
-
--- numbers that were given, one after another
-
-pub given_more : (b : Bool) (before n x : ℕ) → before ≤ n → ((b || (nat_lt before x && nat_le x n)) || (((n + 1) == x) || false)) ≡ (b || (nat_lt before x && nat_le x (n + 1)))
-given_more b before n x h = grind arith

@@ -4,7 +4,8 @@ use Rattle.edit_model.specs.Edit.{Edit, IsShapedEdit}
 use Rattle.session_model.specs.Standing.{Standing, edited, restyled}
 use Rattle.session_model.specs.StandingInvariant.{IsReached, by_edit, by_restyle}
 
-pub reached-edit : {T E : Type 0} (result : Result T E) (old new : Standing) (edit : Edit) → IsShapedEdit edit → OnOk result (new ≡ edited old edit) → OnErr result (new ≡ old) → IsReached old → IsReached new
+pub reached-edit : {T E : Type 0} (result : Result T E) (old new : Standing) (edit : Edit) → IsShapedEdit edit → OnOk result (new ≡ edited old edit) → OnErr result (new ≡ old) → IsReached old
+    → IsReached new
 reached-edit (Ok x) old new edit shaped is _ reached = subst IsReached (sym is) (by_edit old edit shaped reached)
 reached-edit (Err e) old new edit shaped _ same reached = subst IsReached (sym same) reached
 

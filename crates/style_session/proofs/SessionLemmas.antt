@@ -1,4 +1,4 @@
--- What edits, restyles and answers make of the standing of a session.
+-- For `Session`: what a standing is whose styles are kept at places by number.
 use Rattle.std.proofs.Common.{◌≡◌, ℕ, nat_eq, List, [], ◌∷◌, map, filter, filter_map, length, Bool, true, false, ◌||◌, Option, Some, None, option_map, refl, sym, ap, subst, ◌∙◌}
 use Rattle.std.specs.List.{AllByRecursion, IsDistinct, list_any, cons_option}
 use Rattle.std.specs.Option.{option_or}
@@ -37,7 +37,8 @@ standing_with scene marks fresh slot recent =
       recent = recent;
     }
 
-pub same_parts : (scene : Scene) (m n f g : List ℕ) (k l : List (ℕ × Style)) (r s : List ℕ) → m ≡ n → f ≡ g → k ≡ l → r ≡ s → ◌≡◌ {A = Standing} (record { scene = scene; marked = m; fresh = f; kept = k; recent = r }) (record { scene = scene; marked = n; fresh = g; kept = l; recent = s })
+pub same_parts : (scene : Scene) (m n f g : List ℕ) (k l : List (ℕ × Style)) (r s : List ℕ) → m ≡ n → f ≡ g → k ≡ l → r ≡ s
+    → ◌≡◌ {A = Standing} (record { scene = scene; marked = m; fresh = f; kept = k; recent = r }) (record { scene = scene; marked = n; fresh = g; kept = l; recent = s })
 same_parts scene m n f g k l r s a b c d = cc
 
 -- what holds of elements, of each number
@@ -70,18 +71,14 @@ no_styles slot h [] = refl
 no_styles slot h (x ∷ xs) =
     ap (λ o. cons_option (option_map (λ style. (x, style)) o) (filter_map (pair slot) xs)) (h x) ∙ no_styles slot h xs
 
-pub started-with : (scene : Scene) (marks : List ℕ) (fresh : ℕ → Bool) (slot : ℕ → Option Style) (recent : List ℕ) → marks ≡ [] → ((x : ℕ) → fresh x ≡ true) → ((x : ℕ) → slot x ≡ None) → recent ≡ [] → standing_with scene marks fresh slot recent ≡ started scene
+pub started-with : (scene : Scene) (marks : List ℕ) (fresh : ℕ → Bool) (slot : ℕ → Option Style) (recent : List ℕ) → marks ≡ [] → ((x : ℕ) → fresh x ≡ true) → ((x : ℕ) → slot x ≡ None)
+    → recent ≡ [] → standing_with scene marks fresh slot recent ≡ started scene
 started-with scene marks fresh slot recent m f h r =
     same_parts scene _ _ _ _ _ _ _ _ (elements_none scene.document marks m) (all_pass fresh (numbers (elements_of scene)) f) (no_styles slot h (rising scene.document)) r
 
--- what was cascaded last is not asked
-pub keeps-lent : (scene : Scene) (marks : List ℕ) (fresh : ℕ → Bool) (slot : ℕ → Option Style) (recent other : List ℕ) → AllKeep (standing_with scene marks fresh slot recent) → AllKeep (standing_with scene marks fresh slot other)
-keeps-lent scene marks fresh slot recent other all x there h =
-    let k = all x there h in
-    record { parent = k.parent; root = k.root; of_parent = k.of_parent; of_root = k.of_root; own = k.own }
-
 -- What is not open keeps its style at its place.
-pub kept-with : (scene : Scene) (marks : List ℕ) (fresh : ℕ → Bool) (slot : ℕ → Option Style) (recent : List ℕ) → IsSound scene.document → AllKeep (standing_with scene marks fresh slot recent) → (x : ℕ) → IsElement (elements_of scene) x → is_open (standing_with scene marks fresh slot recent) x ≡ false → slot x ≡ Some (style_in scene x)
+pub kept-with : (scene : Scene) (marks : List ℕ) (fresh : ℕ → Bool) (slot : ℕ → Option Style) (recent : List ℕ) → IsSound scene.document → AllKeep (standing_with scene marks fresh slot recent)
+    → (x : ℕ) → IsElement (elements_of scene) x → is_open (standing_with scene marks fresh slot recent) x ≡ false → slot x ≡ Some (style_in scene x)
 kept-with scene marks fresh slot recent sound all x there h =
     sym (listed-placed slot scene.document sound x there)
     ∙ kept-not_open (standing_with scene marks fresh slot recent) sound.valid all x there h
@@ -111,13 +108,16 @@ module _ (scene : Scene) (marks : List ℕ) (fresh : ℕ → Bool) (slot : ℕ �
 
 -- after a restyle nothing is marked or fresh, each element has its style, and those that it cascaded are listed
 module _ (scene : Scene) (none : List ℕ) (calm : ℕ → Bool) (m : none ≡ []) (f : (x : ℕ) → calm x ≡ false) where
-  pub restyled-of : (marks : List ℕ) (fresh : ℕ → Bool) (slot : ℕ → Option Style) (recent : List ℕ) (now : ℕ → Option Style) (list : List ℕ) → ((x : ℕ) → IsElement (elements_of scene) x → now x ≡ Some (style_in scene x)) → list ≡ filter (is_cascaded (standing_with scene marks fresh slot recent)) (numbers (elements_of scene)) → standing_with scene none calm now list ≡ restyled (standing_with scene marks fresh slot recent)
+  pub restyled-of : (marks : List ℕ) (fresh : ℕ → Bool) (slot : ℕ → Option Style) (recent : List ℕ) (now : ℕ → Option Style) (list : List ℕ)
+      → ((x : ℕ) → IsElement (elements_of scene) x → now x ≡ Some (style_in scene x)) → list ≡ filter (is_cascaded (standing_with scene marks fresh slot recent)) (numbers (elements_of scene))
+      → standing_with scene none calm now list ≡ restyled (standing_with scene marks fresh slot recent)
   restyled-of marks fresh slot recent now list h k =
       same_parts scene _ _ _ _ _ _ _ _ (elements_none scene.document none m) (none_pass calm (numbers (elements_of scene)) f) (placed-styles now scene h) k
 
 -- a restyle with nothing marked or fresh
 
-module _ (scene : Scene) (marks : List ℕ) (fresh : ℕ → Bool) (slot : ℕ → Option Style) (recent : List ℕ) (m : marks ≡ []) (f : (x : ℕ) → fresh x ≡ false) (sound : IsSound scene.document) (all : AllKeep (standing_with scene marks fresh slot recent)) where
+module _ (scene : Scene) (marks : List ℕ) (fresh : ℕ → Bool) (slot : ℕ → Option Style) (recent : List ℕ) (m : marks ≡ []) (f : (x : ℕ) → fresh x ≡ false) (sound : IsSound scene.document) (all :
+    AllKeep (standing_with scene marks fresh slot recent)) where
   abbrev calm : Standing
   calm = standing_with scene marks fresh slot recent
 
@@ -125,11 +125,12 @@ module _ (scene : Scene) (marks : List ℕ) (fresh : ℕ → Bool) (slot : ℕ �
   none_matched x there =
       matched-with scene marks fresh slot recent x there ∙ (ap (λ l. is_in x l || fresh x) m ∙ f x)
 
-  pub idle-with : (now : ℕ → Option Style) (list : List ℕ) → ((x : ℕ) → IsElement (elements_of scene) x → now x ≡ slot x) → list ≡ [] → standing_with scene marks fresh now list ≡ restyled calm
-  idle-with now list same n =
-      restyled-of scene marks fresh m f marks fresh slot recent now list
+  pub idle-with : (none : List ℕ) (still : ℕ → Bool) → none ≡ [] → ((x : ℕ) → still x ≡ false) → (now : ℕ → Option Style) (list : List ℕ)
+      → ((x : ℕ) → IsElement (elements_of scene) x → now x ≡ slot x) → list ≡ [] → standing_with scene none still now list ≡ restyled calm
+  idle-with none still n g now list same l =
+      restyled-of scene none still n g marks fresh slot recent now list
       (λ x there. same x there ∙ (sym (listed-placed slot scene.document sound x there) ∙ kept-idle calm sound.valid all none_matched x there))
-      (n ∙ sym (filter_nothing (is_cascaded calm) (numbers (elements_of scene)) (each_element (elements_of scene) (λ x. is_cascaded calm x ≡ false) (cascaded-idle calm sound.valid all none_matched))))
+      (l ∙ sym (filter_nothing (is_cascaded calm) (numbers (elements_of scene)) (each_element (elements_of scene) (λ x. is_cascaded calm x ≡ false) (cascaded-idle calm sound.valid all none_matched))))
 
   none_counted : (p : ℕ → Bool) → ((x : ℕ) → IsElement (elements_of scene) x → p x ≡ false) → length (filter p (numbers (elements_of scene))) ≡ 0
   none_counted p h = ap length (filter_nothing p (numbers (elements_of scene)) (each_element (elements_of scene) (λ x. p x ≡ false) h))
@@ -162,7 +163,8 @@ module _ (scene : Scene) (marks : List ℕ) (fresh : ℕ → Bool) (slot : ℕ �
   all_elements p h =
       filter_same p (λ x. true) (numbers (elements_of scene)) (each_element (elements_of scene) (λ x. p x ≡ true) h) ∙ every (numbers (elements_of scene))
 
-  pub first-with : (none : List ℕ) (calm : ℕ → Bool) → none ≡ [] → ((x : ℕ) → calm x ≡ false) → (now : ℕ → Option Style) (list : List ℕ) → ((x : ℕ) → IsElement (elements_of scene) x → now x ≡ Some (style_in scene x)) → list ≡ numbers (elements_of scene) → standing_with scene none calm now list ≡ restyled anew
+  pub first-with : (none : List ℕ) (calm : ℕ → Bool) → none ≡ [] → ((x : ℕ) → calm x ≡ false) → (now : ℕ → Option Style) (list : List ℕ)
+      → ((x : ℕ) → IsElement (elements_of scene) x → now x ≡ Some (style_in scene x)) → list ≡ numbers (elements_of scene) → standing_with scene none calm now list ≡ restyled anew
   first-with none calm m c now list h e =
       restyled-of scene none calm m c marks fresh slot recent now list h (e ∙ sym (all_elements (is_cascaded anew) all_cascaded))
 
@@ -177,7 +179,8 @@ module _ (scene : Scene) (marks : List ℕ) (fresh : ℕ → Bool) (slot : ℕ �
 abbrev pub number_of : Styled → ℕ
 number_of one = one.number
 
-module _ (scene : Scene) (marks : List ℕ) (fresh : ℕ → Bool) (slot : ℕ → Option Style) (recent : List ℕ) (sound : IsSound scene.document) (all : AllKeep (standing_with scene marks fresh slot recent)) (found : List Styled) (is : found ≡ results (standing_with scene marks fresh slot recent)) where
+module _ (scene : Scene) (marks : List ℕ) (fresh : ℕ → Bool) (slot : ℕ → Option Style) (recent : List ℕ) (sound : IsSound scene.document) (all : AllKeep (standing_with scene marks fresh slot
+    recent)) (found : List Styled) (is : found ≡ results (standing_with scene marks fresh slot recent)) where
   abbrev st : Standing
   st = standing_with scene marks fresh slot recent
 
@@ -204,7 +207,8 @@ module _ (scene : Scene) (marks : List ℕ) (fresh : ℕ → Bool) (slot : ℕ �
   pub found-elements : AllByRecursion (λ one. IsElement (elements_of scene) (number_of one)) found
   found-elements =
       subst (AllByRecursion (λ one. IsElement (elements_of scene) (number_of one))) (sym found_now)
-      (each-map (λ one. IsElement (elements_of scene) (number_of one)) now_styled those (each-filter (IsElement (elements_of scene)) (IsElement (elements_of scene)) (is_cascaded st) (λ x _ there. there) (numbers (elements_of scene)) (each_number (elements_of scene))))
+      (each-map (λ one. IsElement (elements_of scene) (number_of one)) now_styled those (each-filter (IsElement (elements_of scene)) (IsElement (elements_of scene)) (is_cascaded st) (λ x _ there.
+      there) (numbers (elements_of scene)) (each_number (elements_of scene))))
 
   -- the counts
   pub found-cascaded : length found ≡ cascaded_count st
@@ -215,14 +219,16 @@ module _ (scene : Scene) (marks : List ℕ) (fresh : ℕ → Bool) (slot : ℕ �
 
   -- the styles, once they stand at their places
 
-  placed_now : (now : ℕ → Option Style) → ((x : ℕ) → IsElement (elements_of scene) x → now x ≡ option_or (result_at found x) (slot x)) → (x : ℕ) → IsElement (elements_of scene) x → now x ≡ Some (style_in scene x)
+  placed_now : (now : ℕ → Option Style) → ((x : ℕ) → IsElement (elements_of scene) x → now x ≡ option_or (result_at found x) (slot x)) → (x : ℕ) → IsElement (elements_of scene) x
+      → now x ≡ Some (style_in scene x)
   placed_now now h x there =
       h x there
       ∙ (ap (λ l. option_or (result_at l x) (slot x)) is
       ∙ (ap (option_or (result_at (results st) x)) (sym (listed-placed slot scene.document sound x there))
       ∙ committed-now st sound.valid all x there))
 
-  pub restyled-with : (none : List ℕ) (calm : ℕ → Bool) → none ≡ [] → ((x : ℕ) → calm x ≡ false) → (now : ℕ → Option Style) (list : List ℕ) → ((x : ℕ) → IsElement (elements_of scene) x → now x ≡ option_or (result_at found x) (slot x)) → list ≡ map number_of found → standing_with scene none calm now list ≡ restyled st
+  pub restyled-with : (none : List ℕ) (calm : ℕ → Bool) → none ≡ [] → ((x : ℕ) → calm x ≡ false) → (now : ℕ → Option Style) (list : List ℕ)
+      → ((x : ℕ) → IsElement (elements_of scene) x → now x ≡ option_or (result_at found x) (slot x)) → list ≡ map number_of found → standing_with scene none calm now list ≡ restyled st
   restyled-with none calm m f now list h e =
       restyled-of scene none calm m f marks fresh slot recent now list (placed_now now h) (e ∙ found-numbers)
 
@@ -231,7 +237,8 @@ module _ (scene : Scene) (marks : List ℕ) (fresh : ℕ → Bool) (slot : ℕ �
 pub keeps-restyled : (st now : Standing) → IsSound st.scene.document → now ≡ restyled st → AllKeep now
 keeps-restyled st now sound is = subst AllKeep (sym is) (keep-restyled st sound)
 
-pub others-restyled : (st now : Standing) → IsSound st.scene.document → AllKeep st → now ≡ restyled st → (x : ℕ) → IsElement (elements_of now.scene) x → is_in x now.recent ≡ false → kept_at now x ≡ kept_at st x
+pub others-restyled : (st now : Standing) → IsSound st.scene.document → AllKeep st → now ≡ restyled st → (x : ℕ) → IsElement (elements_of now.scene) x → is_in x now.recent ≡ false
+    → kept_at now x ≡ kept_at st x
 others-restyled st now sound all is =
     subst (λ (n : Standing). (x : ℕ) → IsElement (elements_of n.scene) x → is_in x n.recent ≡ false → kept_at n x ≡ kept_at st x) (sym is)
     (λ x there h. kept-others st sound all x there (sym (among-numbers (elements_of st.scene) (is_cascaded st) x there) ∙ h))

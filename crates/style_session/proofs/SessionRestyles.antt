@@ -1,75 +1,75 @@
--- Restyles of a session.
-use Rattle.std.proofs.Common.{◌≡◌, ℕ, ◌<◌, ◌==◌, nat_eq, List, [], ◌∷◌, map, filter, find, length, Bool, true, false, cond, not, ◌&&◌, ◌||◌, Option, None, Some, option_map, refl, sym, ap, subst, ◌∙◌}
+-- For `Session::restyle_alone`: restyles of a session.
+use Rattle.std.proofs.Common.{◌≡◌, ℕ, ◌<◌, ◌==◌, nat_eq, List, [], ◌∷◌, map, filter, find, length, Bool, true, false, cond, not, ◌&&◌, ◌||◌}
+use Rattle.std.proofs.Common.{Option, None, Some, option_map, refl, sym, ap, subst, ◌∙◌}
 use Rattle.std.specs.List.{AllByRecursion, IsDistinct, count_by}
 use Rattle.std.specs.Prelude.{is_some}
 use Rattle.std.specs.Option.{option_or}
-use Rattle.std.specs.declared.sync.Arc.{Arc}
 use Rattle.std.proofs.lemmas.Bool.{eqb-true, false≢true}
 use Rattle.std.proofs.lemmas.List.{length-map}
 use Rattle.std.proofs.lemmas.List.Sums.{length-filter}
-use Rattle.std.proofs.lemmas.Option.{IfSome_then}
 use Rattle.base_model.proofs.Lists.{each_weaker}
-use Rattle.scene_model.specs.Document.{Document}
 use Rattle.scene_model.specs.Element.{Element}
 use Rattle.scene_model.specs.Lookups.{IsElement, is_element}
 use Rattle.scene_model.specs.Numbers.{is_in}
+use Rattle.scene_model.specs.Scene.{Scene}
 use Rattle.scene_model.proofs.Lists.{filter-map}
-use Rattle.value_model.specs.Style.{Style}
-use Rattle.invalidation_map.specs.Members.{Members}
 use Rattle.invalidation_map.specs.Steps.{HasRoom}
 use Rattle.sheet_model.specs.Sources.{Sources}
 use Rattle.sheet_set.specs.View.{sources_seen}
-use Rattle.sheet_set.specs.declared.sheets.Sheets.{Sheets}
 use Rattle.plain_style.specs.Fits.{Fits}
 use Rattle.plain_style.specs.Prepared.{IsPrepared}
 use Rattle.plain_style.specs.declared.prepared.Prepared.{Prepared}
 use Rattle.session_model.specs.Standing.{Standing, kept_at, restyled}
-use Rattle.session_model.specs.StandingInvariant.{AllKeep}
+use Rattle.session_model.specs.StandingInvariant.{IsReached, by_restyle}
 use Rattle.session_model.specs.Walk as walk
 use Rattle.session_model.specs.Walk.{result_at, results}
 use Rattle.style_session.specs.Answers.{counts_of, styled_seen}
 use Rattle.style_session.specs.FirstWalking.{AreAll}
-use Rattle.style_session.specs.SessionView.{is_fresh_in, is_gone, scene_seen, slot_at, standing_seen}
-use Rattle.style_session.specs.Sessions.{AreReady, IsSession}
-use Rattle.style_session.specs.Settled.{AreSettled}
+use Rattle.style_session.specs.KeptView.{Commits, DropsGone, HasPlaces, KeptView, style_at}
+use Rattle.style_session.specs.PendingView.{PendingMembers, are_settled, is_fresh_in, none_pending}
+use Rattle.style_session.specs.SessionView.{scene_seen, standing_seen}
+use Rattle.style_session.specs.Sessions.{AreReady, CanStyle, IsSession}
+use Rattle.style_session.specs.declared.content.Content.{Content}
 use Rattle.style_session.specs.declared.counts.Counts.{Counts}
-use Rattle.style_session.specs.declared.first_walk.FirstStyles.{FirstStyles}
-use Rattle.style_session.specs.declared.fresh.Fresh.{Fresh}
-use Rattle.style_session.specs.declared.marking.Marking.{Marking}
-use Rattle.style_session.specs.declared.style_cache.StyleCache.{StyleCache}
+use Rattle.style_session.specs.declared.derived.Derived.{Derived}
+use Rattle.style_session.specs.declared.derived.StyleCache.{StyleCache}
 use Rattle.style_session.specs.declared.styled.Styled.{Styled}
-use Rattle.style_session.proofs.SessionStarts.{all-fresh, none-fresh, none_given, none_twice}
-use Rattle.style_session.proofs.SessionLemmas.{first-cascaded, first-matched, first-with, found-cascaded, found-elements, found-matched, found-once, idle-cascaded, idle-matched, idle-with, keeps-lent, keeps-restyled, number_of, others-restyled, restyled-with}
+use Rattle.style_session.proofs.SessionLemmas.{first-cascaded, first-matched, first-with, found-cascaded, found-elements, found-matched, found-once}
+use Rattle.style_session.proofs.SessionLemmas.{idle-cascaded, idle-matched, idle-with, keeps-restyled, number_of, others-restyled, restyled-with}
+use Rattle.style_session.proofs.SessionParts.{settled-marks, settled-fresh}
+use Rattle.style_session.proofs.SessionStarts.{none_twice}
 
-same_counts : (a b : Counts) → a.matched ≡ b.matched → a.cascaded ≡ b.cascaded → a ≡ b
-same_counts a b e f = λ i. record { matched = e i; cascaded = f i }
+abbrev counted : ℕ → ℕ → Counts
+counted matched cascaded = record { matched = matched; cascaded = cascaded }
+
+same_counts : (a b c d : ℕ) → a ≡ b → c ≡ d → counted a c ≡ counted b d
+same_counts a b c d e f = λ i. counted (e i) (f i)
 
 -- styles of numbers that no element has any more are dropped
 
-abbrev pub AreDropped : List Element → List ℕ → (ℕ → Option Style) → (ℕ → Option Style) → Type 0
-AreDropped doc gone before now = (x : ℕ) → now x ≡ cond (is_gone doc gone x) None (before x)
-
-module _ (doc : List Element) (gone : List ℕ) (before now : ℕ → Option Style) (dropped : AreDropped doc gone before now) where
+module _ (doc : List Element) (gone : List ℕ) (before now : KeptView) (dropped : DropsGone doc gone before now) where
   -- an element keeps its style
-  pub dropped-there : (x : ℕ) → IsElement doc x → now x ≡ before x
-  dropped-there x there =
-      dropped x ∙ (ap (λ b. cond (is_in x gone && not b) None (before x)) there ∙ ap (λ b. cond b None (before x)) (none (is_in x gone)))
+  dropped_there : (x : ℕ) → IsElement doc x → style_at now x ≡ style_at before x
+  dropped_there x there =
+      dropped.styles x
+      ∙ (ap (λ b. cond (is_in x gone && not b) None (style_at before x)) there ∙ ap (λ b. cond b None (style_at before x)) (none (is_in x gone)))
     where
       none : (b : Bool) → (b && false) ≡ false
       none true = refl
       none false = refl
 
   -- and of another number nothing is left, where nothing was kept but of these
-  pub dropped-absent : (x : ℕ) → is_element doc x ≡ false → (is_in x gone ≡ false → before x ≡ None) → now x ≡ None
-  dropped-absent x out absent =
-      dropped x ∙ (ap (λ b. cond (is_in x gone && not b) None (before x)) out ∙ by (is_in x gone) refl)
+  dropped_absent : (x : ℕ) → is_element doc x ≡ false → (is_in x gone ≡ false → style_at before x ≡ None) → style_at now x ≡ None
+  dropped_absent x out absent =
+      dropped.styles x ∙ (ap (λ b. cond (is_in x gone && not b) None (style_at before x)) out ∙ by (is_in x gone) refl)
     where
-      by : (b : Bool) → is_in x gone ≡ b → cond (b && true) None (before x) ≡ None
+      by : (b : Bool) → is_in x gone ≡ b → cond (b && true) None (style_at before x) ≡ None
       by true e = refl
       by false e = absent e
 
 -- of a number that no element has nothing is handed on
-no_result : (doc : List Element) (x : ℕ) → is_element doc x ≡ false → (found : List walk.Styled) → AllByRecursion (λ one. IsElement doc (number_of one)) found → result_at found x ≡ None
+no_result : (doc : List Element) (x : ℕ) → is_element doc x ≡ false → (found : List walk.Styled)
+    → AllByRecursion (λ one. IsElement doc (number_of one)) found → result_at found x ≡ None
 no_result doc x none [] h = refl
 no_result doc x none (one ∷ found) h = by (one.number == x) refl (no_result doc x none found h.1)
   where
@@ -79,181 +79,190 @@ no_result doc x none (one ∷ found) h = by (one.number == x) refl (no_result do
         ap (λ b. option_map (λ (s : walk.Styled). s.style) (cond b (Some one) (find (λ (s : walk.Styled). s.number == x) found))) e ∙ rest
 
 -- what a list holds of what it is seen as
-
 each_seen : {X Y : Type 0} (P : Y → Type 0) (f : X → Y) (xs : List X) → AllByRecursion P (map f xs) → AllByRecursion (λ x. P (f x)) xs
 each_seen P f [] h = tt
 each_seen P f (x ∷ xs) h = (h.0, each_seen P f xs h.1)
 
-numbers_seen : (list : List Styled) → map number_of (map styled_seen list) ≡ map (λ (one : Styled). one.number) list
-numbers_seen [] = refl
-numbers_seen (one ∷ list) = ap (λ l. one.number ∷ l) (numbers_seen list)
-
 -- of what a session is made of
 
-module _ {A : Type 0} (document : Document) (sheets : Sheets) (prepared : Option Prepared) (marking : Option Marking) (marks : Members) (fresh : Fresh) (gone : List ℕ) (kept : List (Option (Arc Style A))) (recent : List ℕ) (cache : StyleCache) (was : IsSession document sheets prepared marking marks fresh gone kept recent cache) where
+module _ (content : Content) (pending : PendingMembers) (kept : KeptView) (derived : Derived) (was : IsSession content pending kept derived) where
+  abbrev doc : List Element
+  doc = content.doc.elements
+
+  abbrev scene : Scene
+  scene = scene_seen content.doc content.sheets
+
   abbrev st : Standing
-  st = standing_seen document sheets marks.items (is_fresh_in fresh) kept recent
+  st = standing_seen content.doc content.sheets pending kept
+
+  abbrev behind : ℕ → KeptView → Standing
+  behind room now = standing_seen content.doc content.sheets (none_pending room) now
 
   -- what a restyle leaves, once each element has its style
-  module _ {B : Type 0} (now : Members) (later : Fresh) (settled : AreSettled now later) (styles : List (Option (Arc Style B))) (numbers : List ℕ) (done : standing_seen document sheets now.items (is_fresh_in later) styles numbers ≡ restyled st) where
-    pub session-anew : (known : StyleCache) (left : List ℕ) → left ≡ [] → now.room ≡ marks.room → HasRoom document.elements (length styles) → ((x : ℕ) → is_element document.elements x ≡ false → slot_at styles x ≡ None) → IsDistinct nat_eq numbers → AreReady (sources_seen sheets) prepared known → IsSession document sheets prepared marking now later left styles numbers known
-    session-anew known left empty room places absent once fits = record {
+  module _ (room : ℕ) (now : KeptView) (done : behind room now ≡ restyled st) where
+    session_anew : (known : Derived) → AreReady (sources_seen content.sheets) known → ((x : ℕ) → is_element doc x ≡ false → style_at now x ≡ None)
+        → IsDistinct nat_eq now.recent → IsSession content (none_pending room) now known
+    session_anew known ready absent once = record {
       sound = was.sound;
-      can_mark = IfSome_then marking was.can_mark (λ made can. record { rows = can.rows; room = can.room; marks_room = λ x there. subst (λ n. x < n) (sym room) (can.marks_room x there) });
-      places = λ x there _. places x there;
-      marks_given = none_given document.last now.items settled.marked;
-      gone_given = none_given document.last left empty;
+      ready = ready;
+      marks_given = λ x above. refl;
+      gone_given = λ x above. refl;
       absent = λ x out _. absent x out;
-      keeps = keeps-restyled st (standing_seen document sheets now.items (is_fresh_in later) styles numbers) was.sound done;
+      keeps = keeps-restyled st (behind room now) was.sound done;
       once = once;
-      ready = fits;
     }
 
-    pub others-anew : (x : ℕ) → IsElement document.elements x → is_in x (standing_seen document sheets now.items (is_fresh_in later) styles numbers).recent ≡ false → kept_at (standing_seen document sheets now.items (is_fresh_in later) styles numbers) x ≡ kept_at st x
-    others-anew = others-restyled st (standing_seen document sheets now.items (is_fresh_in later) styles numbers) was.sound was.keeps done
-
   -- with nothing marked or fresh
-  module _ (settled : AreSettled marks fresh) where
-    none : (x : ℕ) → is_fresh_in fresh x ≡ false
-    none = none-fresh marks fresh settled
+  module _ (settled : are_settled pending ≡ true) where
+    none_marked : pending.marked ≡ []
+    none_marked = settled-marks pending settled
 
-    pub idle-seen : (styles : List (Option (Arc Style A))) (now : List ℕ) → ((x : ℕ) → IsElement document.elements x → slot_at styles x ≡ slot_at kept x) → now ≡ [] → standing_seen document sheets marks.items (is_fresh_in fresh) styles now ≡ restyled st
-    idle-seen styles =
-        idle-with (scene_seen document sheets) marks.items (is_fresh_in fresh) (slot_at kept) recent settled.marked none was.sound was.keeps (slot_at styles)
+    none_fresh : (x : ℕ) → is_fresh_in pending x ≡ false
+    none_fresh = settled-fresh pending settled
 
-    pub idle-counts : (counts : Counts) → counts.matched ≡ 0 → counts.cascaded ≡ 0 → counts ≡ counts_of st
-    idle-counts counts a b =
-        let scene = scene_seen document sheets in
-        same_counts counts (counts_of st)
-        (a ∙ sym (idle-matched scene marks.items (is_fresh_in fresh) (slot_at kept) recent settled.marked none was.sound was.keeps))
-        (b ∙ sym (idle-cascaded scene marks.items (is_fresh_in fresh) (slot_at kept) recent settled.marked none was.sound was.keeps))
+    pub idle-counts : counted 0 0 ≡ counts_of st
+    idle-counts =
+        same_counts _ _ _ _
+        (sym (idle-matched scene pending.marked (is_fresh_in pending) (style_at kept) kept.recent none_marked none_fresh was.sound was.keeps))
+        (sym (idle-cascaded scene pending.marked (is_fresh_in pending) (style_at kept) kept.recent none_marked none_fresh was.sound was.keeps))
 
-    pub session-idle : (styles : List (Option (Arc Style A))) (now left : List ℕ) → AreDropped document.elements gone (slot_at kept) (slot_at styles) → length styles ≡ length kept → now ≡ [] → left ≡ [] → IsSession document sheets prepared marking marks fresh left styles now cache
-    session-idle styles now left dropped long n empty =
-        session-anew marks fresh settled styles now (idle-seen styles now (dropped-there document.elements gone (slot_at kept) (slot_at styles) dropped) n) cache left empty refl
-        (λ x there. subst (λ places. x < places) (sym long) (was.places x there (none x)))
-        (λ x out. dropped-absent document.elements gone (slot_at kept) (slot_at styles) dropped x out (was.absent x out))
-        (none_twice now n) was.ready
+    module _ (room : ℕ) (gone : List ℕ) (mid now : KeptView) (same : gone ≡ pending.gone) (emptied : mid ≡ record kept { recent = [] })
+        (dropped : DropsGone doc gone mid now) where
+      none_recent : now.recent ≡ []
+      none_recent = dropped.recent ∙ ap (λ (k : KeptView). k.recent) emptied
+
+      pub idle-seen : behind room now ≡ restyled st
+      idle-seen =
+          idle-with scene pending.marked (is_fresh_in pending) (style_at kept) kept.recent none_marked none_fresh was.sound was.keeps [] (is_fresh_in (none_pending room)) refl
+          (λ x. refl) (style_at now) now.recent
+          (λ x there. dropped_there doc gone mid now dropped x there ∙ ap (λ (k : KeptView). style_at k x) emptied) none_recent
+
+      pub session-idle : IsSession content (none_pending room) now derived
+      session-idle =
+          session_anew room now idle-seen derived was.ready
+          (λ x out. dropped_absent doc gone mid now dropped x out
+          (λ here. ap (λ (k : KeptView). style_at k x) emptied ∙ was.absent x out (ap (is_in x) (sym same) ∙ here)))
+          (none_twice now.recent none_recent)
 
   -- the first one
-  module _ (all : fresh.all ≡ true) (made : FirstStyles) (is : AreAll (scene_seen document sheets) made) where
-    pub first-seen : (now : Members) (later : Fresh) → AreSettled now later → standing_seen document sheets now.items (is_fresh_in later) made.kept.items made.numbers.items ≡ restyled st
-    first-seen now later settled =
-        first-with (scene_seen document sheets) marks.items (is_fresh_in fresh) (slot_at kept) recent (all-fresh fresh all) now.items (is_fresh_in later) settled.marked (none-fresh now later settled) (slot_at made.kept.items) made.numbers.items is.styles is.order
+  module _ (all : pending.all_fresh ≡ true) (made : KeptView) (is : AreAll scene made) where
+    all_fresh : (x : ℕ) → is_fresh_in pending x ≡ true
+    all_fresh x = ap (λ b. b || is_in x pending.fresh) all
 
-    pub first-once : IsDistinct nat_eq made.numbers.items
-    first-once = subst (IsDistinct nat_eq) (sym is.order) was.sound.valid.distinct
+    pub first-counts : (n : ℕ) → n ≡ length made.recent → counted n n ≡ counts_of st
+    first-counts n e =
+        same_counts _ _ _ _
+        (e ∙ (ap length is.order ∙ first-matched scene pending.marked (is_fresh_in pending) (style_at kept) kept.recent all_fresh))
+        (e ∙ (ap length is.order ∙ first-cascaded scene pending.marked (is_fresh_in pending) (style_at kept) kept.recent all_fresh))
 
-    pub first-counts : (counts : Counts) → counts.matched ≡ length made.numbers.items → counts.cascaded ≡ length made.numbers.items → counts ≡ counts_of st
-    first-counts counts m l =
-        same_counts counts (counts_of st)
-        (m ∙ (ap length is.order ∙ first-matched (scene_seen document sheets) marks.items (is_fresh_in fresh) (slot_at kept) recent (all-fresh fresh all)))
-        (l ∙ (ap length is.order ∙ first-cascaded (scene_seen document sheets) marks.items (is_fresh_in fresh) (slot_at kept) recent (all-fresh fresh all)))
+    pub first-seen : (room : ℕ) → behind room made ≡ restyled st
+    first-seen room =
+        first-with scene pending.marked (is_fresh_in pending) (style_at kept) kept.recent all_fresh [] (is_fresh_in (none_pending room)) refl (λ x. refl)
+        (style_at made) made.recent is.styles is.order
 
-  -- a later one
-  module _ (calm : fresh.all ≡ false) where
-    abbrev some : ℕ → Bool
-    some x = is_in x fresh.set.items
+    pub session-first : (room : ℕ) (known : Derived) → AreReady (sources_seen content.sheets) known → IsSession content (none_pending room) made known
+    session-first room known ready =
+        session_anew room made (first-seen room) known ready is.absent (subst (IsDistinct nat_eq) (sym is.order) was.sound.valid.distinct)
 
-    -- the standing, where it is told whether all elements are fresh
-    abbrev seen : Bool → Standing
-    seen all = standing_seen document sheets marks.items (λ x. all || is_in x fresh.set.items) kept recent
+  -- a later one, once its walk has handed a list on
+  module _ (styled : List Styled) (found : map styled_seen styled ≡ results st) where
+    abbrev seen : List walk.Styled
+    seen = map styled_seen styled
 
-    -- what its walk asks
-    pub keeps-seen : AllKeep (standing_seen document sheets marks.items some kept [])
-    keeps-seen =
-        keeps-lent (scene_seen document sheets) marks.items some (slot_at kept) recent [] (subst (λ all. AllKeep (seen all)) calm was.keeps)
+    elements : AllByRecursion (λ one. IsElement doc (number_of one)) seen
+    elements =
+        found-elements scene pending.marked (is_fresh_in pending) (style_at kept) kept.recent was.sound was.keeps seen found
 
-    -- once the walk has handed a list on
-    module _ (lent : List (Option (Arc Style A))) (same : lent ≡ kept) (styled : List Styled) (found : map styled_seen styled ≡ results (standing_seen document sheets marks.items some lent [])) where
-      is : map styled_seen styled ≡ results (standing_seen document sheets marks.items some kept [])
-      is = found ∙ ap (λ (l : List (Option (Arc Style A))). results (standing_seen document sheets marks.items some l [])) same
+    pub styled-within : (places : ℕ) → HasRoom doc places → AllByRecursion (λ (one : Styled). one.number < places) styled
+    styled-within places room =
+        each_weaker (λ (one : Styled). IsElement doc one.number) (λ (one : Styled). one.number < places) (λ one there. room one.number there) styled
+        (each_seen (λ one. IsElement doc (number_of one)) styled_seen styled elements)
 
-      elements : AllByRecursion (λ one. IsElement document.elements (number_of one)) (map styled_seen styled)
-      elements =
-          found-elements (scene_seen document sheets) marks.items some (slot_at kept) [] was.sound keeps-seen (map styled_seen styled) is
+    pub later-counts : counted (count_by (λ (one : Styled). one.matched) styled) (length styled) ≡ counts_of st
+    later-counts =
+        let matched = found-matched scene pending.marked (is_fresh_in pending) (style_at kept) kept.recent was.sound was.keeps seen found in
+        let all = found-cascaded scene pending.marked (is_fresh_in pending) (style_at kept) kept.recent was.sound was.keeps seen found in
+        let pass = λ (one : walk.Styled). one.matched in
+        same_counts _ _ _ _
+        (sym (length-filter (λ (one : Styled). one.matched) styled)
+        ∙ (sym (ap length (filter-map pass styled_seen styled) ∙ length-map (filter (λ (one : Styled). one.matched) styled) styled_seen)
+        ∙ matched))
+        (sym (length-map styled styled_seen) ∙ all)
 
-      pub styled-places : (places : ℕ) → HasRoom document.elements places → AllByRecursion (λ (one : Styled). one.number < places) styled
-      styled-places places room =
-          each_weaker (λ (one : Styled). IsElement document.elements one.number) (λ (one : Styled). one.number < places) (λ one there. room one.number there) styled
-          (each_seen (λ one. IsElement document.elements (number_of one)) styled_seen styled elements)
+    module _ (places room : ℕ) (gone : List ℕ) (wide put now : KeptView) (same : gone ≡ pending.gone) (has : HasPlaces places kept wide) (commits : Commits seen wide put)
+        (dropped : DropsGone doc gone put now) where
+      placed : (x : ℕ) → style_at put x ≡ option_or (result_at seen x) (style_at kept x)
+      placed x = commits.styles x ∙ ap (option_or (result_at seen x)) (has.styles x)
 
-      pub counts-seen : (counts : Counts) → counts.matched ≡ count_by (λ (one : Styled). one.matched) styled → counts.cascaded ≡ length styled → counts ≡ counts_of st
-      counts-seen counts m l =
-          let scene = scene_seen document sheets in
-          let matched = found-matched scene marks.items some (slot_at kept) [] was.sound keeps-seen (map styled_seen styled) is in
-          let all = found-cascaded scene marks.items some (slot_at kept) [] was.sound keeps-seen (map styled_seen styled) is in
-          let pass = λ (one : walk.Styled). one.matched in
-          subst (λ all. counts ≡ counts_of (seen all)) (sym calm)
-          (same_counts counts (counts_of (seen false))
-          (m
-          ∙ (sym (length-filter (λ (one : Styled). one.matched) styled)
-          ∙ (sym (ap length (filter-map pass styled_seen styled) ∙ length-map (filter (λ (one : Styled). one.matched) styled) styled_seen)
-          ∙ matched)))
-          (l ∙ (sym (length-map styled styled_seen) ∙ all)))
+      recent_is : now.recent ≡ map number_of seen
+      recent_is = dropped.recent ∙ commits.recent
 
-      module _ (now : Members) (later : Fresh) (settled : AreSettled now later) (put styles : List (Option (Arc Style A))) (numbers : List ℕ) (placed : (x : ℕ) → slot_at put x ≡ option_or (result_at (map styled_seen styled) x) (slot_at kept x)) (dropped : AreDropped document.elements gone (slot_at put) (slot_at styles)) (named : numbers ≡ map (λ (one : Styled). one.number) styled) where
-        named_seen : numbers ≡ map number_of (map styled_seen styled)
-        named_seen = named ∙ sym (numbers_seen styled)
+      pub later-seen : behind room now ≡ restyled st
+      later-seen =
+          restyled-with scene pending.marked (is_fresh_in pending) (style_at kept) kept.recent was.sound was.keeps seen found [] (is_fresh_in (none_pending room)) refl
+          (λ x. refl) (style_at now) now.recent (λ x there. dropped_there doc gone put now dropped x there ∙ placed x) recent_is
 
-        pub restyled-seen : standing_seen document sheets now.items (is_fresh_in later) styles numbers ≡ restyled st
-        restyled-seen =
-            subst (λ all. standing_seen document sheets now.items (is_fresh_in later) styles numbers ≡ restyled (seen all)) (sym calm)
-            (restyled-with (scene_seen document sheets) marks.items some (slot_at kept) [] was.sound keeps-seen (map styled_seen styled) is now.items (is_fresh_in later) settled.marked (none-fresh now later settled) (slot_at styles) numbers
-            (λ x there. dropped-there document.elements gone (slot_at put) (slot_at styles) dropped x there ∙ placed x) named_seen)
+      absent_later : (x : ℕ) → is_element doc x ≡ false → style_at now x ≡ None
+      absent_later x out =
+          dropped_absent doc gone put now dropped x out
+          (λ here. placed x
+          ∙ (ap (λ o. option_or o (style_at kept x)) (no_result doc x out seen elements) ∙ was.absent x out (ap (is_in x) (sym same) ∙ here)))
 
-        absent : (x : ℕ) → is_element document.elements x ≡ false → slot_at styles x ≡ None
-        absent x out =
-            dropped-absent document.elements gone (slot_at put) (slot_at styles) dropped x out
-            (λ in_place. placed x ∙ (ap (λ o. option_or o (slot_at kept x)) (no_result document.elements x out (map styled_seen styled) elements) ∙ was.absent x out in_place))
+      pub session-later : (known : Derived) → AreReady (sources_seen content.sheets) known → IsSession content (none_pending room) now known
+      session-later known ready =
+          session_anew room now later-seen known ready absent_later
+          (subst (IsDistinct nat_eq) (sym recent_is) (found-once scene pending.marked (is_fresh_in pending) (style_at kept) kept.recent was.sound was.keeps seen found))
 
-        pub session-restyled : (known : StyleCache) (left : List ℕ) → left ≡ [] → now.room ≡ marks.room → HasRoom document.elements (length styles) → AreReady (sources_seen sheets) prepared known → IsSession document sheets prepared marking now later left styles numbers known
-        session-restyled known left empty room places fits =
-            session-anew now later settled styles numbers restyled-seen known left empty room places absent
-            (subst (IsDistinct nat_eq) (sym named_seen) (found-once (scene_seen document sheets) marks.items some (slot_at kept) [] was.sound keeps-seen (map styled_seen styled) is))
-            fits
+  -- behind a restyle, where what is pending was cleared
+  module _ (room : ℕ) (after : PendingMembers) (cleared : after ≡ none_pending room) (now : KeptView) where
+    pub session-cleared : (known : Derived) → IsSession content (none_pending room) now known → IsSession content after now known
+    session-cleared known = subst (λ p. IsSession content p now known) (sym cleared)
 
--- where memory runs out before styles are kept, only what the styler knows is another
-pub session-cached : {A : Type 0} (document : Document) (sheets : Sheets) (prepared : Option Prepared) (marking : Option Marking) (marks : Members) (fresh : Fresh) (gone : List ℕ) (kept now : List (Option (Arc Style A))) (recent : List ℕ) (cache later : StyleCache) → IsSession document sheets prepared marking marks fresh gone kept recent cache → AreReady (sources_seen sheets) prepared later → now ≡ kept → IsSession document sheets prepared marking marks fresh gone now recent later
-session-cached document sheets prepared marking marks fresh gone kept now recent cache later was fits same =
-    subst (λ slots. IsSession document sheets prepared marking marks fresh gone slots recent later) (sym same)
-    (record {
-      sound = was.sound;
-      can_mark = was.can_mark;
-      places = was.places;
-      marks_given = was.marks_given;
-      gone_given = was.gone_given;
-      absent = was.absent;
-      keeps = was.keeps;
-      once = was.once;
-      ready = fits;
-    })
+    module _ (done : behind room now ≡ restyled st) (old : Standing) (view : st ≡ old) where
+      abbrev later : Standing
+      later = standing_seen content.doc content.sheets after now
 
--- what is made ready anew
-pub session-ready : {A : Type 0} (document : Document) (sheets : Sheets) (prepared ready : Option Prepared) (marking : Option Marking) (marks : Members) (fresh : Fresh) (gone : List ℕ) (kept : List (Option (Arc Style A))) (recent : List ℕ) (cache : StyleCache) → IsSession document sheets prepared marking marks fresh gone kept recent cache → AreReady (sources_seen sheets) ready cache → IsSession document sheets ready marking marks fresh gone kept recent cache
-session-ready document sheets prepared ready marking marks fresh gone kept recent cache was are = record {
-  sound = was.sound;
-  can_mark = was.can_mark;
-  places = was.places;
-  marks_given = was.marks_given;
-  gone_given = was.gone_given;
-  absent = was.absent;
-  keeps = was.keeps;
-  once = was.once;
-  ready = are;
+      done_now : later ≡ restyled st
+      done_now = ap (λ p. standing_seen content.doc content.sheets p now) cleared ∙ done
+
+      pub restyled-now : later ≡ restyled old
+      restyled-now = done_now ∙ ap restyled view
+
+      pub others-now : (x : ℕ) → IsElement doc x → is_in x now.recent ≡ false → kept_at later x ≡ kept_at old x
+      others-now x there h = others-restyled st later was.sound was.keeps done_now x there h ∙ ap (λ s. kept_at s x) view
+
+      pub reached-now : IsReached old → IsReached later
+      reached-now reached = subst IsReached (sym restyled-now) (by_restyle old reached)
+
+  -- where memory runs out before styles are kept, only what is made of the sheets is another
+  pub session-known : (now : KeptView) (known : Derived) → now ≡ kept → AreReady (sources_seen content.sheets) known → IsSession content pending now known
+  session-known now known same ready =
+      subst (λ k. IsSession content pending k known) (sym same)
+      (record {
+        sound = was.sound;
+        ready = ready;
+        marks_given = was.marks_given;
+        gone_given = was.gone_given;
+        absent = was.absent;
+        keeps = was.keeps;
+        once = was.once;
+      })
+
+-- what is ready fits, and what the styler knows may be another
+
+pub ready-fits : (sources : Sources) (derived : Derived) (it : Prepared) → derived.prepared ≡ Some it → AreReady sources derived
+    → Fits sources derived.cache.size it derived.cache.styler
+ready-fits sources derived it is ready = subst (λ (o : Option Prepared). CanStyle sources o derived.cache) is ready.styles
+
+pub ready-known : (sources : Sources) (derived : Derived) (it : Prepared) (cache : StyleCache) → derived.prepared ≡ Some it → AreReady sources derived
+    → Fits sources cache.size it cache.styler → AreReady sources (record derived { cache = cache })
+ready-known sources derived it cache is ready fits = record {
+  styles = subst (λ (o : Option Prepared). CanStyle sources o cache) (sym is) fits;
+  map = ready.map;
 }
 
-pub ready-now : {A : Type 0} (document : Document) (sheets : Sheets) (prepared ready : Option Prepared) (marking : Option Marking) (marks : Members) (fresh : Fresh) (gone : List ℕ) (kept : List (Option (Arc Style A))) (recent : List ℕ) (cache : StyleCache) → IsSession document sheets prepared marking marks fresh gone kept recent cache → ((known : StyleCache) → AreReady (sources_seen sheets) prepared known → AreReady (sources_seen sheets) ready known) → IsSession document sheets ready marking marks fresh gone kept recent cache
-ready-now document sheets prepared ready marking marks fresh gone kept recent cache was made =
-    session-ready document sheets prepared ready marking marks fresh gone kept recent cache was (made cache was.ready)
-
-pub ready-fits : (sources : Sources) (prepared : Option Prepared) (it : Prepared) (cache : StyleCache) → prepared ≡ Some it → AreReady sources prepared cache → Fits sources cache.size it cache.styler
-ready-fits sources prepared it cache is are = subst (λ (o : Option Prepared). AreReady sources o cache) is are
-
-pub fits-ready : (sources : Sources) (prepared : Option Prepared) (it : Prepared) (cache : StyleCache) → prepared ≡ Some it → Fits sources cache.size it cache.styler → AreReady sources prepared cache
-fits-ready sources prepared it cache is fits = subst (λ (o : Option Prepared). AreReady sources o cache) (sym is) fits
-
 -- where nothing was ready, whatever is made ready fits
-pub none-ready : (sources : Sources) (prepared : Option Prepared) (it : Prepared) (cache : StyleCache) → is_some prepared ≡ false → IsPrepared sources it → AreReady sources prepared cache → Fits sources cache.size it cache.styler
+pub none-ready : (sources : Sources) (prepared : Option Prepared) (it : Prepared) (cache : StyleCache) → is_some prepared ≡ false → IsPrepared sources it
+    → CanStyle sources prepared cache → Fits sources cache.size it cache.styler
 none-ready sources None it cache none fits ready = ready sources it fits
 none-ready sources (Some other) it cache none fits ready = absurd (false≢true (sym none))

@@ -1,35 +1,24 @@
--- Edits of the style sheets of a session.
-use Rattle.std.proofs.Common.{◌≡◌, ℕ, ◌<◌, ◌≤◌, List, filter, Bool, true, false, Option, None, Some, Result, Ok, Err, OnOk, OnErr, ◌||◌, ◌&&◌, refl, sym, ap, subst, ◌∙◌, option_map, unwrap_or, arith}
-use Rattle.std.specs.Prelude.{IfErr, IfSome}
+-- For `edit_sheets` and `Session::edit`: edits of the style sheets of a session.
+use Rattle.std.proofs.Common.{◌≡◌, ℕ, ◌<◌, List, filter, Bool, true, false, Option, None, Some, Result, Ok, Err, OnOk, OnErr, ◌||◌, ◌&&◌}
+use Rattle.std.proofs.Common.{refl, sym, ap, subst, ◌∙◌, option_map, unwrap_or, arith}
+use Rattle.std.specs.Prelude.{IfErr}
 use Rattle.std.specs.Result.{IsErrAnd}
-use Rattle.std.specs.declared.sync.Arc.{Arc}
 use Rattle.std.proofs.lemmas.Bool.{false≢true}
-use Rattle.std.proofs.lemmas.Option.{IfSome_then}
-use Rattle.std.specs.List.Sorted.{IsPermutation}
 use Rattle.scene_model.specs.Document.{Document}
 use Rattle.scene_model.specs.Element.{Element}
 use Rattle.scene_model.specs.Lookups.{is_element, numbers}
 use Rattle.scene_model.specs.Numbers.{is_in}
 use Rattle.scene_model.specs.Scene.{Scene}
 use Rattle.scene_model.proofs.Lists.{filter_same}
-use Rattle.value_model.specs.Style.{Style}
+use Rattle.change_model.specs.Sound.{IsSound}
 use Rattle.stylo_base.specs.declared.refusal.EditRefused.{EditRefused}
 use Rattle.stylo_base.specs.declared.refusal.EditRefused.TheVariants.{NoMemory}
 use Rattle.edit_model.specs.Edit.{SheetEdit, of_sheets}
 use Rattle.edit_model.specs.Refusal.{Refusal, accepted, outcome_of}
-use Rattle.edit_model.specs.SheetApply.{SheetList, last_after, number_in, sheet_refusal, sheets_after, sheets_applied}
+use Rattle.edit_model.specs.SheetApply.{SheetList, last_after, sheet_refusal, sheets_after, sheets_applied}
 use Rattle.dom_edits.specs.EditView.{refusal_answered}
-use Rattle.sheet_model.specs.Sources.{Sources}
-use Rattle.invalidation_map.specs.Members.{Members}
-use Rattle.invalidation_map.specs.Rows.{rows_of}
-use Rattle.invalidation_map.specs.RowView.{rows_in}
 use Rattle.invalidation_map.proofs.SetLemmas.{or_no}
-use Rattle.sheet_set.specs.Fits.{AreSameSheets}
 use Rattle.sheet_set.specs.View.{listed_seen, sources_seen}
-use Rattle.sheet_set.specs.declared.sheets.Sheets.{Sheets}
-use Rattle.plain_style.specs.declared.prepared.Prepared.{Prepared}
-use Rattle.session_model.specs.Marking.{selectors_of}
-use Rattle.sheet_edit_model.specs.SheetMarks.{is_marked_by_sheets}
 use Rattle.session_model.specs.Standing.{Standing, change_of, changed, edited, edited_by, scene_applied, with_sheets}
 use Rattle.session_model.specs.StandingInvariant.{AllKeep}
 use Rattle.session_model.proofs.EditLemmas.{covered-edit}
@@ -37,170 +26,114 @@ use Rattle.session_model.proofs.KeepsLemmas.{keep-changed}
 use Rattle.session_model.proofs.ListedLemmas.{among-numbers}
 use Rattle.session_model.proofs.SlotLemmas.{placed-changed}
 use Rattle.style_session.specs.Answers.{error_of, refusal_of}
-use Rattle.style_session.specs.Edits.{AreSheetMarksToo}
-use Rattle.style_session.specs.SessionView.{elements_in, is_fresh_in, scene_seen, slot_at, standing_seen}
-use Rattle.style_session.specs.Sessions.{AreReady, CanMark, IsSession}
-use Rattle.style_session.specs.declared.fresh.Fresh.{Fresh}
-use Rattle.style_session.specs.declared.marking.Marking.{Marking}
-use Rattle.style_session.specs.declared.style_cache.StyleCache.{StyleCache}
+use Rattle.style_session.specs.Edits.{EditsSheets, IsUnedited, sheet_marks_of}
+use Rattle.style_session.specs.KeptView.{KeptView, style_at}
+use Rattle.style_session.specs.PendingView.{PendingMembers, is_fresh_in}
+use Rattle.style_session.specs.SessionView.{elements_in, scene_seen, standing_seen}
+use Rattle.style_session.specs.Sessions.{AreReady, IsSession}
+use Rattle.style_session.specs.declared.content.Content.{Content}
+use Rattle.style_session.specs.declared.derived.Derived.{Derived}
+use Rattle.style_session.proofs.SessionEdits.{none_out, session-unedited}
 use Rattle.style_session.proofs.SessionLemmas.{each_element, same_parts}
 use Rattle.style_session.proofs.SessionStarts.{no-element}
 
--- what is seen of a session whose sheets are seen as before
-pub same-scene : (document : Document) (old new : Sheets) → AreSameSheets old new → scene_seen document new ≡ scene_seen document old
-same-scene document old new same = scenes (same.sheets) same.last
-  where
-    scenes : new.sheets.items ≡ old.sheets.items → new.last ≡ old.last → scene_seen document new ≡ scene_seen document old
-    scenes items last = cc
+-- an edit that is done
 
-pub same-listed : (old new : Sheets) → AreSameSheets old new → listed_seen new ≡ listed_seen old
-same-listed old new same = lists same.sheets same.last
-  where
-    lists : new.sheets.items ≡ old.sheets.items → new.last ≡ old.last → listed_seen new ≡ listed_seen old
-    lists items last = cc
-
-pub same-sources : (old new : Sheets) → AreSameSheets old new → sources_seen new ≡ sources_seen old
-same-sources old new same = sources same.positions same.rules same.selectors same.layers
-  where
-    sources : new.positions.items ≡ old.positions.items → new.rules.items ≡ old.rules.items → new.selectors.items ≡ old.selectors.items → new.layers ≡ old.layers → sources_seen new ≡ sources_seen old
-    sources positions rules selectors layers = cc
-
--- what marks elements still does, where there is more room
-pub can-mark-still : (document : Document) (before after : Sources) (marks now : Members) (marking : Option Marking) → after ≡ before → marks.room ≤ now.room → IfSome marking (CanMark document before marks) → IfSome marking (CanMark document after now)
-can-mark-still document before after marks now marking same wider can =
-    IfSome_then marking can (λ made it. record {
-      rows = subst (λ s. IsPermutation (rows_of (selectors_of s)) (rows_in made.dependencies)) (sym same) it.rows;
-      room = it.room;
-      marks_room = λ x there. let near = it.marks_room x there in omega (arith, near, wider);
-    })
-
-none_out : (a b : Bool) → a ≡ false → (a && b) ≡ false
-none_out true b h = absurd (false≢true (sym h))
-none_out false b h = refl
-
-module _ {A : Type 0} (document : Document) (old new : Sheets) (prepared : Option Prepared) (marking : Option Marking) (marks now : Members) (fresh : Fresh) (gone : List ℕ) (kept : List (Option (Arc Style A))) (recent : List ℕ) (cache : StyleCache) (was : IsSession document old prepared marking marks fresh gone kept recent cache) where
+module _ (old new : Content) (before after : PendingMembers) (kept : KeptView) (was : Derived) (edit : SheetEdit) (is : IsSession old before kept was)
+    (done : EditsSheets old edit new before after) where
   abbrev doc : List Element
-  doc = document.elements
+  doc = old.doc.elements
+
+  abbrev scene : Scene
+  scene = scene_seen old.doc old.sheets
+
+  abbrev later : Scene
+  later = scene_seen old.doc new.sheets
 
   abbrev st : Standing
-  st = standing_seen document old marks.items (is_fresh_in fresh) kept recent
+  st = standing_seen old.doc old.sheets before kept
 
-  -- an edit that is done
-  module _ (edit : SheetEdit) (h : accepted (listed_seen new) ≡ sheets_applied (listed_seen old) edit) (marked : AreSheetMarksToo doc (listed_seen old) (listed_seen new) edit marks.items now.items) where
-    abbrev before : Scene
-    before = scene_seen document old
+  abbrev adds : ℕ → Bool
+  adds x = sheet_marks_of doc (listed_seen old.sheets) (listed_seen new.sheets) edit x
 
-    abbrev later : Scene
-    later = scene_seen document new
+  fresh_same : is_fresh_in after ≡ is_fresh_in before
+  fresh_same = ap is_fresh_in done.marks.others
 
-    abbrev adds : ℕ → Bool
-    adds x = is_marked_by_sheets doc before.sheets later.sheets (number_in before.last_sheet edit) x
+  gone_same : after.gone ≡ before.gone
+  gone_same = ap (λ (p : PendingMembers). p.gone) done.marks.others
 
-    pub scene-accepted : scene_applied before (of_sheets edit) ≡ accepted later
-    scene-accepted = ap (with_sheets before) (sym h)
+  of_later : scene_applied scene (of_sheets edit) ≡ accepted later
+  of_later = ap (with_sheets scene) (sym done.applies)
 
-    -- of the elements each is marked or fresh and keeps its style as the definition says
+  pub scene-accepted : scene_applied scene (of_sheets edit) ≡ accepted (scene_seen new.doc new.sheets)
+  scene-accepted = of_later ∙ ap (λ d. accepted (scene_seen d new.sheets)) (sym done.document)
 
-    marks_grow : elements_in document now.items ≡ filter (λ x. is_in x (elements_in document marks.items) || adds x) (numbers doc)
-    marks_grow =
-        filter_same (λ x. is_in x now.items) (λ x. is_in x (elements_in document marks.items) || adds x) (numbers doc)
-        (each_element doc (λ x. is_in x now.items ≡ (is_in x (elements_in document marks.items) || adds x))
-        (λ x there. marked x ∙ ap (λ b. b || adds x) (sym (among-numbers doc (λ y. is_in y marks.items) x there))))
+  -- of the elements each is marked or fresh and keeps its style as the definition says
 
-    fresh_stays : filter (is_fresh_in fresh) (numbers doc) ≡ filter (λ x. is_in x (filter (is_fresh_in fresh) (numbers doc)) || false) (numbers doc)
-    fresh_stays =
-        filter_same (is_fresh_in fresh) (λ x. is_in x (filter (is_fresh_in fresh) (numbers doc)) || false) (numbers doc)
-        (each_element doc (λ x. is_fresh_in fresh x ≡ (is_in x (filter (is_fresh_in fresh) (numbers doc)) || false))
-        (λ x there. sym (among-numbers doc (is_fresh_in fresh) x there) ∙ or_no (is_in x (filter (is_fresh_in fresh) (numbers doc)))))
+  marks_grow : elements_in old.doc after.marked ≡ filter (λ x. is_in x (elements_in old.doc before.marked) || adds x) (numbers doc)
+  marks_grow =
+      filter_same (λ x. is_in x after.marked) (λ x. is_in x (elements_in old.doc before.marked) || adds x) (numbers doc)
+      (each_element doc (λ x. is_in x after.marked ≡ (is_in x (elements_in old.doc before.marked) || adds x))
+      (λ x there. done.marks.each x ∙ ap (λ b. b || adds x) (sym (among-numbers doc (λ y. is_in y before.marked) x there))))
 
-    none_above : (x : ℕ) → document.last < x → slot_at kept x ≡ None
-    none_above x above = was.absent x (no-element document was.sound x above) (was.gone_given x above)
+  fresh_stays : filter (is_fresh_in after) (numbers doc) ≡ filter (λ x. is_in x (filter (is_fresh_in before) (numbers doc)) || false) (numbers doc)
+  fresh_stays =
+      filter_same (is_fresh_in after) (λ x. is_in x (filter (is_fresh_in before) (numbers doc)) || false) (numbers doc)
+      (each_element doc (λ x. is_fresh_in after x ≡ (is_in x (filter (is_fresh_in before) (numbers doc)) || false))
+      (λ x there. ap (λ (f : ℕ → Bool). f x) fresh_same
+      ∙ (sym (among-numbers doc (is_fresh_in before) x there) ∙ or_no (is_in x (filter (is_fresh_in before) (numbers doc))))))
 
-    changed-with : standing_seen document new now.items (is_fresh_in fresh) kept recent ≡ changed st (change_of before (of_sheets edit) later)
-    changed-with =
-        same_parts later _ _ _ _ _ _ _ _ marks_grow fresh_stays
-        (sym (placed-changed (slot_at kept) document document (omega arith) none_above (λ x there out. absurd (false≢true (sym out ∙ there)))))
-        refl
+  none_above : (x : ℕ) → old.doc.last < x → style_at kept x ≡ None
+  none_above x above = is.absent x (no-element old.doc is.sound x above) (is.gone_given x above)
 
-    pub sheets-edited-seen : standing_seen document new now.items (is_fresh_in fresh) kept recent ≡ edited st (of_sheets edit)
-    sheets-edited-seen = changed-with ∙ ap (edited_by st (of_sheets edit)) (sym scene-accepted)
+  changed_with : standing_seen old.doc new.sheets after kept ≡ changed st (change_of scene (of_sheets edit) later)
+  changed_with =
+      same_parts later _ _ _ _ _ _ _ _ marks_grow fresh_stays
+      (sym (placed-changed (style_at kept) old.doc old.doc (omega arith) none_above (λ x there out. absurd (false≢true (sym out ∙ there)))))
+      refl
 
-    pub session-sheets : (ready : Option Prepared) (marking_later : Option Marking) (known : StyleCache) → IfSome marking_later (CanMark document (sources_seen new) now) → AreReady (sources_seen new) ready known → IsSession document new ready marking_later now fresh gone kept recent known
-    session-sheets ready marking_later known can are = record {
-      sound = was.sound;
-      can_mark = can;
-      places = was.places;
-      marks_given = λ x above.
-          marked x
-          ∙ (ap (λ b. b || adds x) (was.marks_given x above) ∙ none_out (is_element doc x) _ (no-element document was.sound x above));
-      gone_given = was.gone_given;
-      absent = was.absent;
-      keeps = subst AllKeep (sym changed-with)
-          (keep-changed st (change_of before (of_sheets edit) later) was.sound.valid (covered-edit before was.sound (of_sheets edit) tt later scene-accepted) was.keeps);
-      once = was.once;
-      ready = are;
-    }
+  pub sheets-edited-seen : standing_seen new.doc new.sheets after kept ≡ edited st (of_sheets edit)
+  sheets-edited-seen =
+      ap (λ (d : Document). standing_seen d new.sheets after kept) done.document
+      ∙ (changed_with ∙ ap (edited_by st (of_sheets edit)) (sym of_later))
 
-  -- and one that is not
-  module _ (same : AreSameSheets old new) (marks_same : now.items ≡ marks.items) where
-    pub sheets-refused-seen : standing_seen document new now.items (is_fresh_in fresh) kept recent ≡ st
-    sheets-refused-seen =
-        ap (λ (scene : Scene). record {
-          scene = scene;
-          marked = elements_in document now.items;
-          fresh = filter (is_fresh_in fresh) (numbers doc);
-          kept = st.kept;
-          recent = st.recent;
-        }) (same-scene document old new same)
-        ∙ ap (λ l. standing_seen document old l (is_fresh_in fresh) kept recent) marks_same
+  above_old : (x : ℕ) → new.doc.last < x → old.doc.last < x
+  above_old x above = subst (λ (d : Document). d.last < x) done.document above
 
-    pub session-sheets-refused : (ready : Option Prepared) (marking_later : Option Marking) (known : StyleCache) → IfSome marking_later (CanMark document (sources_seen new) now) → AreReady (sources_seen new) ready known → IsSession document new ready marking_later now fresh gone kept recent known
-    session-sheets-refused ready marking_later known can are = record {
-      sound = was.sound;
-      can_mark = can;
-      places = was.places;
-      marks_given = λ x above. ap (is_in x) marks_same ∙ was.marks_given x above;
-      gone_given = was.gone_given;
-      absent = was.absent;
-      keeps = subst AllKeep (sym sheets-refused-seen) was.keeps;
-      once = was.once;
-      ready = are;
-    }
+  pub session-sheets : (known : Derived) → AreReady (sources_seen new.sheets) known → IsSession new after kept known
+  session-sheets known ready = record {
+    sound = subst IsSound (sym done.document) is.sound;
+    ready = ready;
+    marks_given = λ x above.
+        done.marks.each x
+        ∙ (ap (λ b. b || adds x) (is.marks_given x (above_old x above))
+        ∙ none_out (is_element doc x) _ (no-element old.doc is.sound x (above_old x above)));
+    gone_given = λ x above. ap (is_in x) gone_same ∙ is.gone_given x (above_old x above);
+    absent = λ x out here.
+        is.absent x (ap (λ (d : Document). is_element d.elements x) (sym done.document) ∙ out) (ap (is_in x) (sym gone_same) ∙ here);
+    keeps = subst (λ (d : Document). AllKeep (standing_seen d new.sheets after kept)) (sym done.document)
+        (subst AllKeep (sym changed_with)
+        (keep-changed st (change_of scene (of_sheets edit) later) is.sound.valid (covered-edit scene is.sound (of_sheets edit) tt later of_later) is.keeps));
+    once = is.once;
+  }
 
--- an edit of the code, done or not
+-- done or not
 
-module _ {A : Type 0} (document : Document) (old new : Sheets) (prepared : Option Prepared) (marking : Option Marking) (marks now : Members) (fresh : Fresh) (gone : List ℕ) (kept : List (Option (Arc Style A))) (recent : List ℕ) (cache : StyleCache) (edit : SheetEdit) (was : IsSession document old prepared marking marks fresh gone kept recent cache) where
-  abbrev stands : Standing
-  stands = standing_seen document old marks.items (is_fresh_in fresh) kept recent
+module _ (old new : Content) (before after : PendingMembers) (kept : KeptView) (was : Derived) (edit : SheetEdit) (is : IsSession old before kept was) where
+  pub sheets-accepted : {T E : Type 0} (result : Result T E) → OnOk result (EditsSheets old edit new before after)
+      → OnOk result (scene_applied (scene_seen old.doc old.sheets) (of_sheets edit) ≡ accepted (scene_seen new.doc new.sheets))
+  sheets-accepted (Ok x) done = scene-accepted old new before after kept was edit is done
+  sheets-accepted (Err e) done = tt
 
-  abbrev standing : Standing
-  standing = standing_seen document new now.items (is_fresh_in fresh) kept recent
+  pub sheets-seen : {T E : Type 0} (result : Result T E) → OnOk result (EditsSheets old edit new before after)
+      → OnOk result (standing_seen new.doc new.sheets after kept ≡ edited (standing_seen old.doc old.sheets before kept) (of_sheets edit))
+  sheets-seen (Ok x) done = sheets-edited-seen old new before after kept was edit is done
+  sheets-seen (Err e) done = tt
 
-  abbrev IsDone : Type 0
-  IsDone = accepted (listed_seen new) ≡ sheets_applied (listed_seen old) edit
-
-  abbrev AddsMarks : Type 0
-  AddsMarks = AreSheetMarksToo document.elements (listed_seen old) (listed_seen new) edit marks.items now.items
-
-  pub sheets-accepted : {T E : Type 0} (result : Result T E) → OnOk result IsDone → OnOk result (scene_applied (scene_seen document old) (of_sheets edit) ≡ accepted (scene_seen document new))
-  sheets-accepted (Ok x) h = ap (with_sheets (scene_seen document old)) (sym h)
-  sheets-accepted (Err e) h = tt
-
-  pub sheets-seen : {T E : Type 0} (result : Result T E) → OnOk result IsDone → OnOk result AddsMarks → OnOk result (standing ≡ edited stands (of_sheets edit))
-  sheets-seen (Ok x) h marked =
-      sheets-edited-seen document old new prepared marking marks now fresh gone kept recent cache was edit h marked
-  sheets-seen (Err e) h marked = tt
-
-  pub sheets-kept : {T E : Type 0} (result : Result T E) → OnErr result (AreSameSheets old new) → OnErr result (now.items ≡ marks.items) → OnErr result (standing ≡ stands)
-  sheets-kept (Ok x) same marks_same = tt
-  sheets-kept (Err e) same marks_same =
-      sheets-refused-seen document old new prepared marking marks now fresh gone kept recent cache was same marks_same
-
-  pub sheets-session : {T E : Type 0} (result : Result T E) → OnOk result IsDone → OnOk result AddsMarks → OnErr result (AreSameSheets old new) → OnErr result (now.items ≡ marks.items) → (ready : Option Prepared) (mark : Option Marking) (known : StyleCache) → IfSome mark (CanMark document (sources_seen new) now) → AreReady (sources_seen new) ready known → IsSession document new ready mark now fresh gone kept recent known
-  sheets-session (Ok x) h marked _ _ ready mark known can are =
-      session-sheets document old new prepared marking marks now fresh gone kept recent cache was edit h marked ready mark known can are
-  sheets-session (Err e) _ _ same marks_same ready mark known can are =
-      session-sheets-refused document old new prepared marking marks now fresh gone kept recent cache was same marks_same ready mark known can are
+  pub sheets-session : {T E : Type 0} (result : Result T E) → OnOk result (EditsSheets old edit new before after)
+      → OnErr result (IsUnedited old new before after) → (known : Derived) → AreReady (sources_seen new.sheets) known → IsSession new after kept known
+  sheets-session (Ok x) done _ known ready = session-sheets old new before after kept was edit is done known ready
+  sheets-session (Err e) _ still known ready = session-unedited old new before after kept was is still known ready
 
 -- the answer to an edit that is not done
 
@@ -217,9 +150,12 @@ no-refusal l after edit = by (sheet_refusal l edit)
     by (Some why) h = absurd (cc)
 
 error_by : (scene : Scene) (o : Option Refusal) (after : SheetList) → error_of (with_sheets scene (outcome_of o after)) ≡ unwrap_or (option_map refusal_answered o) NoMemory
-error_by scene None after = refl
-error_by scene (Some why) after = refl
+error_by before None after = refl
+error_by before (Some why) after = refl
 
-pub sheets-why : {T : Type 0} (result : Result T EditRefused) (document : Document) (sheets : Sheets) (edit : SheetEdit) → IfErr result (λ why. why ≡ unwrap_or (option_map refusal_answered (sheet_refusal (listed_seen sheets) edit)) NoMemory) → IfErr result (λ why. why ≡ refusal_of (scene_seen document sheets) (of_sheets edit))
-sheets-why (Ok x) document sheets edit h = tt
-sheets-why (Err why) document sheets edit h = h ∙ sym (error_by (scene_seen document sheets) (sheet_refusal (listed_seen sheets) edit) _)
+pub sheets-why : {T : Type 0} (result : Result T EditRefused) (content : Content) (edit : SheetEdit)
+    → IfErr result (λ why. why ≡ unwrap_or (option_map refusal_answered (sheet_refusal (listed_seen content.sheets) edit)) NoMemory)
+    → IfErr result (λ why. why ≡ refusal_of (scene_seen content.doc content.sheets) (of_sheets edit))
+sheets-why (Ok x) content edit h = tt
+sheets-why (Err why) content edit h =
+    h ∙ sym (error_by (scene_seen content.doc content.sheets) (sheet_refusal (listed_seen content.sheets) edit) _)

@@ -1,4 +1,4 @@
--- What insertions, removals and moves take away.
+-- For `make`: what insertions, removals and moves take away.
 use Rattle.std.proofs.Common.{◌≡◌, ℕ, List, Bool, true, false, not, ◌&&◌, ◌||◌, None, refl, sym, ap, subst, ◌∙◌, inl, inr}
 use Rattle.std.proofs.lemmas.Bool.{false≢true, or_left, or_right}
 use Rattle.scene_model.specs.Document.{Document}

@@ -1,9 +1,10 @@
--- A walk in tree order: what it knows of the elements that it has met stays right as it goes on.
-use Rattle.std.proofs.Common.{◌≡◌, ℕ, ℤ, zero, suc, ◌+◌, ◌<◌, ◌≤◌, ◌==◌, List, [], ◌∷◌, ◌++◌, map, filter, length, take, drop, set, get_or, replicate, slice_get, Bool, true, false, cond, not, ◌&&◌, ◌||◌, Option, Some, None, refl, sym, ap, subst, ◌∙◌, add-one, arith}
+-- For `Walk::cascade`: what a walk in tree order knows of the elements that it has met stays right as it goes on.
+use Rattle.std.proofs.Common.{◌≡◌, ℕ, ℤ, zero, suc, ◌+◌, ◌<◌, ◌≤◌, ◌==◌, List, [], ◌∷◌, ◌++◌, map, filter, length, take, drop, set, get_or, replicate, slice_get, Bool, true, false, cond, not}
+use Rattle.std.proofs.Common.{◌&&◌, ◌||◌, Option, Some, None, refl, sym, ap, subst, ◌∙◌, add-one, arith}
 use Rattle.std.specs.Prelude.{IsSome}
 use Rattle.std.specs.List.{IsDistinct}
 use Rattle.std.specs.Option.{option_map_or}
-use Rattle.std.proofs.lemmas.Bool.{cond-false, or_parts, or_left, or_right, eqb-true, eqb-false, false≢true}
+use Rattle.std.proofs.lemmas.Bool.{cond-false, or_left, or_right, eqb-true, eqb-false, false≢true}
 use Rattle.std.proofs.lemmas.Bool.Decides.{same_from_decides}
 use Rattle.std.proofs.lemmas.List.{append-nil, drop_more, get_or-set_other, get_or-set_same, map-append, nil_from_length, take-append-drop, take_all, take_more}
 use Rattle.std.proofs.lemmas.List.Elements.{filter-append}
@@ -25,17 +26,15 @@ use Rattle.invalidation_map.proofs.SetLemmas.{one_added}
 use Rattle.invalidation_map.specs.Members.{AreBelow, Members, added}
 use Rattle.invalidation_map.specs.Steps.{HasRoom}
 use Rattle.session_model.specs.Standing.{Standing, has_size, is_cascaded, is_matched, is_style, kept_at, parent_differs, root_size_differs, root_size_in, style_in}
-use Rattle.session_model.specs.StandingInvariant.{AllKeep}
 use Rattle.session_model.specs.Walk.{Styled, results}
 use Rattle.scene_model.proofs.Lists.{each_weaker}
-use Rattle.session_model.proofs.KeepsLemmas.{is_style-own, kept-not_cascaded}
-use Rattle.session_model.proofs.WalkLemmas.{results-now}
+use Rattle.session_model.proofs.KeepsLemmas.{is_style-own}
 use Rattle.plain_style.proofs.CacheLemmas.{kept_at as kept_in}
 use Rattle.style_session.specs.Answers.{styled_seen}
 use Rattle.style_session.specs.Laws.{styled_now}
 use Rattle.style_session.specs.FirstWalking.{unknown}
 use Rattle.style_session.specs.Walking.{known_at, some_style, HandsOn, HasMet, IsBare, IsMet, IsParentMet, IsWalk, Learns, Meets, Widens}
-use Rattle.style_session.specs.declared.style_cache.StyleCache.{StyleCache}
+use Rattle.style_session.specs.declared.derived.StyleCache.{StyleCache}
 use Rattle.style_session.specs.declared.walk.Walk.{Walk}
 
 -- only the root, which is first, has no parent
@@ -185,12 +184,14 @@ no_new false new o h = (refl, h)
 
 met-learns : (st : Standing) (x style : ℕ) (was now : Walk) → Learns x style was now → (y : ℕ) → IsMet st was y → IsMet st now y
 met-learns st x style was now learns y met = record {
+  there = met.there;
   style = λ none. met.style (no_new (x == y) style (known_at was.known.items y) (sym (learns.known y) ∙ none)).1;
   below = λ z hangs h. ap (λ (m : Members). is_in z m.items) learns.due ∙ met.below z hangs h;
 }
 
 met-widens : (st : Standing) (xs : List ℕ) (b : Bool) (was now : Walk) → Widens xs b was now → (y : ℕ) → IsMet st was y → IsMet st now y
 met-widens st xs b was now widens y met = record {
+  there = met.there;
   style = λ none. met.style (sym (ap (λ v. known_at v.items y) widens.known) ∙ none);
   below = λ z hangs h. widens.due z ∙ or_left (is_in z was.due.items) (b && is_in z xs) (met.below z hangs h);
 }
@@ -199,9 +200,11 @@ met-meets : (st : Standing) (x style : ℕ) (b : Bool) (was now : Walk) → Meet
 met-meets st x style b was now meets y met =
     met-learns st x style meets.mid now meets.learns y (met-widens st (children (elements_of st.scene) x) b was meets.mid meets.widens y met)
 
-met-own : (st : Standing) (x style : ℕ) (b : Bool) (was now : Walk) → IsValid (elements_of st.scene) → Meets (elements_of st.scene) x style b was now
+met-own : (st : Standing) (x style : ℕ) (b : Bool) (was now : Walk) → IsValid (elements_of st.scene) → IsElement (elements_of st.scene) x
+    → Meets (elements_of st.scene) x style b was now
     → b ≡ not (is_style (style_in st.scene x) (kept_at st x)) → IsMet st now x
-met-own st x style b was now v meets is = record {
+met-own st x style b was now v there meets is = record {
+  there = there;
   style = λ none. absurd (false≢true (sym (no_new (x == x) style (known_at meets.mid.known.items x) (sym (meets.learns.known x) ∙ none)).0 ∙ same_number x));
   below = λ y hangs h.
       let own : (b && is_in y (children (elements_of st.scene) x)) ≡ true = ap (λ c. c && is_in y (children (elements_of st.scene) x)) (is ∙ h) ∙ is_child (elements_of st.scene) v x y hangs in
@@ -243,6 +246,7 @@ walk-handed st cache one was now handed w = record {
 
 met-handed : (st : Standing) (one : Styled) (was now : Walk) → HandsOn one was now → (y : ℕ) → IsMet st was y → IsMet st now y
 met-handed st one was now handed y met = record {
+  there = met.there;
   style = λ none. met.style (sym (ap (λ v. known_at v.items y) handed.known) ∙ none);
   below = λ z hangs h. ap (λ (m : Members). is_in z m.items) handed.due ∙ met.below z hangs h;
 }
@@ -265,29 +269,28 @@ met-more st front x was now own others styled has = record {
 }
 
 -- where an element keeps its style, none of its children is cascaded for it
-kept-met : (st : Standing) (walk : Walk) (x : ℕ) → kept_at st x ≡ Some (style_in st.scene x) → IsMet st walk x
-kept-met st walk x kept = record {
+kept-met : (st : Standing) (walk : Walk) (x : ℕ) → IsElement (elements_of st.scene) x → kept_at st x ≡ Some (style_in st.scene x) → IsMet st walk x
+kept-met st walk x there kept = record {
+  there = there;
   style = λ _. kept;
   below = λ y hangs h. absurd (false≢true (sym (ap not (is_style-own (style_in st.scene x) (kept_at st x) kept)) ∙ h));
 }
 
 -- it is not cascaded, so its kept style is the one that it has
-pub met-passed : (st : Standing) (front : List ℕ) (x : ℕ) (walk : Walk) → IsValid (elements_of st.scene) → AllKeep st → IsElement (elements_of st.scene) x
+pub met-passed : (st : Standing) (front : List ℕ) (x : ℕ) (walk : Walk) → IsElement (elements_of st.scene) x → kept_at st x ≡ Some (style_in st.scene x)
     → is_cascaded st x ≡ false → HasMet st front walk → HasMet st (front ++ x ∷ []) walk
-met-passed st front x walk v all there h has =
-    met-more st front x walk walk
-    (kept-met st walk x (kept-not_cascaded st v x (all x there (or_parts (is_matched st x) _ h).0) h))
-    (λ y met. met)
+met-passed st front x walk there kept h has =
+    met-more st front x walk walk (kept-met st walk x there kept) (λ y met. met)
     (sym (append-nil (map styled_seen walk.styled.items)) ∙ ap (λ b. map styled_seen walk.styled.items ++ map (styled_now st) (cond b (x ∷ []) [])) (sym h))
     has
 
 -- it is cascaded, and was handed on
 pub met-cascaded : (st : Standing) (front : List ℕ) (x style : ℕ) (b : Bool) (one : Styled) (was mid now : Walk) → IsValid (elements_of st.scene)
-    → is_cascaded st x ≡ true → one ≡ styled_now st x → b ≡ not (is_style (style_in st.scene x) (kept_at st x)) → Meets (elements_of st.scene) x style b was mid
+    → IsElement (elements_of st.scene) x → is_cascaded st x ≡ true → one ≡ styled_now st x → b ≡ not (is_style (style_in st.scene x) (kept_at st x)) → Meets (elements_of st.scene) x style b was mid
     → HandsOn one mid now → HasMet st front was → HasMet st (front ++ x ∷ []) now
-met-cascaded st front x style b one was mid now v h own is meets handed has =
+met-cascaded st front x style b one was mid now v there h own is meets handed has =
     met-more st front x was now
-    (met-handed st one mid now handed x (met-own st x style b was mid v meets is))
+    (met-handed st one mid now handed x (met-own st x style b was mid v there meets is))
     (λ y met. met-handed st one mid now handed y (met-meets st x style b was mid meets y met))
     (handed.styled
     ∙ (ap (λ v. map styled_seen v.items ++ one ∷ []) (meets.learns.styled ∙ meets.widens.styled)
@@ -356,8 +359,12 @@ size_differs-root st r size o is same kept =
     ∙ (ap (λ k. not (has_size (root_size_in st.scene) k)) (sym kept)
     ∙ sym (ap (λ q. option_map_or (λ y. not (has_size (root_size_in st.scene) (kept_at st y))) q false) is))
 
-met-all : (st : Standing) (walk : Walk) → IsValid (elements_of st.scene) → AllKeep st → HasMet st (numbers (elements_of st.scene)) walk → map styled_seen walk.styled.items ≡ results st
-met-all st walk v all has = has.styled ∙ sym (results-now st v all)
+-- what the definition's walk hands on are the cascaded elements
+abbrev pub AreCascaded : Standing → Type 0
+AreCascaded st = results st ≡ map (styled_now st) (filter (is_cascaded st) (numbers (elements_of st.scene)))
+
+met-all : (st : Standing) (walk : Walk) → AreCascaded st → HasMet st (numbers (elements_of st.scene)) walk → map styled_seen walk.styled.items ≡ results st
+met-all st walk are has = has.styled ∙ sym are
 
 -- what is known where one more is set, and where nothing is
 
@@ -417,12 +424,12 @@ next-met st walk first rest k is below has =
 
 -- at the end
 
-pub met-order : (st : Standing) (walk : Walk) (first : ℕ) (rest : List ℕ) (k : ℕ) → IsValid (elements_of st.scene) → AllKeep st
-    → numbers (elements_of st.scene) ≡ first ∷ rest → length rest ≤ k → HasMet st (take (k + 1) (numbers (elements_of st.scene))) walk → map styled_seen walk.styled.items ≡ results st
-met-order st walk first rest k v all is past has =
-    met-all st walk v all (subst (λ l. HasMet st l walk) (take_all (k + 1) (numbers (elements_of st.scene)) (omega (arith, ap length is, past))) has)
+pub met-order : (st : Standing) (walk : Walk) (first : ℕ) (rest : List ℕ) (k : ℕ) → AreCascaded st → numbers (elements_of st.scene) ≡ first ∷ rest
+    → length rest ≤ k → HasMet st (take (k + 1) (numbers (elements_of st.scene))) walk → map styled_seen walk.styled.items ≡ results st
+met-order st walk first rest k are is past has =
+    met-all st walk are (subst (λ l. HasMet st l walk) (take_all (k + 1) (numbers (elements_of st.scene)) (omega (arith, ap length is, past))) has)
 
-pub no-results : (st : Standing) (order : List ℕ) → IsValid (elements_of st.scene) → AllKeep st → order ≡ numbers (elements_of st.scene) → length order ≡ 0 → [] ≡ results st
-no-results st order v all is none =
+pub no-results : (st : Standing) (order : List ℕ) → AreCascaded st → order ≡ numbers (elements_of st.scene) → length order ≡ 0 → [] ≡ results st
+no-results st order are is none =
     let nothing : numbers (elements_of st.scene) ≡ [] = sym is ∙ nil_from_length order none in
-    sym (results-now st v all ∙ ap (λ l. map (styled_now st) (filter (is_cascaded st) l)) nothing)
+    sym (are ∙ ap (λ l. map (styled_now st) (filter (is_cascaded st) l)) nothing)

@@ -10,8 +10,8 @@ use Rattle.edit_model.specs.Refusal.{Outcome, refused, accepted}
 use Rattle.dom_edits.specs.EditView.{refusal_answered}
 use Rattle.session_model.specs.Standing.{Standing, cascaded_count, is_open, matched_count, scene_applied, style_in}
 use Rattle.session_model.specs.Walk as walk
-use Rattle.style_session.specs.declared.answer.StyleAnswer.{StyleAnswer}
-use Rattle.style_session.specs.declared.answer.StyleAnswer.TheVariants.{Kept, Stale, NoNode}
+use Rattle.style_session.specs.declared.session.StyleAnswer.{StyleAnswer}
+use Rattle.style_session.specs.declared.session.StyleAnswer.TheVariants.{Kept, Stale, NoNode}
 use Rattle.style_session.specs.declared.counts.Counts.{Counts}
 use Rattle.style_session.specs.declared.styled.Styled.{Styled}
 

@@ -1,25 +1,18 @@
 -- What a session stands for.
-use Rattle.std.specs.Prelude.{ℕ, List, filter, length, map, Bool, not, ◌&&◌, ◌||◌, Option, option_and_then, option_map, slice_get}
-use Rattle.std.specs.Arc.{arc_value}
-use Rattle.std.specs.declared.sync.Arc.{Arc}
-use Rattle.scene_model.specs.Element.{Element}
+use Rattle.std.specs.Prelude.{ℕ, List, filter, length, map}
 use Rattle.scene_model.specs.Document.{Document, document_of}
 use Rattle.scene_model.specs.Nodes.{Node}
-use Rattle.scene_model.specs.Lookups.{is_element, numbers}
+use Rattle.scene_model.specs.Lookups.{numbers}
 use Rattle.scene_model.specs.Numbers.{is_in}
 use Rattle.scene_model.specs.Scene.{Scene}
-use Rattle.value_model.specs.Style.{Style}
 use Rattle.layer_order.specs.View.{sheets_of}
 use Rattle.layer_order.specs.declared.sheet_input.SheetInput.{SheetInput}
 use Rattle.sheet_set.specs.View.{kept_seen}
 use Rattle.sheet_set.specs.declared.sheets.Sheets.{Sheets}
 use Rattle.session_model.specs.Standing.{Standing}
 use Rattle.session_model.specs.Walk.{placed_styles}
-use Rattle.style_session.specs.declared.fresh.Fresh.{Fresh}
-
--- the style that is kept at a place, if one is
-abbrev pub slot_at : {A : Type 0} → List (Option (Arc Style A)) → ℕ → Option Style
-slot_at kept x = option_and_then (option_map arc_value) (slice_get kept x)
+use Rattle.style_session.specs.KeptView.{KeptView, style_at}
+use Rattle.style_session.specs.PendingView.{PendingMembers, is_fresh_in}
 
 -- the scene of a document and its sheets
 abbrev pub scene_seen : Document → Sheets → Scene
@@ -39,23 +32,14 @@ scene_from nodes sheets =
 abbrev pub elements_in : Document → List ℕ → List ℕ
 elements_in document list = filter (λ x. is_in x list) (numbers document.elements)
 
--- a number of the list that no element has
-abbrev pub is_gone : List Element → List ℕ → ℕ → Bool
-is_gone doc list x = is_in x list && not (is_element doc x)
-
--- which numbers are fresh
-abbrev pub is_fresh_in : Fresh → ℕ → Bool
-is_fresh_in fresh x = fresh.all || is_in x fresh.set.items
-
--- A document, its sheets, the numbers that are marked, which are fresh, the styles that are kept by number, and the
+-- A document and its sheets, what edits have marked and made fresh, and the styles that are kept by number, with the
 -- elements that the last restyle cascaded.
-abbrev pub standing_seen : {A : Type 0} → Document → Sheets → List ℕ → (ℕ → Bool) → List (Option (Arc Style A))
-    → List ℕ → Standing
-standing_seen document sheets marks is_fresh kept recent =
+abbrev pub standing_seen : Document → Sheets → PendingMembers → KeptView → Standing
+standing_seen document sheets pending kept =
     record {
       scene = scene_seen document sheets;
-      marked = elements_in document marks;
-      fresh = filter is_fresh (numbers document.elements);
-      kept = placed_styles (slot_at kept) document;
-      recent = recent;
+      marked = elements_in document pending.marked;
+      fresh = filter (is_fresh_in pending) (numbers document.elements);
+      kept = placed_styles (style_at kept) document;
+      recent = kept.recent;
     }

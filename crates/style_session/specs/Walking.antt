@@ -1,16 +1,18 @@
 -- What a walk in tree order has found out.
-use Rattle.std.specs.Prelude.{◌≡◌, ℕ, ◌==◌, List, [], ◌∷◌, ◌++◌, filter, length, map, Bool, true, ◌&&◌, ◌||◌, not, if◌then◌else◌, Option, Some, None, slice_get, slice_index_or}
+use Rattle.std.specs.Prelude.{◌≡◌, ℕ, ◌<◌, ◌==◌, List, [], ◌∷◌, ◌++◌, filter, length, map, Bool, true, ◌&&◌, ◌||◌, not, if◌then◌else◌, Option, IsSome, Some, None, slice_get, slice_index_or}
 use Rattle.scene_model.specs.Element.{Element}
 use Rattle.scene_model.specs.Lookups.{IsElement, children, parent_of}
 use Rattle.scene_model.specs.Numbers.{is_in}
 use Rattle.scene_model.specs.Scene.{elements_of}
+use Rattle.cascade_model.specs.StyleOf.{root_of}
+use Rattle.invalidation_map.specs.Members.{Members}
 use Rattle.invalidation_map.specs.Steps.{HasRoom}
 use Rattle.session_model.specs.Standing.{Standing, is_cascaded, is_matched, is_style, kept_at, root_size_differs, root_size_in, style_in}
 use Rattle.session_model.specs.Walk as model
 use Rattle.style_session.specs.Answers.{styled_seen}
 use Rattle.style_session.specs.FirstWalking.{unknown}
 use Rattle.style_session.specs.Laws.{styled_now}
-use Rattle.style_session.specs.declared.style_cache.StyleCache.{StyleCache}
+use Rattle.style_session.specs.declared.derived.StyleCache.{StyleCache}
 use Rattle.style_session.specs.declared.walk.Walk.{Walk}
 
 -- a number that is kept of a style, if it is one
@@ -24,6 +26,7 @@ known_at known x = some_style (slice_index_or known x unknown)
 -- An element that was met: where nothing is known of it, its kept style is the one that it has, and where that is
 -- another than the kept one, its children are known to be cascaded.
 pub record IsMet (st : Standing) (walk : Walk) (x : ℕ) : Type 0 where
+  pub there : IsElement (elements_of st.scene) x
   pub style : known_at walk.known.items x ≡ None → kept_at st x ≡ Some (style_in st.scene x)
   pub below : (y : ℕ) → parent_of (elements_of st.scene) y ≡ Some x
       → not (is_style (style_in st.scene x) (kept_at st x)) ≡ true → is_in y walk.due.items ≡ true
@@ -47,6 +50,40 @@ pub record IsWalk (st : Standing) (cache : StyleCache) (walk : Walk) : Type 0 wh
 pub record HasMet (st : Standing) (front : List ℕ) (walk : Walk) : Type 0 where
   pub met : (x : ℕ) → is_in x front ≡ true → IsMet st walk x
   pub styled : map styled_seen walk.styled.items ≡ map (styled_now st) (filter (is_cascaded st) front)
+
+-- a walk that has met these elements
+pub record IsWalkTo (st : Standing) (front : List ℕ) (cache : StyleCache) (now : Walk) : Type 0 where
+  pub walk : IsWalk st cache now
+  pub met : HasMet st front now
+
+-- it has met one more
+pub record GoesOn (st : Standing) (x : ℕ) (old : Walk) (cache : StyleCache) (now : Walk) : Type 0 where
+  pub walk : IsWalk st cache now
+  pub met : (front : List ℕ) → HasMet st front old → HasMet st (front ++ x ∷ []) now
+
+-- an element that is cascaded, below one that was met
+pub record IsNext (st : Standing) (x : ℕ) (walk : Walk) : Type 0 where
+  pub there : IsElement (elements_of st.scene) x
+  pub child : IsSome (parent_of (elements_of st.scene) x)
+  pub cascaded : is_cascaded st x ≡ true
+  pub parent : IsParentMet st walk x
+
+-- the number of the new style of an element that was met; what was met still is
+pub record IsStyleOf (st : Standing) (x style : ℕ) (old : Walk) (cache : StyleCache) (now : Walk) : Type 0 where
+  pub at : slice_get cache.styler.table style ≡ Some (style_in st.scene x)
+  pub walk : IsWalk st cache now
+  pub met : (front : List ℕ) → HasMet st front old → HasMet st front now
+
+-- there is a place for the element, and room for all
+pub record HasPlaceOf (st : Standing) (x : ℕ) (walk : Walk) : Type 0 where
+  pub there : IsElement (elements_of st.scene) x
+  pub due : HasRoom (elements_of st.scene) walk.due.room
+  pub known : x < length walk.known.items
+
+-- those numbers of a list that are elements were added
+pub record AddsElements (doc : List Element) (numbers : List ℕ) (old new : Members) : Type 0 where
+  pub room : new.room ≡ old.room
+  pub each : (x : ℕ) → IsElement doc x → is_in x new.items ≡ (is_in x old.items || is_in x numbers)
 
 -- the style of one element more is known
 pub record Learns (x style : ℕ) (old now : Walk) : Type 0 where
@@ -83,3 +120,8 @@ pub record IsBare (st : Standing) (walk : Walk) : Type 0 where
   pub known : (x : ℕ) → known_at walk.known.items x ≡ None
   pub due : (x : ℕ) → IsElement (elements_of st.scene) x → is_in x walk.due.items ≡ is_matched st x
   pub styled : walk.styled.items ≡ []
+
+-- the same, before the root
+pub record IsBareAt (st : Standing) (x : ℕ) (walk : Walk) : Type 0 where
+  pub root : root_of (elements_of st.scene) ≡ Some x
+  pub bare : IsBare st walk

@@ -16,10 +16,19 @@ pub struct Counts {
 }
 
 impl Counts {
+    /// Those of a restyle with nothing marked or fresh: it goes to no element.
+    pub(crate) fn of_none() -> Counts
+        ensures { result ≡ record { matched = 0; cascaded = 0 } }
+    {
+        Counts {
+            matched: 0,
+            cascaded: 0,
+        }
+    }
+
     /// Those of the first restyle, which goes to all elements.
     pub(crate) fn of_all(numbers: &[u32]) -> Counts
-        ensures matched { result.matched ≡ length numbers.now }
-        ensures cascaded { result.cascaded ≡ length numbers.now }
+        ensures { result ≡ record { matched = length numbers.now; cascaded = length numbers.now } }
     {
         let all = numbers.len() as u64;
         Counts {
@@ -30,8 +39,7 @@ impl Counts {
 
     /// Those of a list of cascaded elements.
     pub(crate) fn of(list: &[Styled]) -> Counts
-        ensures matched { result.matched ≡ count_by (λ one. one.matched) list.now }
-        ensures cascaded { result.cascaded ≡ length list.now }
+        ensures { result ≡ record { matched = count_by (λ one. one.matched) list.now; cascaded = length list.now } }
     {
         let mut matched = 0;
         for one in list {

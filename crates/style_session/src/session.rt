@@ -14,68 +14,66 @@ ghost use Rattle.session_model.specs.StandingInvariant.{IsReached};
 ghost use Rattle.style_session.specs.Answers.{IsAnswer, counts_of, refusal_of};
 ghost use Rattle.style_session.specs.SessionView.{scene_from, scene_seen};
 
-use crate::answer::{StyleAnswer, is_open};
-use crate::beginning::Beginning;
-use crate::commit::{Anew, cascade_none, drop_gone, keep_all, make_places};
+use crate::content::Content;
 use crate::counts::Counts;
-use crate::first_walk::{FirstStyles, first_styles};
-use crate::fresh::{Fresh, is_settled, settle};
+use crate::derived::Derived;
+use crate::document_edits::edit_document;
+use crate::first_restyle::restyle_first;
+use crate::kept_styles::KeptStyles;
 use crate::lists::Lists;
-use crate::marking::{Marking, edit_marked};
-use crate::sheet_marking::edit_sheets;
-use crate::style_cache::{StyleCache, make_ready};
+use crate::pending::Pending;
+use crate::restyle::restyle;
+use crate::sheet_edits::edit_sheets;
 use dom_edits::Edit;
 use dom_tree::{Doc, NodeList};
-use invalidation_map::ElementSet;
 use io_edges::Gate;
-use plain_style::{Inputs, Prepared};
+use plain_style::Inputs;
 use sheet_set::{SheetInput, Sheets};
 use std::alloc::Global;
 use std::marker::Model;
-use std::sync::Arc;
 use std::thread::Threads;
 use style_value::Style;
 use stylo_base::{EditRefused, NoMemory};
+
+/// The style that a session keeps of an element, or why it gives none.
+#[derive(Clone, Copy)]
+pub enum StyleAnswer<'a> {
+    /// The style that the element has.
+    Kept(&'a Style),
+    /// The element or one above it was marked, or came or moved, since the last restyle.
+    Stale,
+    /// No element has this number.
+    NoNode,
+}
 
 /// A document with its style sheets. It takes edits, styles again only what they can have changed, and
 /// keeps the style of each element. Contracts see it as a standing: the scene, the elements that edits
 /// have marked and made fresh since the last restyle, and the styles that were kept then.
 #[derive(Drop)]
 pub struct Session {
-    doc: Doc,
-    sheets: Sheets,
-    /// What is made ready of the sheets. None: it is made by the next restyle.
-    prepared: Option<Prepared>,
-    /// What marks elements. None: it is made by the next edit of the document.
-    marking: Option<Marking>,
-    /// The elements that were marked since the last restyle.
-    marks: ElementSet,
-    /// The elements that came or moved since the last restyle: all before the first.
-    fresh: Fresh,
-    /// Numbers of elements that were removed since the last restyle: their styles are to be dropped.
-    gone: ElementSet,
-    /// By number: the style that the element had at the last restyle, if it was there. Empty before the first.
-    kept: Vec<Option<Arc<Style>>>,
-    /// The elements that the last restyle cascaded, in tree order.
-    recent: Vec<u32>,
-    cache: StyleCache,
+    /// The document and its sheets.
+    content: Content,
+    /// What edits have marked, made fresh and taken out since the last restyle.
+    pending: Pending,
+    /// The styles of the last restyle.
+    kept: KeptStyles,
+    /// What is made of the sheets.
+    derived: Derived,
 }
 
 impl Model for Session {
     ghost use Rattle.session_model.specs.Standing.{Standing};
     ghost use Rattle.style_session.specs.Codes.{standing_code};
-    ghost use Rattle.style_session.specs.SessionView.{is_fresh_in, standing_seen};
+    ghost use Rattle.style_session.specs.SessionView.{standing_seen};
     ghost use Rattle.style_session.specs.Sessions.{IsSession};
 
     ghost Value = { Standing };
 
     ghost coded = { standing_code };
 
-    ghost view = { λ s. standing_seen s.doc s.sheets s.marks.items (is_fresh_in s.fresh) s.kept.items
-        s.recent.items };
+    ghost view = { λ s. standing_seen s.content.doc s.content.sheets s.pending s.kept };
 
-    ghost invariant = { λ s. IsSession s.doc s.sheets s.prepared s.marking s.marks s.fresh s.gone.items
-        s.kept.items s.recent.items s.cache };
+    ghost invariant = { λ s. IsSession s.content s.pending s.kept s.derived };
 }
 
 impl Session {
@@ -114,24 +112,12 @@ impl Session {
         ensures started { IfOk result (λ session. session ≡ started (scene_seen doc sheets)) }
         ensures reached { IfOk result IsReached }
     {
-        let begun = Beginning::of(alloc, &doc)?;
-        let Beginning {
-            marks,
-            fresh,
-            gone,
-            cache,
-        } = begun;
+        let derived = Derived::start(alloc, doc.in_tree_order().len())?;
         Ok(Session {
-            doc,
-            sheets,
-            prepared: None,
-            marking: None,
-            marks,
-            fresh,
-            gone,
-            kept: Vec::new(alloc),
-            recent: Vec::new(alloc),
-            cache,
+            content: Content { doc, sheets },
+            pending: Pending::start(alloc),
+            kept: KeptStyles::start(alloc),
+            derived,
         })
     }
 
@@ -148,24 +134,18 @@ impl Session {
         ensures kept { OnErr result (self.new ≡ self.old) }
     {
         match edit {
-            Edit::Document(edit) => edit_marked(
+            Edit::Document(edit) => edit_document(
                 alloc,
-                &mut self.doc,
-                &self.sheets,
-                &mut self.marking,
-                &mut self.marks,
-                &mut self.fresh,
-                &mut self.gone,
+                &mut self.content,
+                &mut self.pending,
+                &mut self.derived,
                 edit,
             ),
             Edit::Sheets(edit) => edit_sheets(
                 alloc,
-                &self.doc,
-                &mut self.sheets,
-                &mut self.prepared,
-                &mut self.marking,
-                &mut self.marks,
-                &mut self.cache,
+                &mut self.content,
+                &mut self.pending,
+                &mut self.derived,
                 edit,
             ),
         }
@@ -199,53 +179,37 @@ impl Session {
         ensures reached { IsReached self.old → IsReached self.new }
         ensures kept { OnErr result (self.new ≡ self.old) }
     {
-        self.style_again(alloc, gate)
-    }
-
-    /// What both restyles do.
-    fn style_again<G: Gate>(&mut self, alloc: Global, gate: &G) -> Result<Counts, NoMemory>
-        ensures ok { OnOk result (self.new ≡ restyled self.old) }
-        ensures counts { IfOk result (λ counts. counts ≡ counts_of self.old) }
-        ensures others { OnOk result ((x : ℕ) → IsElement (elements_of self.new.scene) x
-            → is_in x self.new.recent ≡ false → kept_at self.new x ≡ kept_at self.old x) }
-        ensures kept { OnErr result (self.new ≡ self.old) }
-    {
-        if is_settled(&self.marks, &self.fresh) {
-            drop_gone(&self.doc, &mut self.gone, &mut self.kept);
-            return Ok(cascade_none(&mut self.recent));
+        if self.pending.is_settled() {
+            self.kept.commit_none();
+            self.kept.drop_gone(&self.content.doc, self.pending.gone());
+            self.pending.clear();
+            return Ok(Counts::of_none());
         }
-        make_ready(alloc, &self.sheets, &mut self.prepared)?;
+        self.derived.prepare(alloc, &self.content.sheets)?;
         let inputs = Inputs {
             alloc,
-            doc: &self.doc,
-            sheets: &self.sheets,
-            prepared: self.prepared.as_ref().unwrap(),
+            doc: &self.content.doc,
+            sheets: &self.content.sheets,
+            prepared: self.derived.prepared.as_ref().unwrap(),
         };
-        if self.fresh.all {
-            let made = first_styles(&inputs, &mut self.cache, gate)?;
-            let FirstStyles { kept, numbers } = made;
-            let counts = Counts::of_all(&numbers);
+        if self.pending.is_all_fresh() {
+            self.kept = restyle_first(&inputs, &mut self.derived.cache, gate)?;
             // From here on nothing takes memory.
-            self.kept = kept;
-            self.recent = numbers;
-            self.gone.clear();
-            settle(&mut self.marks, &mut self.fresh);
-            return Ok(counts);
+            self.pending.clear();
+            return Ok(Counts::of_all(self.kept.recent()));
         }
         let lists = Lists {
-            marks: &self.marks,
-            fresh: &self.fresh.set,
+            inputs: &inputs,
+            pending: &self.pending,
             kept: &self.kept,
         };
-        let anew = Anew::of(&inputs, &lists, &mut self.cache, gate)?;
-        let Anew { styled, numbers } = anew;
-        let counts = Counts::of(&styled);
-        make_places(&mut self.kept, self.doc.last() + 1)?;
+        let news = restyle(&lists, &mut self.derived.cache, gate)?;
+        let counts = Counts::of(&news.styled);
+        self.kept.reserve(self.content.doc.last() + 1)?;
         // From here on nothing takes memory.
-        keep_all(styled, &mut self.kept);
-        drop_gone(&self.doc, &mut self.gone, &mut self.kept);
-        self.recent = numbers;
-        settle(&mut self.marks, &mut self.fresh);
+        self.kept.commit(news);
+        self.kept.drop_gone(&self.content.doc, self.pending.gone());
+        self.pending.clear();
         Ok(counts)
     }
 
@@ -253,13 +217,13 @@ impl Session {
     pub fn style(&self, n: u32) -> StyleAnswer<'_>
         ensures { IsAnswer self.now n result }
     {
-        if !self.doc.contains(n) {
+        if !self.content.doc.contains(n) {
             return StyleAnswer::NoNode;
         }
-        if is_open(&self.doc, &self.marks, &self.fresh, n) {
+        if self.pending.is_open(&self.content.doc, n) {
             return StyleAnswer::Stale;
         }
-        match &self.kept[n as usize] {
+        match self.kept.style(n) {
             Some(style) => StyleAnswer::Kept(style),
             // What is not open keeps its style.
             None => StyleAnswer::Stale,
@@ -270,7 +234,7 @@ impl Session {
     pub fn doc(&self) -> &Doc
         ensures { result.now ≡ self.now.scene.document }
     {
-        &self.doc
+        &self.content.doc
     }
 
     /// The numbers of the elements that the last restyle cascaded, each once, in tree order as it was then. One that
@@ -279,6 +243,6 @@ impl Session {
         ensures list { result.now ≡ self.now.recent }
         ensures once { IsDistinct nat_eq result.now }
     {
-        self.recent.as_slice()
+        self.kept.recent()
     }
 }

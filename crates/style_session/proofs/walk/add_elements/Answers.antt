@@ -23,12 +23,12 @@ loop-x-preserved c =
       | then-contains w ↦
           let now : c.if-contains.due ≡ added due x = w.due-is ∙ w.add.ensures in
           record {
-            elements = elements-more doc was list i c.loop-x-test.true due c.if-contains.due c.loop-x.invariant.elements now;
+            each = elements-more doc was list i c.loop-x-test.true due c.if-contains.due c.loop-x.invariant.each now;
             room = ap (λ (m : Members). m.room) now ∙ ((one_added due x).room ∙ c.loop-x.invariant.room);
           }
       | else-contains w ↦ record {
-        elements = λ y there. ap (λ (m : Members). is_in y m.items) w.due-is
-            ∙ elements-passed doc was list i c.loop-x-test.true due.items c.loop-x.invariant.elements (sym c.contains.ensures ∙ w.if-contains.false) y there;
+        each = λ y there. ap (λ (m : Members). is_in y m.items) w.due-is
+            ∙ elements-passed doc was list i c.loop-x-test.true due.items c.loop-x.invariant.each (sym c.contains.ensures ∙ w.if-contains.false) y there;
         room = ap (λ (m : Members). m.room) w.due-is ∙ c.loop-x.invariant.room;
       }
     ]

@@ -1,32 +1,47 @@
-use Rattle.std.proofs.Common.{◌≡◌, ◌∷◌, ◌+◌, map, take, get_or, sym, ap, ◌∙◌}
+use Rattle.std.proofs.Common.{◌≡◌, [], ◌∷◌, ◌+◌, map, take, get_or, sym, ap, ◌∙◌}
 use Rattle.scene_model.specs.Lookups.{numbers}
+use Rattle.scene_model.specs.Numbers.{is_in}
+use Rattle.scene_model.proofs.Any.{in_middle}
+use Rattle.scene_model.proofs.Found.{is_element-numbers}
 use Rattle.sheet_set.specs.View.{sources_seen}
 use Rattle.style_session.specs.Answers.{styled_seen}
 use Rattle.style_session.specs.Lent.{lent}
 use Rattle.style_session.proofs.WalkLemmas.{due-cascaded, met-order, met-passed, next-child, next-met, next-parent, next-there, no-results}
+use Rattle.style_session.proofs.WalkLentLemmas.{kept-own, lent-results}
 use Rattle.style_session.proofs.walk.restyled.Goals as goal
+
+pub is_matched-requires : goal.is_matched-requires
+is_matched-requires g c =
+    let doc = c.args.lists.now.inputs.now.doc.now.elements in
+    is_element-numbers doc c.in-Some.first.now
+    ∙ (ap (is_in c.in-Some.first.now) (sym c.in_tree_order.ensures.order ∙ c.in-Some.ensures.cases.0) ∙ in_middle c.in-Some.first.now [] c.in-Some.rest.now)
 
 pub returns-in_default-clause-styled : goal.returns-in_default-clause-styled
 returns-in_default-clause-styled g c =
+    let lists = c.args.lists.now in
     ap (map styled_seen) c.new.ensures.items
-    ∙ no-results (lent c.args.inputs.now c.args.lists.now) c.in_tree_order.result.now c.in_tree_order.ensures.valid c.requires.keeps c.in_tree_order.ensures.order c.in_default.ensures.cases
+    ∙ no-results (lent lists) c.in_tree_order.result.now (lent-results lists) c.in_tree_order.ensures.order c.in_default.ensures.cases
 
 pub returns-in_default-clause-fits : goal.returns-in_default-clause-fits
 returns-in_default-clause-fits g c =
-    c.limit.ensures (sources_seen c.args.inputs.now.sheets.now) c.args.inputs.now.prepared.now c.requires.fits
+    let inputs = c.args.lists.now.inputs.now in
+    c.limit.ensures (sources_seen inputs.sheets.now) inputs.prepared.now c.requires
 
 pub returns-in_err-walk-clause-fits : goal.returns-in_err-walk-clause-fits
 returns-in_err-walk-clause-fits g c =
-    c.limit.ensures (sources_seen c.args.inputs.now.sheets.now) c.args.inputs.now.prepared.now c.requires.fits
+    let inputs = c.args.lists.now.inputs.now in
+    c.limit.ensures (sources_seen inputs.sheets.now) inputs.prepared.now c.requires
 
 pub begin-requires-clause-fits : goal.begin-requires-clause-fits
 begin-requires-clause-fits g c =
-    c.limit.ensures (sources_seen c.args.inputs.now.sheets.now) c.args.inputs.now.prepared.now c.requires.fits
+    let inputs = c.args.lists.now.inputs.now in
+    c.limit.ensures (sources_seen inputs.sheets.now) inputs.prepared.now c.requires
 
 pub loop-number-preserved-then-not-contains : goal.loop-number-preserved-then-not-contains
 loop-number-preserved-then-not-contains g c =
-    let st = lent c.args.inputs.now c.args.lists.now in
-    let doc = c.args.inputs.now.doc.now.elements in
+    let lists = c.args.lists.now in
+    let st = lent lists in
+    let doc = lists.inputs.now.doc.now.elements in
     let first = c.in-Some.first.now in
     let rest = c.in-Some.rest.now in
     let k = c.loop-number.number-index in
@@ -34,54 +49,58 @@ loop-number-preserved-then-not-contains g c =
     let valid = c.in_tree_order.ensures.valid in
     let is : numbers doc ≡ first ∷ rest = sym c.in_tree_order.ensures.order ∙ c.in-Some.ensures.cases.0 in
     let below = c.loop-number-test.true in
-    let told = c.contains.ensures ∙ due-cascaded st c.loop-number.cache walk (get_or rest k 0) (next-there doc first rest k is below) c.loop-number.invariant.walk
-    (next-parent st walk first rest k valid is below c.loop-number.invariant.met) in
+    let there = next-there doc first rest k is below in
+    let to = c.loop-number.invariant.to in
+    let told = c.contains.ensures ∙ due-cascaded st c.loop-number.cache walk (get_or rest k 0) there to.walk (next-parent st walk first rest k valid is below to.met) in
+    let calm = sym told ∙ c.if-not-contains.true in
     record {
-      walk = c.loop-number.invariant.walk;
-      met = next-met st walk first rest k is below
-          (met-passed st (take (k + 1) (numbers doc)) (get_or rest k 0) walk valid c.requires.keeps (next-there doc first rest k is below)
-          (sym told ∙ c.if-not-contains.true) c.loop-number.invariant.met);
+      to = record {
+        walk = to.walk;
+        met = next-met st walk first rest k is below
+            (met-passed st (take (k + 1) (numbers doc)) (get_or rest k 0) walk there (kept-own lists (get_or rest k 0) there calm) calm to.met);
+      };
       fits = c.loop-number.invariant.fits;
     }
 
-pub cascade-requires-clause-element : goal.cascade-requires-clause-element
-cascade-requires-clause-element g c =
-    next-there c.args.inputs.now.doc.now.elements c.in-Some.first.now c.in-Some.rest.now c.loop-number.number-index
-    (sym c.in_tree_order.ensures.order ∙ c.in-Some.ensures.cases.0) c.loop-number-test.true
-
-pub cascade-requires-clause-child : goal.cascade-requires-clause-child
-cascade-requires-clause-child g c =
-    next-child c.args.inputs.now.doc.now.elements c.in-Some.first.now c.in-Some.rest.now c.loop-number.number-index
-    (sym c.in_tree_order.ensures.order ∙ c.in-Some.ensures.cases.0) c.loop-number-test.true c.in_tree_order.ensures.valid
-
-pub cascade-requires-clause-cascaded : goal.cascade-requires-clause-cascaded
-cascade-requires-clause-cascaded g c =
-    let st = lent c.args.inputs.now c.args.lists.now in
-    let is = sym c.in_tree_order.ensures.order ∙ c.in-Some.ensures.cases.0 in
-    let parent = next-parent st c.loop-number.walk c.in-Some.first.now c.in-Some.rest.now c.loop-number.number-index c.in_tree_order.ensures.valid is c.loop-number-test.true
-    c.loop-number.invariant.met in
-    let there = next-there c.args.inputs.now.doc.now.elements c.in-Some.first.now c.in-Some.rest.now c.loop-number.number-index is c.loop-number-test.true in
-    sym (c.contains.ensures ∙ due-cascaded st c.loop-number.cache c.loop-number.walk
-    (get_or c.in-Some.rest.now c.loop-number.number-index 0) there c.loop-number.invariant.walk parent) ∙ c.if-not-contains.false
-
-pub cascade-requires-clause-parent : goal.cascade-requires-clause-parent
-cascade-requires-clause-parent g c =
-    next-parent (lent c.args.inputs.now c.args.lists.now) c.loop-number.walk c.in-Some.first.now c.in-Some.rest.now c.loop-number.number-index c.in_tree_order.ensures.valid
-    (sym c.in_tree_order.ensures.order ∙ c.in-Some.ensures.cases.0) c.loop-number-test.true c.loop-number.invariant.met
+pub cascade-requires-clause-next : goal.cascade-requires-clause-next
+cascade-requires-clause-next g c =
+    let lists = c.args.lists.now in
+    let st = lent lists in
+    let doc = lists.inputs.now.doc.now.elements in
+    let first = c.in-Some.first.now in
+    let rest = c.in-Some.rest.now in
+    let k = c.loop-number.number-index in
+    let valid = c.in_tree_order.ensures.valid in
+    let is : numbers doc ≡ first ∷ rest = sym c.in_tree_order.ensures.order ∙ c.in-Some.ensures.cases.0 in
+    let below = c.loop-number-test.true in
+    let to = c.loop-number.invariant.to in
+    let there = next-there doc first rest k is below in
+    let parent = next-parent st c.loop-number.walk first rest k valid is below to.met in
+    record {
+      there = there;
+      child = next-child doc first rest k is below valid;
+      cascaded = sym (c.contains.ensures ∙ due-cascaded st c.loop-number.cache c.loop-number.walk (get_or rest k 0) there to.walk parent) ∙ c.if-not-contains.false;
+      parent = parent;
+    }
 
 pub loop-number-preserved : goal.loop-number-preserved
 loop-number-preserved g c =
-    let st = lent c.args.inputs.now c.args.lists.now in
-    let doc = c.args.inputs.now.doc.now.elements in
+    let lists = c.args.lists.now in
+    let st = lent lists in
+    let doc = lists.inputs.now.doc.now.elements in
     let k = c.loop-number.number-index in
+    let on = c.in_ok-cascade.ensures.ok in
     record {
-      walk = c.in_ok-cascade.ensures.walk;
-      met = next-met st c.cascade.new.self c.in-Some.first.now c.in-Some.rest.now k (sym c.in_tree_order.ensures.order ∙ c.in-Some.ensures.cases.0) c.loop-number-test.true
-          (c.in_ok-cascade.ensures.met (take (k + 1) (numbers doc)) c.loop-number.invariant.met);
+      to = record {
+        walk = on.walk;
+        met = next-met st c.cascade.new.self c.in-Some.first.now c.in-Some.rest.now k (sym c.in_tree_order.ensures.order ∙ c.in-Some.ensures.cases.0) c.loop-number-test.true
+            (on.met (take (k + 1) (numbers doc)) c.loop-number.invariant.to.met);
+      };
       fits = c.in_ok-cascade.ensures.fits;
     }
 
 pub returns-clause-styled : goal.returns-clause-styled
 returns-clause-styled g c =
-    met-order (lent c.args.inputs.now c.args.lists.now) c.loop-number.walk c.in-Some.first.now c.in-Some.rest.now c.loop-number.number-index c.in_tree_order.ensures.valid
-    c.requires.keeps (sym c.in_tree_order.ensures.order ∙ c.in-Some.ensures.cases.0) c.loop-number-test.false c.loop-number.invariant.met
+    let lists = c.args.lists.now in
+    met-order (lent lists) c.loop-number.walk c.in-Some.first.now c.in-Some.rest.now c.loop-number.number-index (lent-results lists)
+    (sym c.in_tree_order.ensures.order ∙ c.in-Some.ensures.cases.0) c.loop-number-test.false c.loop-number.invariant.to.met

@@ -3,4 +3,4 @@ use Rattle.session_model.specs.Standing.{Standing}
 use Rattle.style_session.proofs.session.Session.cascaded.Goals as goal
 
 pub returns-clause-list : goal.returns-clause-list
-returns-clause-list c = c.as_slice.ensures.value ∙ ap (λ (st : Standing). st.recent) c.self.view_is
+returns-clause-list c = c.recent.ensures ∙ ap (λ (st : Standing). st.recent) c.self.view_is

@@ -1,22 +1,20 @@
-use Rattle.std.proofs.Common.{sym, ap, subst}
+use Rattle.std.proofs.Common.{sym, subst}
 use Rattle.session_model.specs.StandingInvariant.{IsReached, at_start}
-use Rattle.style_session.specs.SessionView.{scene_seen, slot_at}
+use Rattle.style_session.specs.SessionView.{scene_seen}
+use Rattle.style_session.specs.declared.content.Content.{Content}
 use Rattle.style_session.proofs.SessionStarts.{session-started, started-seen}
 use Rattle.style_session.proofs.session.Session.of_parts.Goals as goal
 
 pub invariant_of-result : goal.invariant_of-result
 invariant_of-result c =
-    let begun = c.in_ok-begun.begun in
-    let is = c.in_ok-begun.ensures in
-    let kept = c.new.result.items in
-    session-started c.args.doc c.args.sheets begun.marks begun.fresh begun.gone.items kept c.new-2.result.items begun.cache is.sound is.marks c.new-2.ensures.items is.gone is.fresh (λ x. ap (λ l. slot_at l x) c.new.ensures.items) is.cache
+    let content : Content = record { doc = c.args.doc; sheets = c.args.sheets } in
+    session-started content c.start-2.result c.start-3.result c.start-2.ensures c.start-3.ensures c.in_ok-derived.derived c.in_tree_order.ensures.sound c.in_ok-derived.ensures
 
 pub returns-clause-started : goal.returns-clause-started
 returns-clause-started c =
-    let begun = c.in_ok-begun.begun in
-    let is = c.in_ok-begun.ensures in
-    started-seen c.args.doc c.args.sheets begun.marks.items c.new-2.result.items begun.fresh c.new.result.items is.marks c.new-2.ensures.items is.fresh (λ x. ap (λ l. slot_at l x) c.new.ensures.items)
+    let content : Content = record { doc = c.args.doc; sheets = c.args.sheets } in
+    started-seen content c.start-2.result c.start-3.result c.start-2.ensures c.start-3.ensures
 
 pub returns-clause-reached : goal.returns-clause-reached
 returns-clause-reached c =
-    subst IsReached (sym (returns-clause-started c)) (at_start (scene_seen c.args.doc c.args.sheets) c.in_ok-begun.ensures.sound)
+    subst IsReached (sym (returns-clause-started c)) (at_start (scene_seen c.args.doc c.args.sheets) c.in_tree_order.ensures.sound)

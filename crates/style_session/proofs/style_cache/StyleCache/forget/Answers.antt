@@ -1,4 +1,0 @@
-use Rattle.style_session.proofs.style_cache.StyleCache.forget.Goals as goal
-
-pub returns : goal.returns
-returns c = λ sources prepared is. c.clear.ensures.fits sources c.args.self.now.size prepared is
