@@ -53,7 +53,8 @@ pub record TakesOut (old new : Document) (before after : PendingMembers) : Type 
   pub others : without_gone after ≡ without_gone before
 
 -- an edit that is made of a document, by the rows of selectors
-pub record MakesEdit (old : Document) (edit : DocEdit) (new : Document) (rows : List Row) (before after : PendingMembers)
+pub record MakesEdit (old : Document) (edit : DocEdit) (new : Document) (rows : List Row)
+    (before after : PendingMembers)
     : Type 0 where
   pub accepts : applied old edit ≡ accepted new
   pub marked : AddsMarks old.elements new.elements rows before.marked after.marked

@@ -8,8 +8,8 @@ use Rattle.invalidation_map.specs.Marks.{AreMarked}
 use Rattle.invalidation_map.specs.Members.{Members}
 use Rattle.invalidation_map.specs.Rows.{Row}
 
--- The numbers that are marked, whether all elements are fresh, else which, the numbers of those that were taken out, and
--- the room: each number below it can be added.
+-- The numbers that are marked, whether all elements are fresh, else which, the numbers of those that were taken out,
+-- and the room: each number below it can be added.
 pub record PendingMembers : Type 0 where
   pub marked : List ℕ
   pub all_fresh : Bool

@@ -161,7 +161,8 @@ impl Pending {
         requires there { IfSome moved (IsElement doc.now.elements) }
         requires room { HasRoom doc.now.elements self.old.room }
         requires last { last < self.old.room }
-        ensures { Freshens last (λ x. nat_lt before x || option_map_or (λ top. is_below doc.now.elements top x) moved false)
+        ensures { Freshens last
+            (λ x. nat_lt before x || option_map_or (λ top. is_below doc.now.elements top x) moved false)
             self.old self.new }
     {
         if self.all_fresh {
