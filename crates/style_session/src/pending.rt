@@ -1,6 +1,6 @@
 //! What edits have left to do for the next restyle.
 
-ghost use Rattle.std.specs.Prelude.{◌≡◌, ◌<◌, ◌||◌, ◌∷◌, IfSome, OnOk, false, nat_lt};
+ghost use Rattle.std.specs.Prelude.{◌≡◌, ◌<◌, ◌||◌, ◌∷◌, IfSome, OnOk, false, nat_lt, true};
 ghost use Rattle.std.specs.List.{list_any};
 ghost use Rattle.std.specs.Option.{option_map_or};
 ghost use Rattle.scene_model.specs.Ancestors.{ancestors};
@@ -189,6 +189,16 @@ impl Pending {
         ensures { MarksAlso (λ x. is_in x numbers.now) self.old self.new }
     {
         self.sets.add_marked(numbers);
+    }
+
+    /// Nothing is gone any more, where nothing is marked or fresh. It takes no memory.
+    pub(crate) fn clear_gone(&mut self)
+        requires { are_settled self.old ≡ true }
+        ensures { self.new ≡ none_pending self.old.room }
+    {
+        if !self.sets.gone().is_empty() {
+            self.sets.clear();
+        }
     }
 
     /// Nothing is marked, fresh or gone any more. It takes no memory.

@@ -182,7 +182,7 @@ impl Session {
         if self.pending.is_settled() {
             self.kept.commit_none();
             self.kept.drop_gone(&self.content.doc, self.pending.gone());
-            self.pending.clear();
+            self.pending.clear_gone();
             return Ok(Counts::of_none());
         }
         self.derived.prepare(alloc, &self.content.sheets)?;

@@ -17,7 +17,7 @@ invariant_of-self g c =
     let kept = c.self.inside.kept in
     let derived = c.self.inside.derived in
     let settled = sym c.is_settled.ensures ∙ c.if-is_settled.true in
-    session-cleared content pending kept derived c.self.invariant pending.room c.clear.new.self c.clear.ensures c.drop_gone.new.self derived
+    session-cleared content pending kept derived c.self.invariant pending.room c.clear_gone.new.self c.clear_gone.ensures c.drop_gone.new.self derived
     (session-idle content pending kept derived c.self.invariant settled pending.room c.gone.result.now c.commit_none.new.self c.drop_gone.new.self c.gone.ensures
     c.commit_none.ensures c.drop_gone.ensures)
 
@@ -28,7 +28,7 @@ returns-then-is_settled-clause-ok g c =
     let kept = c.self.inside.kept in
     let derived = c.self.inside.derived in
     let settled = sym c.is_settled.ensures ∙ c.if-is_settled.true in
-    restyled-now content pending kept derived c.self.invariant pending.room c.clear.new.self c.clear.ensures c.drop_gone.new.self
+    restyled-now content pending kept derived c.self.invariant pending.room c.clear_gone.new.self c.clear_gone.ensures c.drop_gone.new.self
     (idle-seen content pending kept derived c.self.invariant settled pending.room c.gone.result.now c.commit_none.new.self c.drop_gone.new.self c.gone.ensures
     c.commit_none.ensures c.drop_gone.ensures)
     c.args.self.now c.self.view_is
@@ -49,7 +49,7 @@ returns-then-is_settled-clause-others g c =
     let kept = c.self.inside.kept in
     let derived = c.self.inside.derived in
     let settled = sym c.is_settled.ensures ∙ c.if-is_settled.true in
-    others-now content pending kept derived c.self.invariant pending.room c.clear.new.self c.clear.ensures c.drop_gone.new.self
+    others-now content pending kept derived c.self.invariant pending.room c.clear_gone.new.self c.clear_gone.ensures c.drop_gone.new.self
     (idle-seen content pending kept derived c.self.invariant settled pending.room c.gone.result.now c.commit_none.new.self c.drop_gone.new.self c.gone.ensures
     c.commit_none.ensures c.drop_gone.ensures)
     c.args.self.now c.self.view_is
@@ -61,7 +61,7 @@ returns-then-is_settled-clause-reached g c =
     let kept = c.self.inside.kept in
     let derived = c.self.inside.derived in
     let settled = sym c.is_settled.ensures ∙ c.if-is_settled.true in
-    reached-now content pending kept derived c.self.invariant pending.room c.clear.new.self c.clear.ensures c.drop_gone.new.self
+    reached-now content pending kept derived c.self.invariant pending.room c.clear_gone.new.self c.clear_gone.ensures c.drop_gone.new.self
     (idle-seen content pending kept derived c.self.invariant settled pending.room c.gone.result.now c.commit_none.new.self c.drop_gone.new.self c.gone.ensures
     c.commit_none.ensures c.drop_gone.ensures)
     c.args.self.now c.self.view_is
@@ -79,7 +79,7 @@ invariant_of-self-then-is_all_fresh g c =
     let there = sym c.as_ref.ensures.value ∙ ap option_copied c.unwrap.ensures in
     let cache = c.restyle_first.new.cache in
     let known = record c.prepare.new.self { cache = cache } in
-    session-cleared content pending kept derived c.self.invariant pending.room c.clear-then-is_all_fresh.new.self c.clear-then-is_all_fresh.ensures made known
+    session-cleared content pending kept derived c.self.invariant pending.room c.clear.new.self c.clear.ensures made known
     (session-first content pending kept derived c.self.invariant all made c.in_ok-self-inside.ensures.styles pending.room known
     (ready-known (sources_seen content.sheets) c.prepare.new.self c.unwrap.result.now cache there c.prepare.ensures.ready c.restyle_first.ensures.fits))
 
@@ -91,7 +91,7 @@ returns-then-is_all_fresh-clause-ok g c =
     let derived = c.self.inside.derived in
     let made = c.in_ok-self-inside.field-0 in
     let all = sym c.is_all_fresh.ensures ∙ c.if-is_all_fresh.true in
-    restyled-now content pending kept derived c.self.invariant pending.room c.clear-then-is_all_fresh.new.self c.clear-then-is_all_fresh.ensures made
+    restyled-now content pending kept derived c.self.invariant pending.room c.clear.new.self c.clear.ensures made
     (first-seen content pending kept derived c.self.invariant all made c.in_ok-self-inside.ensures.styles pending.room) c.args.self.now c.self.view_is
 
 pub returns-then-is_all_fresh-clause-counts : goal.returns-then-is_all_fresh-clause-counts
@@ -114,7 +114,7 @@ returns-then-is_all_fresh-clause-others g c =
     let derived = c.self.inside.derived in
     let made = c.in_ok-self-inside.field-0 in
     let all = sym c.is_all_fresh.ensures ∙ c.if-is_all_fresh.true in
-    others-now content pending kept derived c.self.invariant pending.room c.clear-then-is_all_fresh.new.self c.clear-then-is_all_fresh.ensures made
+    others-now content pending kept derived c.self.invariant pending.room c.clear.new.self c.clear.ensures made
     (first-seen content pending kept derived c.self.invariant all made c.in_ok-self-inside.ensures.styles pending.room) c.args.self.now c.self.view_is
 
 pub returns-then-is_all_fresh-clause-reached : goal.returns-then-is_all_fresh-clause-reached
@@ -125,7 +125,7 @@ returns-then-is_all_fresh-clause-reached g c =
     let derived = c.self.inside.derived in
     let made = c.in_ok-self-inside.field-0 in
     let all = sym c.is_all_fresh.ensures ∙ c.if-is_all_fresh.true in
-    reached-now content pending kept derived c.self.invariant pending.room c.clear-then-is_all_fresh.new.self c.clear-then-is_all_fresh.ensures made
+    reached-now content pending kept derived c.self.invariant pending.room c.clear.new.self c.clear.ensures made
     (first-seen content pending kept derived c.self.invariant all made c.in_ok-self-inside.ensures.styles pending.room) c.args.self.now c.self.view_is
 
 -- and a later one
