@@ -58,11 +58,31 @@ static const char REMOVE_SHEET[] = "{\"op\":\"remove_sheet\",\"sheet\":1}";
 static const char *const EDITS[] = {INSERT, MOVE, REMOVE, SET, UNSET, STATE, ADD, REPLACE, ENABLE, REMOVE_SHEET};
 #define EDIT_COUNT (sizeof EDITS / sizeof EDITS[0])
 
-/* What comes before an edit is tried: nothing, an edit of the document, by which what marks elements is made, or that and
- * then one of the sheets, with which it goes. */
-enum came { NOTHING, AN_EDIT, A_SHEET_EDIT, CAME_COUNT };
+/* What comes before an edit is tried: not even a restyle; a restyle alone; behind it an edit of the document, by which what
+ * marks elements is made; or that and then one of the sheets, with which it goes. */
+enum came { NO_RESTYLE, NOTHING, AN_EDIT, A_SHEET_EDIT, CAME_COUNT };
 static int came = NOTHING;
 static const char EARLIER[] = "{\"op\":\"state\",\"node\":2,\"state\":\"focus\",\"on\":true}";
+
+/* 44 elements, of which 40 have a class that a rule asks for below another class. A restyle keeps count of the names above
+ * an element where it has many to match, and else from where it has styled many. */
+#define LEAF ",{\"tag\":\"b\",\"parent\":2,\"attrs\":{\"class\":\"b\"}}"
+#define TEN_LEAVES LEAF LEAF LEAF LEAF LEAF LEAF LEAF LEAF LEAF LEAF
+static const char BELOW_PAGE[] =
+    "{\"version\":1,\"nodes\":[{\"tag\":\"html\"},{\"tag\":\"body\",\"parent\":0},"
+    "{\"tag\":\"p\",\"parent\":1,\"attrs\":{\"class\":\"a\"}},{\"tag\":\"i\",\"parent\":2}"
+    TEN_LEAVES TEN_LEAVES TEN_LEAVES TEN_LEAVES "],"
+    "\"sheets\":[{\"origin\":\"author\",\"text\":\".a .b{color:red} body .b:hover{width:1em} p:hover{clear:both} .d .b{}\"}]}";
+/* One element is matched, 41 are, or one is and 41 are styled. */
+static const char MATCH_ONE[] = "{\"op\":\"state\",\"node\":9,\"state\":\"hover\",\"on\":true}";
+static const char MATCH_MANY[] = "{\"op\":\"set\",\"node\":1,\"name\":\"class\",\"value\":\"a d\"}";
+static const char STYLE_MANY[] = "{\"op\":\"state\",\"node\":3,\"state\":\"hover\",\"on\":true}";
+static const char *const MATCHES[] = {MATCH_ONE, MATCH_MANY, STYLE_MANY};
+#define MATCH_COUNT (sizeof MATCHES / sizeof MATCHES[0])
+
+/* The page that a session is opened over, and the edit that a restyle of the second page comes behind. */
+static const char *page = PAGE;
+static const char *match = MATCH_ONE;
 
 /* What a call told. */
 static bokdrez_why why;
@@ -100,8 +120,8 @@ static uint32_t make(int call, bokdrez_session *session) {
 
 /* The session as it is before the call. */
 static void make_ready(int call, bokdrez_session *session) {
-  open_right(PAGE, strlen(PAGE), session);
-  if (call == FIRST_RESTYLE) {
+  open_right(page, strlen(page), session);
+  if (call == FIRST_RESTYLE || came == NO_RESTYLE) {
     return;
   }
   restyle_right(session);
@@ -111,7 +131,9 @@ static void make_ready(int call, bokdrez_session *session) {
   if (came == A_SHEET_EDIT) {
     edit_right(session, ADD);
   }
-  if (call == RESTYLE) {
+  if (call == RESTYLE && page == BELOW_PAGE) {
+    edit_right(session, match);
+  } else if (call == RESTYLE) {
     edit_right(session, INSERT);
     edit_right(session, SET);
     edit_right(session, ADD);
@@ -238,10 +260,17 @@ int main(void) {
   for (int call = OPEN; call < EDITED; call++) {
     try_each(call);
   }
-  for (came = NOTHING; came < CAME_COUNT; came++) {
+  for (came = NO_RESTYLE; came < CAME_COUNT; came++) {
     for (int edit = 0; edit < (int)EDIT_COUNT; edit++) {
       try_each(EDITED + edit);
     }
+  }
+  came = NOTHING;
+  page = BELOW_PAGE;
+  try_each(FIRST_RESTYLE);
+  for (int edit = 0; edit < (int)MATCH_COUNT; edit++) {
+    match = MATCHES[edit];
+    try_each(RESTYLE);
   }
   open_into_none();
   return ended();
