@@ -67,7 +67,7 @@ third_counts x y second third other rest h =
     let compared : Ordering → Ordering → Ordering = λ o t. ordering_then o (ordering_then second (ordering_then t rest)) in
     by_ranked _ _ _ {G = compared (nat_cmp x y) third ≡ compared (nat_cmp x y) other} (nat_cmp x y) (ranked x y (nat_cmp x y) refl) (λ e _. ap (λ o. compared o third) e ∙ sym (ap (λ o. compared o other) e)) (λ _ same. ap (compared (nat_cmp x y)) (h same)) (λ e _. ap (λ o. compared o third) e ∙ sym (ap (λ o. compared o other) e))
 
-specificity_cmp-total : IsTotalOrder specificity_cmp
+pub specificity_cmp-total : IsTotalOrder specificity_cmp
 specificity_cmp-total =
     then_total (on_total (λ (s : Specificity). s.ids) nat_cmp_total) (then_total (on_total (λ (s : Specificity). s.classes) nat_cmp_total) (on_total (λ (s : Specificity). s.types) nat_cmp_total))
 

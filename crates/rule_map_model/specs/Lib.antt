@@ -1,0 +1,4 @@
+pub mod Candidates
+pub mod Buckets
+pub mod Hits
+pub mod Places
