@@ -36,6 +36,5 @@ pub mod InsertRooms
 pub mod MovedDocument
 pub mod GivenLemmas
 pub mod DocEditLemmas
-pub mod NameBitLemmas
 pub mod ElementNameLemmas
 pub mod DepthSteps

@@ -3,7 +3,6 @@ pub mod Kept
 pub mod Classes
 pub mod Labels
 pub mod ElementNames
-pub mod NameBits
 pub mod Depths
 pub mod ChildLists
 pub mod Turned

@@ -7,9 +7,7 @@ ghost use Rattle.base_model.specs.Text.{same_text};
 ghost use Rattle.stylo_base.specs.NameKey.{key_of};
 ghost use Rattle.dom_tree.specs.Classes.{AreNames};
 ghost use Rattle.dom_tree.specs.Kept.{text_of};
-ghost use Rattle.dom_tree.specs.NameBits.{bits_of_names};
 
-use crate::name_bits::bit_of;
 use std::marker::Model;
 use stylo_base::{Atom, Name, Names};
 
@@ -96,18 +94,6 @@ impl<'a> ClassNames<'a> {
         ensures within { result.name < length result.names.now }
     {
         LentName::new(self.names, self.list[index])
-    }
-
-    /// Their bits.
-    #[inline]
-    pub fn bits(&self) -> u64
-        ensures { result ≡ bits_of_names self.now }
-    {
-        let mut bits = 0;
-        for class in self.list {
-            bits |= bit_of(self.names, *class);
-        }
-        bits
     }
 
     /// Whether this is one of them.

@@ -15,7 +15,6 @@ ghost use Rattle.stylo_base.specs.StateView.{state_seen};
 ghost use Rattle.dom_tree.specs.ChildLists.{AreChildren, AreParts, lists_of};
 ghost use Rattle.dom_tree.specs.ElementNames.{AreNamesOf, names_of};
 ghost use Rattle.dom_tree.specs.Labels.{AreCuts, AreLabels, class_words};
-ghost use Rattle.dom_tree.specs.NameBits.{HasNameBits};
 ghost use Rattle.dom_tree.specs.SiblingPlaces.{ArePlaces, AreZeros, HasTagBelow};
 
 mod depths;
@@ -30,7 +29,6 @@ use crate::class_lists::ClassLists;
 use crate::class_names::ClassNames;
 use crate::element_names::ElementNames;
 use crate::labels::{Label, label_nodes};
-use crate::name_bits::{bit_if_some, bit_of};
 use crate::node_columns::NodeColumns;
 use crate::nodes::NodeList;
 use crate::sibling_places::SiblingPlaces;
@@ -283,21 +281,10 @@ impl Doc {
     #[inline]
     pub fn attribute_names(&self, x: u32) -> AttributeNames<'_>
         requires { IsElement self.now.elements x }
-        ensures { AreNamesOf (attribute_of self.now.elements x) result }
+        ensures names { AreNamesOf (attribute_of self.now.elements x) result }
+        ensures valid { IsValid self.now.elements }
     {
         self.columns.attribute_names(x as usize - 1)
-    }
-
-    /// The bits of the names of `x`: of its tag, of its id, if it has one, and of each of its classes, and no
-    /// others. Where that of a name is not set, it has no such tag, id or class.
-    pub fn name_bits(&self, x: u32) -> u64
-        requires { IsElement self.now.elements x }
-        ensures { HasNameBits self.now.elements x result }
-    {
-        let names = self.columns.names();
-        let tag = bit_of(names, self.columns.tag(x as usize - 1));
-        let id = bit_if_some(names, self.labels[x as usize - 1].id);
-        tag | id | self.class_names(x).bits()
     }
 
     /// Whether `x` has the id that this atom is. An empty one is none.
