@@ -22,7 +22,17 @@ pub fn matches(doc: &Doc, selector: &Selector, x: u32) -> bool
     requires { IsElement doc.now.elements x }
     ensures { result ≡ holds doc.now.elements (selector_of selector.now) x }
 {
-    bears(doc, key_of(selector), x) && tried(doc, selector.complex(), x) == MatchResult::Matched
+    bears(doc, key_of(selector), x) && holds(doc, selector, x)
+}
+
+/// The same, for a caller who knows that `x` bears the selector's key: it is not looked at. It takes no
+/// memory.
+#[inline]
+pub fn holds(doc: &Doc, selector: &Selector, x: u32) -> bool
+    requires { IsElement doc.now.elements x }
+    ensures { result ≡ holds doc.now.elements (selector_of selector.now) x }
+{
+    tried(doc, selector.complex(), x) == MatchResult::Matched
 }
 
 /// Tries a selector at `x`.
