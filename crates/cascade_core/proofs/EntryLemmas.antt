@@ -13,8 +13,8 @@ use Rattle.shorthands.specs.declared.declared.Target.{Target}
 use Rattle.shorthands.specs.declared.declared.Target.TheVariants.{Longhand, Shorthand, Custom}
 use Rattle.shorthands.specs.declared.short.Short.TheVariants.{Margin, Padding, BorderWidth, BorderStyle, BorderColor, Overflow, All}
 use Rattle.cascade_core.specs.Names.{name_of}
-use Rattle.cascade_core.specs.View.{all_applied, entry_of, for_target, head_of, is_among, is_custom_target, is_of_custom, matched_of, name_seen}
-use Rattle.cascade_core.specs.declared.matched.Matched.{Matched}
+use Rattle.cascade_core.specs.View.{all_applied, entry_of, for_target, head_of, is_among, is_custom_target, is_of_custom, lent_of, name_seen}
+use Rattle.cascade_core.specs.declared.matched.LentMatched.{LentMatched}
 use Rattle.cascade_core.proofs.CountLemmas.{counted, counted_by, are_distinct, filter-distinct}
 
 -- the places of the properties in their order, each of which stands once
@@ -45,10 +45,10 @@ distinct (Shorthand Overflow) = refl
 distinct (Shorthand All) = refl
 distinct (Custom name) = refl
 
-abbrev at_count : Matched → ℕ → ℕ → model.Matched
+abbrev at_count : LentMatched → ℕ → ℕ → model.Matched
 at_count d index property = for_target (longhand property) index d
 
-applied-counted : (d : Matched) (i : ℕ) (ids : List ℕ) → all_applied d i (map (declared_as d.declared.now) (map longhand ids)) ≡ counted (at_count d) i ids
+applied-counted : (d : LentMatched) (i : ℕ) (ids : List ℕ) → all_applied d.priority i (map (declared_as d.declared.now) (map longhand ids)) ≡ counted (at_count d) i ids
 applied-counted d i [] = refl
 applied-counted d i (id ∷ ids) = ap (λ l. at_count d i id ∷ l) (applied-counted d (i + 1) ids)
 
@@ -59,35 +59,35 @@ targets (Shorthand short) h = refl
 targets (Custom name) h = absurd (true≢false h)
 
 -- so many declarations, of the longhands
-pub matched_longhands : (d : Matched) → is_of_custom d ≡ false → matched_of d ≡ map (λ p. entry_of p d) (declared_longhands d.declared.now)
+pub matched_longhands : (d : LentMatched) → is_of_custom d ≡ false → lent_of d ≡ map (λ p. entry_of p d) (declared_longhands d.declared.now)
 matched_longhands d h =
-    ap (λ l. all_applied d d.index (map (declared_as d.declared.now) l)) (targets d.declared.now.target h)
-    ∙ (applied-counted d d.index (declared_longhands d.declared.now)
-    ∙ (ap (λ n. counted (at_count d) n (declared_longhands d.declared.now)) (sym (add-zero d.index))
-    ∙ counted_by (at_count d) (offset_of d.declared.now) d.index 0 (declared_longhands d.declared.now) (places d.declared.now.target)))
+    ap (λ l. all_applied d.priority d.priority.index (map (declared_as d.declared.now) l)) (targets d.declared.now.target h)
+    ∙ (applied-counted d d.priority.index (declared_longhands d.declared.now)
+    ∙ (ap (λ n. counted (at_count d) n (declared_longhands d.declared.now)) (sym (add-zero d.priority.index))
+    ∙ counted_by (at_count d) (offset_of d.declared.now) d.priority.index 0 (declared_longhands d.declared.now) (places d.declared.now.target)))
 
 -- those of a target
-abbrev applied_to : Matched → Target → List model.Matched
-applied_to d target = all_applied d d.index (map (declared_as d.declared.now) (targets_of target))
+abbrev applied_to : LentMatched → Target → List model.Matched
+applied_to d target = all_applied d.priority d.priority.index (map (declared_as d.declared.now) (targets_of target))
 
 -- or one of a custom property
-pub matched_custom : (d : Matched) → is_of_custom d ≡ true → matched_of d ≡ head_of d ∷ []
+pub matched_custom : (d : LentMatched) → is_of_custom d ≡ true → lent_of d ≡ head_of d ∷ []
 matched_custom d h = by_target d.declared.now.target h
   where
-    by_target : (target : Target) → is_custom_target target ≡ true → applied_to d target ≡ for_target (name_seen target) d.index d ∷ []
+    by_target : (target : Target) → is_custom_target target ≡ true → applied_to d target ≡ for_target (name_seen target) d.priority.index d ∷ []
     by_target (Longhand id) h = absurd (true≢false (sym h))
     by_target (Shorthand short) h = absurd (true≢false (sym h))
     by_target (Custom name) h = refl
 
 -- of those, one is of a property that is among them
 
-module _ (p : ℕ) (d : Matched) where
+module _ (p : ℕ) (d : LentMatched) where
   of_custom : (target : Target) → is_custom_target target ≡ true → filter (declares_longhand p) (applied_to d target) ≡ cond (list_any (λ q. q == p) (target_longhands target)) (entry_of p d ∷ []) []
   of_custom (Longhand id) h = absurd (true≢false (sym h))
   of_custom (Shorthand short) h = absurd (true≢false (sym h))
   of_custom (Custom name) h = refl
 
-  pub of_property : filter (declares_longhand p) (matched_of d) ≡ cond (is_among p d) (entry_of p d ∷ []) []
+  pub of_property : filter (declares_longhand p) (lent_of d) ≡ cond (is_among p d) (entry_of p d ∷ []) []
   of_property =
       let one = filter-distinct (declares_longhand p) (λ q. entry_of q d) p (λ q. refl) (declared_longhands d.declared.now) (distinct d.declared.now.target) in
       ⊎_elim
@@ -97,14 +97,14 @@ module _ (p : ℕ) (d : Matched) where
 
 -- and all are of custom properties, or none
 
-none_named : (d : Matched) (i : ℕ) (ids : List ℕ) → filter (λ e. is_some (name_of e)) (all_applied d i (map (declared_as d.declared.now) (map longhand ids))) ≡ []
+none_named : (d : LentMatched) (i : ℕ) (ids : List ℕ) → filter (λ e. is_some (name_of e)) (all_applied d.priority i (map (declared_as d.declared.now) (map longhand ids))) ≡ []
 none_named d i [] = refl
 none_named d i (id ∷ ids) = none_named d (i + 1) ids
 
-pub of_customs : (d : Matched) → filter (λ e. is_some (name_of e)) (matched_of d) ≡ cond (is_of_custom d) (head_of d ∷ []) []
+pub of_customs : (d : LentMatched) → filter (λ e. is_some (name_of e)) (lent_of d) ≡ cond (is_of_custom d) (head_of d ∷ []) []
 of_customs d = by_target d.declared.now.target
   where
-    by_target : (target : Target) → filter (λ e. is_some (name_of e)) (applied_to d target) ≡ cond (is_custom_target target) (for_target (name_seen target) d.index d ∷ []) []
+    by_target : (target : Target) → filter (λ e. is_some (name_of e)) (applied_to d target) ≡ cond (is_custom_target target) (for_target (name_seen target) d.priority.index d ∷ []) []
     by_target (Longhand id) = refl
-    by_target (Shorthand short) = none_named d d.index (longhands_of (short_of short))
+    by_target (Shorthand short) = none_named d d.priority.index (longhands_of (short_of short))
     by_target (Custom name) = refl

@@ -17,10 +17,10 @@ use Rattle.property_table.proofs.SetLemmas.{has_row-with}
 use Rattle.cascade_model.specs.Custom.{custom_name}
 use Rattle.shorthands.specs.declared.declared.Target.{Target}
 use Rattle.shorthands.specs.declared.declared.Target.TheVariants.{Longhand, Shorthand, Custom}
-use Rattle.cascade_core.specs.View.{entry_of, head_of, is_custom_target, is_of_custom, matched_of, name_seen}
+use Rattle.cascade_core.specs.View.{entry_of, head_of, is_custom_target, is_of_custom, lent_of, name_seen}
 use Rattle.cascade_core.specs.Declarations.{at_place}
 use Rattle.cascade_core.specs.Won.{won, AreWinners}
-use Rattle.cascade_core.specs.declared.matched.Matched as code
+use Rattle.cascade_core.specs.declared.matched.LentMatched as code
 use Rattle.cascade_core.specs.declared.places.Places.{Places}
 use Rattle.cascade_core.proofs.BestLemmas.{still_custom, custom_added}
 use Rattle.cascade_core.proofs.EntryLemmas.{matched_custom}
@@ -71,8 +71,8 @@ one_more f xs ys i x within at =
     rw (take_more ys i x within, ← at, ← append_assoc xs (take i ys) (x ∷ []), flat_map-append f (xs ++ take i ys) (x ∷ []), append-nil (f x))
 
 -- the declaration at a place, in the first of two lists or in the second
-module _ (first second : List code.Matched) where
-  get_in_first : (first : List code.Matched) (k : ℕ) → k < length first → slice_get (first ++ second) k ≡ slice_get first k
+module _ (first second : List code.LentMatched) where
+  get_in_first : (first : List code.LentMatched) (k : ℕ) → k < length first → slice_get (first ++ second) k ≡ slice_get first k
   get_in_first [] k within = absurd (omega arith)
   get_in_first (x ∷ xs) zero within = refl
   get_in_first (x ∷ xs) (suc k) within = get_in_first xs k (omega arith)
@@ -80,7 +80,7 @@ module _ (first second : List code.Matched) where
   pub at_first : (place k : ℕ) → place ≡ suc k → k < length first → at_place (first ++ second) place ≡ slice_get first k
   at_first place k is within = ap (at_place (first ++ second)) is ∙ get_in_first first k within
 
-  get_in_second : (first : List code.Matched) (n k : ℕ) → n ≡ length first + k → slice_get (first ++ second) n ≡ slice_get second k
+  get_in_second : (first : List code.LentMatched) (n k : ℕ) → n ≡ length first + k → slice_get (first ++ second) n ≡ slice_get second k
   get_in_second [] n k is = ap (slice_get second) (omega (arith, is))
   get_in_second (x ∷ xs) zero k is = absurd (omega (arith, is))
   get_in_second (x ∷ xs) (suc n) k is = get_in_second xs n k (omega (arith, is))
@@ -98,9 +98,9 @@ is_named (Longhand id) h = absurd (true≢false (sym h))
 is_named (Shorthand short) h = absurd (true≢false (sym h))
 is_named (Custom name) h = refl
 
-module _ (list : List code.Matched) (w : Places) (ds : List Matched) (are : AreWinners list w ds) where
+module _ (list : List code.LentMatched) (w : Places) (ds : List Matched) (are : AreWinners list w ds) where
   -- a declaration of a property is put among the winners
-  module _ (q : ℕ) (within : q < length table) (d : code.Matched) where
+  module _ (q : ℕ) (within : q < length table) (d : code.LentMatched) where
     pub put_one : (new : ℕ) → won (ds ++ entry_of q d ∷ []) q ≡ option_map (entry_of q) (at_place list new) → AreWinners list (with_winner w q new) (ds ++ entry_of q d ∷ [])
     put_one new wins =
         let (old, at) = slice_get_some w.rows q (omega (arith, within, are.long)) in
@@ -113,7 +113,7 @@ module _ (list : List code.Matched) (w : Places) (ds : List Matched) (are : AreW
         }
 
   -- one of a custom property changes nothing for the others
-  pub put_custom : (d : code.Matched) → is_of_custom d ≡ true → AreWinners list (record w { have_custom = true }) (ds ++ matched_of d)
+  pub put_custom : (d : code.LentMatched) → is_of_custom d ≡ true → AreWinners list (record w { have_custom = true }) (ds ++ lent_of d)
   put_custom d h =
       let same = λ (p : ℕ). winner_other (declares_longhand p) ds (head_of d) (not_longhand p d.declared.now.target h) in
       rw (matched_custom d h) (record {
@@ -136,7 +136,7 @@ unfolding winner
 nothing_won p = refl
 
 -- of no declarations none wins
-pub none_wins : (list : List code.Matched) (w : Places) → length w.rows ≡ length table → list_all (λ k. k == 0) w.rows ≡ true → w.declared ≡ [] → w.have_custom ≡ false → AreWinners list w []
+pub none_wins : (list : List code.LentMatched) (w : Places) → length w.rows ≡ length table → list_all (λ k. k == 0) w.rows ≡ true → w.declared ≡ [] → w.have_custom ≡ false → AreWinners list w []
 none_wins list w long none unset absent = record {
   long = long;
   best = λ p place at. nothing_won p ∙ ap (λ k. option_map (entry_of p) (at_place list k)) (sym (zero_at w.rows p place none at));

@@ -3,23 +3,23 @@ use Rattle.std.specs.Prelude.{◌≡◌, ℕ, ℤ, zero, suc, List, ◌++◌, Bo
 use Rattle.value_model.specs.Style.{Style}
 use Rattle.cascade_model.specs.Key as model
 use Rattle.cascade_model.specs.Cascade.{cascaded}
-use Rattle.cascade_core.specs.View.{matched_of}
+use Rattle.cascade_core.specs.View.{lent_of}
 use Rattle.cascade_core.specs.declared.declarations.Declarations.{Declarations}
-use Rattle.cascade_core.specs.declared.matched.Matched.{Matched}
+use Rattle.cascade_core.specs.declared.matched.LentMatched.{LentMatched}
 
 -- those of the rules, and after them those of the `style` attribute
-abbrev pub in_order : Declarations → List Matched
+abbrev pub in_order : Declarations → List LentMatched
 in_order declarations = declarations.matched.now ++ declarations.attached.now
 
 -- the same, where a declaration of a shorthand is one of each of its longhands
 abbrev pub all_matched : Declarations → List model.Matched
-all_matched declarations = flat_map matched_of (in_order declarations)
+all_matched declarations = flat_map lent_of (in_order declarations)
 
 -- the declaration at a place, which is its number from 1
-abbrev pub at_place : List Matched → ℕ → Option Matched
+abbrev pub at_place : List LentMatched → ℕ → Option LentMatched
 at_place list zero = None
 at_place list (suc index) = slice_get list index
 
--- the style by the declarations of a list, over that of the parent
-abbrev pub IsCascaded : Bool → Style → ℤ → List Matched → Style → Type 0
-IsCascaded is_root parent root_size list style = style ≡ cascaded is_root parent root_size (flat_map matched_of list)
+-- the style by these declarations, over that of the parent
+abbrev pub IsCascaded : Bool → Style → ℤ → List model.Matched → Style → Type 0
+IsCascaded is_root parent root_size list style = style ≡ cascaded is_root parent root_size list

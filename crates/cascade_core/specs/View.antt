@@ -11,46 +11,60 @@ use Rattle.shorthands.specs.View.{given_of, taker_of, declared_as, declared_of, 
 use Rattle.shorthands.specs.declared.declared.Declared.{Declared}
 use Rattle.shorthands.specs.declared.declared.Target.{Target}
 use Rattle.shorthands.specs.declared.declared.Target.TheVariants.{Longhand, Shorthand, Custom}
-use Rattle.cascade_core.specs.declared.matched.Matched.{Matched}
+use Rattle.cascade_core.specs.declared.matched.CascadePriority.{CascadePriority}
+use Rattle.cascade_core.specs.declared.matched.LentMatched.{LentMatched}
+use Rattle.cascade_core.specs.declared.held.HeldDeclaration.{HeldDeclaration}
+use Rattle.cascade_core.specs.declared.held.HeldDeclaration.TheVariants.{Lent, Owned}
+use Rattle.cascade_core.specs.declared.held.Matched.{Matched}
 use Rattle.cascade_core.specs.Rollback as rollback
 use Rattle.cascade_core.specs.declared.level.Level.{Level}
 use Rattle.cascade_core.specs.declared.rollback.RollbackBound.{RollbackBound}
 use Rattle.cascade_core.specs.declared.rollback.RollbackBound.TheVariants.{Unbounded, BelowOrigin, BelowLevel}
 
--- a declaration of a longhand or a custom property, as it applies at this place of its sheet's text
-abbrev pub applied : Matched → ℕ → said.Declared → model.Matched
-applied d index declared = record {
+-- a declaration of a longhand or a custom property, as it applies with this priority, at this place of its sheet's text
+abbrev pub applied : CascadePriority → ℕ → said.Declared → model.Matched
+applied priority index declared = record {
   target = declared.target;
   given = declared.given;
-  origin = origin_of d.origin;
+  origin = origin_of priority.origin;
   important = declared.important;
-  attached = d.attached;
-  layer = d.layer;
-  specificity = d.specificity;
-  sheet = d.sheet;
-  position = d.position;
+  attached = priority.attached;
+  layer = priority.layer;
+  specificity = priority.specificity;
+  sheet = priority.sheet;
+  position = priority.position;
   index = index;
 }
 
-abbrev pub all_applied : Matched → ℕ → List said.Declared → List model.Matched
-all_applied d index [] = []
-all_applied d index (declared ∷ others) = applied d index declared ∷ all_applied d (index + 1) others
+abbrev pub all_applied : CascadePriority → ℕ → List said.Declared → List model.Matched
+all_applied priority index [] = []
+all_applied priority index (declared ∷ others) =
+    applied priority index declared ∷ all_applied priority (index + 1) others
 
 -- one for each longhand that it sets, and one for a custom property
+abbrev pub lent_of : LentMatched → List model.Matched
+lent_of d = all_applied d.priority d.priority.index (declared_of d.declared.now)
+
+-- the declaration that is held
+abbrev pub held_of : HeldDeclaration → Declared
+held_of (Lent declared) = declared.now
+held_of (Owned declared) = declared
+
+-- those of a declaration that is held
 abbrev pub matched_of : Matched → List model.Matched
-matched_of d = all_applied d d.index (declared_of d.declared.now)
+matched_of d = all_applied d.priority d.priority.index (declared_of (held_of d.declared))
 
 -- the declared value of each of them
 abbrev pub given_in : Declared → said.Given
 given_in declared = given_of (taker_of declared.target) declared.given
 
 -- that of a target
-abbrev pub for_target : said.Target → ℕ → Matched → model.Matched
-for_target target index d = applied d index (declared_as d.declared.now target)
+abbrev pub for_target : said.Target → ℕ → LentMatched → model.Matched
+for_target target index d = applied d.priority index (declared_as d.declared.now target)
 
 -- that of a property
-abbrev pub entry_of : ℕ → Matched → model.Matched
-entry_of property d = for_target (longhand property) (d.index + offset_of d.declared.now property) d
+abbrev pub entry_of : ℕ → LentMatched → model.Matched
+entry_of property d = for_target (longhand property) (d.priority.index + offset_of d.declared.now property) d
 
 -- what all of them have in common, and the name of a custom property
 abbrev pub name_seen : Target → said.Target
@@ -58,14 +72,14 @@ name_seen (Longhand id) = longhand (property_of id)
 name_seen (Shorthand short) = longhand 0
 name_seen (Custom name) = custom name
 
-abbrev pub matched_placed : ℕ → Matched → model.Matched
+abbrev pub matched_placed : ℕ → LentMatched → model.Matched
 matched_placed index d = for_target (name_seen d.declared.now.target) index d
 
-abbrev pub head_of : Matched → model.Matched
-head_of d = matched_placed d.index d
+abbrev pub head_of : LentMatched → model.Matched
+head_of d = matched_placed d.priority.index d
 
 -- whether a property is among those that it sets
-abbrev pub is_among : ℕ → Matched → Bool
+abbrev pub is_among : ℕ → LentMatched → Bool
 is_among property d = list_any (λ other. other == property) (declared_longhands d.declared.now)
 
 abbrev pub is_custom_target : Target → Bool
@@ -73,7 +87,7 @@ is_custom_target (Longhand id) = false
 is_custom_target (Shorthand short) = false
 is_custom_target (Custom name) = true
 
-abbrev pub is_of_custom : Matched → Bool
+abbrev pub is_of_custom : LentMatched → Bool
 is_of_custom d = is_custom_target d.declared.now.target
 
 abbrev pub level_seen : Level → rollback.Level

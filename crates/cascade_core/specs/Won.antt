@@ -9,7 +9,7 @@ use Rattle.property_table.specs.PropertySet.{has_row}
 use Rattle.cascade_core.specs.Declarations.{at_place}
 use Rattle.cascade_core.specs.Names.{name_of}
 use Rattle.cascade_core.specs.View.{entry_of}
-use Rattle.cascade_core.specs.declared.matched.Matched.{Matched}
+use Rattle.cascade_core.specs.declared.matched.LentMatched.{LentMatched}
 use Rattle.cascade_core.specs.declared.places.Places.{Places}
 
 -- whether some declaration is of a custom property
@@ -21,7 +21,7 @@ abbrev pub won : List model.Matched → ℕ → Option model.Matched
 won ds property = winner (declares_longhand property) ds
 
 -- These are the places in the list of the winners among these declarations.
-pub record AreWinners (list : List Matched) (w : Places) (ds : List model.Matched) : Type 0 where
+pub record AreWinners (list : List LentMatched) (w : Places) (ds : List model.Matched) : Type 0 where
   -- a place for each property of the table
   pub long : length w.rows ≡ length table
   pub best : (p place : ℕ) → slice_get w.rows p ≡ Some place → won ds p ≡ option_map (entry_of p) (at_place list place)

@@ -1,6 +1,6 @@
 //! The style of an element over its parent's.
 
-ghost use Rattle.std.specs.Prelude.{◌≡◌, ◌++◌, IfOk, OnOk, length};
+ghost use Rattle.std.specs.Prelude.{◌≡◌, ◌++◌, IfOk, OnOk, flat_map, length};
 ghost use Rattle.std.specs.FinMap as finmap;
 ghost use Rattle.std.specs.Option.{unwrap_or};
 ghost use Rattle.cascade_model.specs.Cascade.{sizes, value_at, values_over};
@@ -9,10 +9,12 @@ ghost use Rattle.cascade_model.specs.Ending.{ending};
 ghost use Rattle.value_model.specs.Style.{font_size_of, font_weight_of, inherited_part, size_in};
 ghost use Rattle.value_model.specs.Table.{font_size_property, font_size_row, table};
 ghost use Rattle.value_model.specs.Value.{pixels};
-ghost use Rattle.cascade_core.specs.Declarations.{IsCascaded, in_order};
+ghost use Rattle.cascade_core.specs.Declarations.{IsCascaded, all_matched};
+ghost use Rattle.cascade_core.specs.View.{matched_of};
 
 use crate::computed::{ParentFont, ParentValues, Sizes, own_size, value_at};
 use crate::custom::changed_custom;
+use crate::held::all_lent;
 use crate::longhands::Longhands;
 use crate::winners::Winners;
 use crate::{Declarations, Matched};
@@ -36,9 +38,15 @@ pub fn cascade(
     root_size: Fixed,
     is_root: bool,
 ) -> Result<Style, NoMemory>
-    ensures { IfOk result (IsCascaded is_root parent.now root_size (matched.now ++ attached.now)) }
+    ensures { IfOk result (IsCascaded is_root parent.now root_size
+        (flat_map matched_of (matched.now ++ attached.now))) }
 {
-    let declarations = Declarations { matched, attached };
+    let matched = all_lent(alloc, matched)?;
+    let attached = all_lent(alloc, attached)?;
+    let declarations = Declarations {
+        matched: &matched,
+        attached: &attached,
+    };
     cascade_draft(alloc, declarations, parent, root_size, is_root)?.finish(alloc)
 }
 
@@ -51,7 +59,7 @@ pub fn cascade_draft(
     root_size: Fixed,
     is_root: bool,
 ) -> Result<StyleDraft, NoMemory>
-    ensures { IfOk result (IsCascaded is_root parent.now root_size (in_order declarations.entry)) }
+    ensures { IfOk result (IsCascaded is_root parent.now root_size (all_matched declarations.entry)) }
 {
     let winners = Winners::of(declarations)?;
     let mut draft = StyleDraft::inheriting(alloc, parent)?;

@@ -16,7 +16,7 @@ use crate::cascaded_value::CascadedValue;
 use crate::custom_declarations::CustomDeclarations;
 use crate::names::{run_length, sorted_by_name};
 use crate::rollback::walk;
-use crate::{Declarations, Matched};
+use crate::{Declarations, LentMatched};
 use css_tokens::CustomMap;
 use css_writer::custom_declarations;
 use custom_properties::{DeclaredEntry, DeclaredMap, changed};
@@ -54,7 +54,7 @@ fn printed(alloc: Global, map: CustomMap) -> Result<Custom, NoMemory>
 /// The cascaded value of each name that has one of its own, in the order of the names.
 fn declared_entries<'a>(
     alloc: Global,
-    list: &[Matched<'a>],
+    list: &[LentMatched<'a>],
 ) -> Result<Vec<DeclaredEntry<'a>>, NoMemory>
     requires { NamesRise (map head_of list.now) }
     ensures sorted { IfOk result (λ entries.
@@ -78,7 +78,10 @@ fn declared_entries<'a>(
 
 /// The cascaded value of a name, where these are its declarations from the greatest down. None: it
 /// inherits.
-fn entry_of<'a>(alloc: Global, run: &[Matched<'a>]) -> Result<Option<DeclaredEntry<'a>>, NoMemory>
+fn entry_of<'a>(
+    alloc: Global,
+    run: &[LentMatched<'a>],
+) -> Result<Option<DeclaredEntry<'a>>, NoMemory>
     ensures { IfOk result (λ entry. option_map declared_entry entry ≡ run_entry (map head_of run.now)) }
 {
     let Some(first) = run.first() else {

@@ -3,11 +3,11 @@
 ghost use Rattle.std.specs.Prelude.{◌≡◌, ◌∷◌, [], ◌++◌, IfOk, OnOk, filter, map, if◌then◌else◌};
 ghost use Rattle.property_table.specs.View.{property_of};
 ghost use Rattle.cascade_core.specs.Declarations.{all_matched};
-ghost use Rattle.cascade_core.specs.View.{is_among, matched_of};
+ghost use Rattle.cascade_core.specs.View.{is_among, lent_of};
 ghost use Rattle.cascade_core.specs.Wanted.{entry_by, wanted_by};
 
 use crate::matched::is_custom;
-use crate::{Declarations, Matched};
+use crate::{Declarations, LentMatched};
 use property_table::PropId;
 use std::alloc::Global;
 use std::slice;
@@ -24,8 +24,8 @@ pub(crate) enum Wanted {
 
 impl Wanted {
     /// Whether a declaration is wanted.
-    pub(crate) fn takes(self, d: &Matched<'_>) -> bool
-        ensures { filter (wanted_by self) (matched_of d.now)
+    pub(crate) fn takes(self, d: &LentMatched<'_>) -> bool
+        ensures { filter (wanted_by self) (lent_of d.now)
             ≡ (if result then entry_by self d.now ∷ [] else []) }
     {
         match self {
@@ -36,7 +36,7 @@ impl Wanted {
 }
 
 /// Whether a declaration sets the property.
-fn sets(d: &Matched<'_>, id: PropId) -> bool
+fn sets(d: &LentMatched<'_>, id: PropId) -> bool
     ensures { result ≡ is_among (property_of id) d.now }
 {
     d.declared.longhands().contains(&id)
@@ -47,7 +47,7 @@ pub(crate) fn gathered<'a>(
     alloc: Global,
     declarations: Declarations<'a>,
     wanted: Wanted,
-) -> Result<Vec<Matched<'a>>, NoMemory>
+) -> Result<Vec<LentMatched<'a>>, NoMemory>
     ensures { IfOk result (λ list. map (entry_by wanted) list.items
         ≡ filter (wanted_by wanted) (all_matched declarations.entry)) }
 {
@@ -62,9 +62,13 @@ pub(crate) fn gathered<'a>(
 }
 
 /// Adds a declaration, if it is wanted.
-fn add<'a>(list: &mut Vec<Matched<'a>>, d: &'a Matched<'a>, wanted: Wanted) -> Result<(), NoMemory>
+fn add<'a>(
+    list: &mut Vec<LentMatched<'a>>,
+    d: &'a LentMatched<'a>,
+    wanted: Wanted,
+) -> Result<(), NoMemory>
     ensures { OnOk result (map (entry_by wanted) list.new.items ≡ map (entry_by wanted) list.old.items
-        ++ filter (wanted_by wanted) (matched_of d.now)) }
+        ++ filter (wanted_by wanted) (lent_of d.now)) }
 {
     if wanted.takes(d) {
         list.extend_from_slice(slice::from_ref(d))?;

@@ -4,7 +4,7 @@ ghost use Rattle.std.specs.Prelude.{◌≡◌};
 ghost use Rattle.cascade_core.specs.Rollback.{compare_level, level_of};
 ghost use Rattle.cascade_core.specs.View.{head_of, level_seen};
 
-use crate::Matched;
+use crate::LentMatched;
 use layer_order::Origin;
 use std::cmp::Ordering;
 
@@ -18,13 +18,13 @@ pub(crate) struct Level {
 
 impl Level {
     /// The level of a declaration.
-    pub(crate) fn of(d: &Matched<'_>) -> Level
+    pub(crate) fn of(d: &LentMatched<'_>) -> Level
         ensures { level_seen result ≡ level_of (head_of d.now) }
     {
         Level {
-            origin: d.origin,
-            attached: d.attached,
-            layer: d.layer,
+            origin: d.priority.origin,
+            attached: d.priority.attached,
+            layer: d.priority.layer,
         }
     }
 

@@ -5,7 +5,8 @@
 //! winner is `revert` or `revert-layer`, or comes to one of these, the declarations of its property are sorted, once,
 //! from the greatest down, and walked under a `RollbackBound`: what is asked still (`rolled_back`).
 //!
-//! A `Matched` lends its declaration: from its rule, or from the list that was read from the `style` attribute.
+//! A `LentMatched` lends its declaration: from its rule, or from the list that was read from the `style` attribute. A
+//! `Matched` may own it, and is kept for longer than that list.
 #![tactic(auto)]
 
 mod cascaded_style;
@@ -15,6 +16,7 @@ mod custom;
 mod custom_declarations;
 mod declarations;
 mod gathered;
+mod held;
 mod level;
 mod longhands;
 mod matched;
@@ -28,4 +30,5 @@ mod winners;
 
 pub use cascaded_style::{cascade, cascade_draft};
 pub use declarations::Declarations;
-pub use matched::Matched;
+pub use held::{HeldDeclaration, Matched};
+pub use matched::{CascadePriority, LentMatched};

@@ -7,7 +7,7 @@ ghost use Rattle.cascade_core.specs.View.{head_of};
 
 use crate::gathered::{Wanted, gathered};
 use crate::matched::compare;
-use crate::{Declarations, Matched};
+use crate::{Declarations, LentMatched};
 use css_tokens::CustomName;
 use shorthands::Target;
 use std::alloc::Global;
@@ -19,12 +19,12 @@ use stylo_base::NoMemory;
 pub(crate) fn sorted_by_name<'a>(
     alloc: Global,
     declarations: Declarations<'a>,
-) -> Result<Vec<Matched<'a>>, NoMemory>
+) -> Result<Vec<LentMatched<'a>>, NoMemory>
     ensures { IfOk result (λ list. AreByName (all_matched declarations.entry) (map head_of list.items)) }
 {
     let mut list = gathered(alloc, declarations, Wanted::Custom)?;
     list.sort_by(
-        |a: &Matched<'_>, b: &Matched<'_>| -> Ordering
+        |a: &LentMatched<'_>, b: &LentMatched<'_>| -> Ordering
             ensures { result ≡ by_name (head_of a.now) (head_of b.now) }
         { compare_names(a, b).then(compare(b, a)) },
     )?;
@@ -32,7 +32,7 @@ pub(crate) fn sorted_by_name<'a>(
 }
 
 /// How many declarations at the beginning are of one name.
-pub(crate) fn run_length(list: &[Matched<'_>]) -> usize
+pub(crate) fn run_length(list: &[LentMatched<'_>]) -> usize
     ensures within { result ≤ length list.now }
     ensures some { 0 < length list.now → 0 < result }
     ensures run { is_run (map head_of (take result list.now)) (map head_of (drop result list.now)) ≡ true }
@@ -49,7 +49,7 @@ pub(crate) fn run_length(list: &[Matched<'_>]) -> usize
 }
 
 /// Which name comes first, in the order of their characters. A property of the table has none.
-fn compare_names(a: &Matched<'_>, b: &Matched<'_>) -> Ordering
+fn compare_names(a: &LentMatched<'_>, b: &LentMatched<'_>) -> Ordering
     ensures { result ≡ compare_names (head_of a.now) (head_of b.now) }
 {
     match (name_of(a), name_of(b)) {
@@ -61,7 +61,7 @@ fn compare_names(a: &Matched<'_>, b: &Matched<'_>) -> Ordering
 }
 
 /// The name, where it is of a custom property.
-fn name_of<'a>(d: &Matched<'a>) -> Option<&'a CustomName>
+fn name_of<'a>(d: &LentMatched<'a>) -> Option<&'a CustomName>
     ensures { option_copied result ≡ name_of (head_of d.now) }
 {
     match &d.declared.target {

@@ -4,11 +4,11 @@ ghost use Rattle.std.specs.Prelude.{◌≡◌, ◌∷◌, [], ◌++◌, ◌+◌,
 ghost use Rattle.cascade_model.specs.Key.{Matched as Declaration};
 ghost use Rattle.property_table.specs.View.{property_of};
 ghost use Rattle.cascade_core.specs.Declarations.{all_matched, at_place, in_order};
-ghost use Rattle.cascade_core.specs.View.{entry_of, matched_of};
+ghost use Rattle.cascade_core.specs.View.{entry_of, lent_of};
 ghost use Rattle.cascade_core.specs.Won.{AreWinners, won};
 
 use crate::matched::{compare_for, is_custom};
-use crate::{Declarations, Matched};
+use crate::{Declarations, LentMatched};
 use property_table::{COUNT, PropId, PropertySet};
 use stylo_base::NoMemory;
 
@@ -66,7 +66,7 @@ impl Places {
 
     /// No declaration was added.
     fn none() -> Places
-        ensures { (list : List Matched) → AreWinners list result [] }
+        ensures { (list : List LentMatched) → AreWinners list result [] }
     {
         Places {
             rows: [0; COUNT],
@@ -76,10 +76,10 @@ impl Places {
     }
 
     /// Adds the declaration at a place. A shorthand's counts as one for each of its longhands.
-    fn add(&mut self, declarations: Declarations<'_>, place: u32, d: &Matched<'_>)
+    fn add(&mut self, declarations: Declarations<'_>, place: u32, d: &LentMatched<'_>)
         requires { at_place (in_order declarations) place ≡ Some d.now }
         ensures { (ds : List Declaration) → AreWinners (in_order declarations.entry) self.old ds
-            → AreWinners (in_order declarations.entry) self.new (ds ++ matched_of d.now) }
+            → AreWinners (in_order declarations.entry) self.new (ds ++ lent_of d.now) }
     {
         if is_custom(d) {
             self.have_custom = true;
@@ -92,7 +92,7 @@ impl Places {
     }
 
     /// Adds the declaration at a place as one of this property.
-    fn put(&mut self, declarations: Declarations<'_>, id: PropId, place: u32, d: &Matched<'_>)
+    fn put(&mut self, declarations: Declarations<'_>, id: PropId, place: u32, d: &LentMatched<'_>)
         requires { at_place (in_order declarations) place ≡ Some d.now }
         ensures { (ds : List Declaration) → AreWinners (in_order declarations.entry) self.old ds
             → AreWinners (in_order declarations.entry) self.new (ds ++ entry_of (property_of id) d.now ∷ []) }
@@ -103,7 +103,13 @@ impl Places {
     }
 
     /// The place of the winner of a property once the declaration at `place` is added to it.
-    fn better(&self, declarations: Declarations<'_>, id: PropId, place: u32, d: &Matched<'_>) -> u32
+    fn better(
+        &self,
+        declarations: Declarations<'_>,
+        id: PropId,
+        place: u32,
+        d: &LentMatched<'_>,
+    ) -> u32
         requires { at_place (in_order declarations) place ≡ Some d.now }
         ensures { (ds : List Declaration) → let property = property_of id in
             let list = in_order declarations.entry in

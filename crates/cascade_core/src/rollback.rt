@@ -19,7 +19,7 @@ use crate::longhands::Longhands;
 use crate::matched::compare_for;
 use crate::substituted_value::SubstitutedValue;
 use crate::substitution::Substitution;
-use crate::{Declarations, Matched};
+use crate::{Declarations, LentMatched};
 use css_tokens::Wide;
 use layer_order::Origin;
 use property_table::{PropId, Value};
@@ -40,22 +40,22 @@ pub(crate) enum RollbackBound {
 
 impl RollbackBound {
     /// How far a declaration takes the cascade back, whose value is `revert-layer` or `revert`.
-    fn by<V: Copy>(d: &Matched<'_>, substituted: SubstitutedValue<V>) -> RollbackBound
+    fn by<V: Copy>(d: &LentMatched<'_>, substituted: SubstitutedValue<V>) -> RollbackBound
         ensures { bound_seen result ≡ bound_by (head_of d.now) (substituted_seen (λ v. v) substituted) }
     {
         match substituted {
             SubstitutedValue::Keyword(Wide::RevertLayer) => RollbackBound::BelowLevel(Level::of(d)),
-            _ => RollbackBound::BelowOrigin(d.origin),
+            _ => RollbackBound::BelowOrigin(d.priority.origin),
         }
     }
 
     /// Whether a declaration is left.
-    fn keeps(self, d: &Matched<'_>) -> bool
+    fn keeps(self, d: &LentMatched<'_>) -> bool
         ensures { result ≡ keeps (bound_seen self) (head_of d.now) }
     {
         match self {
             RollbackBound::Unbounded => true,
-            RollbackBound::BelowOrigin(origin) => d.origin.rank() < origin.rank(),
+            RollbackBound::BelowOrigin(origin) => d.priority.origin.rank() < origin.rank(),
             RollbackBound::BelowLevel(level) => Level::of(d).compare(level).is_lt(),
         }
     }
@@ -82,14 +82,14 @@ fn descending<'a>(
     alloc: Global,
     declarations: Declarations<'a>,
     id: PropId,
-) -> Result<Vec<Matched<'a>>, NoMemory>
+) -> Result<Vec<LentMatched<'a>>, NoMemory>
     ensures { IfOk result (λ list. Descends
         (filter (declares_longhand (property_of id)) (all_matched declarations.entry))
         (map (entry_of (property_of id)) list.items)) }
 {
     let mut list = gathered(alloc, declarations, Wanted::Property(id))?;
     list.sort_by(
-        |a: &Matched<'_>, b: &Matched<'_>| -> Ordering
+        |a: &LentMatched<'_>, b: &LentMatched<'_>| -> Ordering
             ensures { result ≡ key_cmp (entry_of (property_of id) b.now) (entry_of (property_of id) a.now) }
         { compare_for(id, b, a) },
     )?;
@@ -100,7 +100,7 @@ fn descending<'a>(
 /// greatest down.
 pub(crate) fn walk<'a, S: Substitution<'a>>(
     alloc: Global,
-    list: &[Matched<'a>],
+    list: &[LentMatched<'a>],
     substitution: &mut S,
 ) -> Result<CascadedValue<S::Value>, NoMemory>
     ensures same { substitution.new ≡ substitution.old }

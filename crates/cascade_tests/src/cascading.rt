@@ -1,6 +1,6 @@
 //! The cascade.
 
-use cascade_core::{Matched, cascade};
+use cascade_core::{CascadePriority, HeldDeclaration, Matched, cascade};
 use css_tokens::Wide;
 use layer_order::Origin;
 use property_table::{Keyword, PropId, Value, initial_size};
@@ -27,14 +27,16 @@ fn display(keyword: Keyword) -> Declared {
 /// what a rule with the selector `*` in an author's sheet declares, in the layer of this rank
 fn by_rule(declared: &Declared, layer: u32) -> Matched<'_> {
     Matched {
-        declared,
-        origin: Origin::Author,
-        attached: false,
-        layer,
-        specificity: Specificity::new(0, 0, 0),
-        sheet: 1,
-        position: 0,
-        index: 0,
+        declared: HeldDeclaration::Lent(declared),
+        priority: CascadePriority {
+            origin: Origin::Author,
+            attached: false,
+            layer,
+            specificity: Specificity::new(0, 0, 0),
+            sheet: 1,
+            position: 0,
+            index: 0,
+        },
     }
 }
 
