@@ -67,7 +67,7 @@ texts_named (id ∷ ids) words = ap (λ l. id ∷ l) (texts_named ids words)
 turned_text : (a b : Characters) → same_text a b ≡ true → same_text b a ≡ true
 turned_text a b e = (bytes_eq-Decides b a).1 (sym ((bytes_eq-Decides a b).0 e))
 
-id_named : (name : Characters) (o : Option Characters) → option_map_or (is_id name) o false ≡ true → list_any (same_text name) (option_to_list (option_and_then id_text o)) ≡ true
+pub id_named : (name : Characters) (o : Option Characters) → option_map_or (is_id name) o false ≡ true → list_any (same_text name) (option_to_list (option_and_then id_text o)) ≡ true
 id_named name None h = absurd (false≢true h)
 id_named name (Some value) h = by (is_empty_text value) h
   where
