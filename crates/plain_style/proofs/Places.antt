@@ -8,7 +8,7 @@ use Rattle.std.proofs.Math.Seq.{take-suc}
 use Rattle.scene_model.proofs.Numbers.{is_in, same_number}
 use Rattle.value_model.specs.Style.{Style}
 use Rattle.plain_style.specs.Known.{style_at}
-use Rattle.plain_style.proofs.CacheLemmas.{kept_at}
+use Rattle.element_styler.proofs.CacheLemmas.{kept_at}
 
 or_cases : (b a : Bool) → (a || (b || false)) ≡ true → b ≡ false → a ≡ true
 or_cases b true h none = refl

@@ -12,8 +12,8 @@ use Rattle.cascade_model.specs.Cascade.{cascaded}
 use Rattle.cascade_model.specs.StyleOf.{root_of, root_size_at, root_size_of, style_of}
 use Rattle.cascade_model.proofs.StyleAlong.{parent_of-root, style_of-root}
 use Rattle.plain_style.specs.Known.{KnowsRoot}
-use Rattle.plain_style.specs.declared.styler.RootStyle.{RootStyle}
-use Rattle.plain_style.proofs.CacheLemmas.{kept_at}
+use Rattle.element_styler.specs.declared.styler.RootStyle.{RootStyle}
+use Rattle.element_styler.proofs.CacheLemmas.{kept_at}
 
 -- the first of the numbers in tree order, if there is one
 pub root_there : (doc : List Element) (order : List ℕ) (x : ℕ) → order ≡ numbers doc → 0 < length order → x ≡ get_or order 0 0 → root_of doc ≡ Some x

@@ -5,7 +5,7 @@ use Rattle.scene_model.specs.Lookups.{parent_of}
 use Rattle.value_model.specs.Style.{Style}
 use Rattle.sheet_model.specs.Sources.{Sources}
 use Rattle.cascade_model.specs.StyleOf.{root_of, root_size_of, style_of}
-use Rattle.plain_style.specs.declared.styler.RootStyle.{RootStyle}
+use Rattle.element_styler.specs.declared.styler.RootStyle.{RootStyle}
 
 -- the style of a number, at the place that is kept for it
 abbrev pub style_at : List Style → List ℕ → ℕ → Option Style

@@ -1,5 +1,1 @@
-pub mod Cache
-pub mod Fits
 pub mod Known
-pub mod MatchedRules
-pub mod Prepared

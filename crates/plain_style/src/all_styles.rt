@@ -5,12 +5,11 @@ ghost use Rattle.sheet_set.specs.View.{sources_seen};
 ghost use Rattle.std.specs.Arc.{arc_value};
 ghost use Rattle.cascade_model.specs.StyleOf.{style_of};
 ghost use Rattle.scene_model.specs.Lookups.{IsElement, numbers};
+ghost use Rattle.element_styler.specs.Follows.{Serves};
 ghost use Rattle.plain_style.specs.Known.{KnowsParent, KnowsRoot, style_at};
-ghost use Rattle.plain_style.specs.Fits.{Fits};
 
-use crate::prepared::{Inputs, Prepared};
-use crate::styler::{RootStyle, Styler};
 use dom_tree::Doc;
+use element_styler::{Inputs, Prepared, RootStyle, Styler};
 use sheet_set::Sheets;
 use std::alloc::Global;
 use std::sync::Arc;
@@ -36,6 +35,7 @@ pub fn style_all(alloc: Global, doc: &Doc, sheets: &Sheets) -> Result<Vec<Arc<St
         return Ok(Vec::new(alloc));
     };
     let mut styler = Styler::start(alloc, SLOTS)?;
+    styler.begin(prepared.asks_ancestors());
     let root = styler.root(&inputs, *first)?;
     styles_in_order(&inputs, &mut styler, root)
 }
@@ -46,7 +46,7 @@ fn styles_in_order(
     styler: &mut Styler,
     root: RootStyle,
 ) -> Result<Vec<Arc<Style>>, NoMemory>
-    requires fits { Fits (sources_seen inputs.now.sheets.now) root.size inputs.now.prepared.now styler.old }
+    requires serves { Serves inputs.now root.size styler.old }
     requires root { KnowsRoot inputs.now.doc.now.elements (sources_seen inputs.now.sheets.now)
         styler.old.table root }
     ensures { IfOk result (λ styles. map arc_value styles.items
@@ -76,13 +76,13 @@ fn style_number(
     requires element { IsElement inputs.now.doc.now.elements number }
     requires parent { KnowsParent inputs.now.doc.now.elements (sources_seen inputs.now.sheets.now)
         (style_at styler.old.table known.now) number }
-    requires fits { Fits (sources_seen inputs.now.sheets.now) root.size inputs.now.prepared.now styler.old }
+    requires serves { Serves inputs.now root.size styler.old }
     requires root { KnowsRoot inputs.now.doc.now.elements (sources_seen inputs.now.sheets.now)
         styler.old.table root }
     ensures style { IfOk result (λ style. slice_get styler.new.table style
         ≡ Some (style_of inputs.now.doc.now.elements (sources_seen inputs.now.sheets.now) number)) }
     ensures kept { take (length styler.old.table) styler.new.table ≡ styler.old.table }
-    ensures fits { Fits (sources_seen inputs.now.sheets.now) root.size inputs.now.prepared.now styler.new }
+    ensures serves { Serves inputs.now root.size styler.new }
 {
     match inputs.doc.parent(number) {
         Some(parent) => styler.child(inputs, number, known[parent as usize], root.size),

@@ -23,7 +23,7 @@ use Rattle.css_tokens.specs.contracts.custom.map.CustomMap as CustomMap
 use Rattle.style_value.specs.contracts.style.Style as Style
 use Rattle.style_value.specs.contracts.value_columns.ValueColumns as ValueColumns
 use Rattle.style_value.specs.contracts.custom.Custom as Custom
-use Rattle.plain_style.specs.contracts.prepared.Prepared as Prepared
+use Rattle.element_styler.specs.contracts.prepared.Prepared as Prepared
 use Rattle.invalidation_map.specs.contracts.edit_sets.EditSets as EditSets
 use Rattle.invalidation_map.specs.contracts.element_set.ElementSet as ElementSet
 use Rattle.invalidation_map.specs.contracts.rows.InvalidationMap as InvalidationMap

@@ -13,7 +13,7 @@ use Rattle.scene_model.proofs.Found.{is_element-numbers}
 use Rattle.value_model.specs.Style.{Style}
 use Rattle.dom_tree.proofs.Places.{get_set_same, get_set_other}
 use Rattle.session_model.specs.Standing.{root_size_in, style_in}
-use Rattle.plain_style.proofs.CacheLemmas.{kept_at as kept_in}
+use Rattle.element_styler.proofs.CacheLemmas.{kept_at as kept_in}
 use Rattle.style_session.specs.FirstWalking.{AreAll, AreKept, IsBareFirst, IsFirstWalk, IsRight, Keeps, finished, place_of, unknown}
 use Rattle.style_session.specs.KeptView.{KeptView, slot_at, style_at}
 use Rattle.style_session.specs.declared.derived.StyleCache.{StyleCache}

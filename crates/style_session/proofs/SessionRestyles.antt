@@ -16,9 +16,9 @@ use Rattle.scene_model.proofs.Lists.{filter-map}
 use Rattle.invalidation_map.specs.Steps.{HasRoom}
 use Rattle.sheet_model.specs.Sources.{Sources}
 use Rattle.sheet_set.specs.View.{sources_seen}
-use Rattle.plain_style.specs.Fits.{Fits}
-use Rattle.plain_style.specs.Prepared.{IsPrepared}
-use Rattle.plain_style.specs.declared.prepared.Prepared.{Prepared}
+use Rattle.element_styler.specs.Fits.{Fits}
+use Rattle.element_styler.specs.Prepared.{IsPrepared}
+use Rattle.element_styler.specs.declared.prepared.Prepared.{Prepared}
 use Rattle.session_model.specs.Standing.{Standing, kept_at, restyled}
 use Rattle.session_model.specs.StandingInvariant.{IsReached, by_restyle}
 use Rattle.session_model.specs.Walk as walk

@@ -1,5 +1,5 @@
 -- For `edit_sheets` and `Session::edit`: edits of the style sheets of a session.
-use Rattle.std.proofs.Common.{◌≡◌, ℕ, ◌<◌, List, filter, Bool, true, false, Option, None, Some, Result, Ok, Err, OnOk, OnErr, ◌||◌, ◌&&◌}
+use Rattle.std.proofs.Common.{◌≡◌, ℕ, ◌<◌, List, filter, Bool, false, Option, None, Some, Result, Ok, Err, OnOk, OnErr, ◌||◌}
 use Rattle.std.proofs.Common.{refl, sym, ap, subst, ◌∙◌, option_map, unwrap_or, arith}
 use Rattle.std.specs.Prelude.{IfErr}
 use Rattle.std.specs.Result.{IsErrAnd}

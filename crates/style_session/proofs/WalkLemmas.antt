@@ -29,10 +29,11 @@ use Rattle.session_model.specs.Standing.{Standing, has_size, is_cascaded, is_mat
 use Rattle.session_model.specs.Walk.{Styled, results}
 use Rattle.scene_model.proofs.Lists.{each_weaker}
 use Rattle.session_model.proofs.KeepsLemmas.{is_style-own}
-use Rattle.plain_style.proofs.CacheLemmas.{kept_at as kept_in}
+use Rattle.element_styler.proofs.CacheLemmas.{kept_at as kept_in}
 use Rattle.style_session.specs.Answers.{styled_seen}
 use Rattle.style_session.specs.Laws.{styled_now}
 use Rattle.style_session.specs.FirstWalking.{unknown}
+use Rattle.style_session.specs.Lent.{KeepsTable}
 use Rattle.style_session.specs.Walking.{known_at, some_style, HandsOn, HasMet, IsBare, IsMet, IsParentMet, IsWalk, Learns, Meets, Widens}
 use Rattle.style_session.specs.declared.derived.StyleCache.{StyleCache}
 use Rattle.style_session.specs.declared.walk.Walk.{Walk}
@@ -230,6 +231,17 @@ walk-grown st was now walk kept size w = record {
   due = w.due;
   all = w.all;
   size = size ∙ w.size;
+}
+
+-- the same table
+pub walk-same : (st : Standing) (was now : StyleCache) (walk : Walk) → KeepsTable was now → IsWalk st was walk → IsWalk st now walk
+walk-same st was now walk same w = record {
+  room = w.room;
+  due_room = w.due_room;
+  known = λ x style is. ap (λ l. slice_get l style) same.table ∙ w.known x style is;
+  due = w.due;
+  all = w.all;
+  size = same.size ∙ w.size;
 }
 
 -- what was handed on changes nothing of it

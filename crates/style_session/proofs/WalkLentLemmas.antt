@@ -18,6 +18,11 @@ use Rattle.cascade_model.specs.Cascade.{cascaded}
 use Rattle.cascade_model.specs.Matching.{matching}
 use Rattle.cascade_model.specs.StyleOf.{root_of, root_size_at, root_size_of, style_of}
 use Rattle.cascade_model.proofs.StyleAlong.{parent_of-root, root_size_of-root, style_of-child, style_of-root}
+use Rattle.sheet_set.specs.View.{sources_seen}
+use Rattle.element_styler.specs.Fits.{Fits}
+use Rattle.element_styler.specs.Follows.{Follows}
+use Rattle.element_styler.specs.declared.prepared.Inputs.{Inputs}
+use Rattle.element_styler.specs.declared.prepared.Prepared.{Prepared}
 use Rattle.session_model.specs.Same.{same_style}
 use Rattle.session_model.specs.Standing.{is_cascaded, is_matched, is_style, kept_at, root_size_differs, style_in}
 use Rattle.session_model.specs.StandingInvariant.{AllKeep}
@@ -28,9 +33,10 @@ use Rattle.session_model.proofs.SameLemmas.{same_style-Decides}
 use Rattle.session_model.proofs.SlotLemmas.{listed-placed}
 use Rattle.session_model.proofs.WalkLemmas.{results-now}
 use Rattle.style_session.specs.KeptView.{style_at}
-use Rattle.style_session.specs.Lent.{lent}
+use Rattle.style_session.specs.Lent.{ServesInputs, lent}
 use Rattle.style_session.specs.PendingView.{is_fresh_in, is_pending_in}
 use Rattle.style_session.specs.SessionView.{scene_seen}
+use Rattle.style_session.specs.declared.derived.StyleCache.{StyleCache}
 use Rattle.style_session.specs.declared.lists.Lists.{Lists}
 use Rattle.style_session.proofs.SessionLemmas.{matched-with}
 use Rattle.style_session.proofs.WalkLemmas.{AreCascaded}
@@ -122,6 +128,15 @@ pub lent-results : (lists : Lists) → AreCascaded (lent lists)
 lent-results lists =
     let st = lent lists in
     ∥∥₁_elim lists.keeps (Coded-set (coded_list styled_code) _ _) (λ (all : AllKeep st). results-now st lists.sound.valid all)
+
+-- what serves still does where no less is right of the styles, and the ancestors are the same
+pub serves-more : (inputs : Inputs) (was now : StyleCache)
+    → ((sources : Sources) (prepared : Prepared) → Fits sources was.size prepared was.styler → Fits sources now.size prepared now.styler)
+    → now.styler.above ≡ was.styler.above → ServesInputs inputs was → ServesInputs inputs now
+serves-more inputs was now more same serves = record {
+  fits = more (sources_seen inputs.sheets.now) inputs.prepared.now serves.fits;
+  follows = subst (Follows inputs.doc.now.elements) (sym same) serves.follows;
+}
 
 -- each other element is styled over its parent
 pub child-over : (doc : List Element) (seen sources : Sources) (size : ℤ) (x p : ℕ) → ∥ seen ≡ sources ∥₁ → IsValid doc → parent_of doc x ≡ Some p → size ≡ root_size_of doc sources

@@ -10,7 +10,7 @@ use Rattle.scene_model.specs.Scene.{Scene, elements_of}
 use Rattle.change_model.specs.Sound.{IsSound}
 use Rattle.value_model.specs.Style.{Style}
 use Rattle.invalidation_map.specs.Steps.{HasRoom}
-use Rattle.plain_style.specs.declared.prepared.Inputs.{Inputs}
+use Rattle.element_styler.specs.declared.prepared.Inputs.{Inputs}
 use Rattle.session_model.specs.Standing.{root_size_in, style_in}
 use Rattle.style_session.specs.KeptView.{KeptView, slot_at, style_at}
 use Rattle.style_session.specs.Lent.{IsRoot, scene_lent}

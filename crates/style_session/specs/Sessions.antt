@@ -7,9 +7,9 @@ use Rattle.scene_model.specs.Numbers.{is_in}
 use Rattle.change_model.specs.Sound.{IsSound}
 use Rattle.sheet_model.specs.Sources.{Sources}
 use Rattle.sheet_set.specs.View.{sources_seen}
-use Rattle.plain_style.specs.Fits.{Fits}
-use Rattle.plain_style.specs.Prepared.{IsPrepared}
-use Rattle.plain_style.specs.declared.prepared.Prepared.{Prepared}
+use Rattle.element_styler.specs.Fits.{Fits}
+use Rattle.element_styler.specs.Prepared.{IsPrepared}
+use Rattle.element_styler.specs.declared.prepared.Prepared.{Prepared}
 use Rattle.invalidation_map.specs.Rows.{rows_of}
 use Rattle.invalidation_map.specs.RowView.{rows_in}
 use Rattle.invalidation_map.specs.declared.rows.InvalidationMap.{InvalidationMap}

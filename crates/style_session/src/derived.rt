@@ -3,13 +3,13 @@
 ghost use Rattle.std.specs.Prelude.{◌≡◌, IfOk, IsSome, OnOk};
 ghost use Rattle.sheet_model.specs.Sources.{Sources};
 ghost use Rattle.sheet_set.specs.View.{sources_seen};
-ghost use Rattle.plain_style.specs.Fits.{Fits};
-ghost use Rattle.plain_style.specs.declared.prepared.Prepared.{Prepared};
-ghost use Rattle.style_session.specs.Lent.{FitsInputs, IsFor, IsRoot, IsRootStyle};
+ghost use Rattle.element_styler.specs.Fits.{Fits};
+ghost use Rattle.element_styler.specs.declared.prepared.Prepared.{Prepared};
+ghost use Rattle.style_session.specs.Lent.{FitsInputs, IsFor, IsRoot, IsRootStyle, KeepsTable, ServesInputs};
 ghost use Rattle.style_session.specs.Sessions.{AreReady, KnowsNothing};
 
+use element_styler::{Inputs, Prepared, RootStyle, Styler};
 use invalidation_map::InvalidationMap;
-use plain_style::{Inputs, Prepared, RootStyle, Styler};
 use sheet_set::Sheets;
 use std::alloc::Global;
 use std::sync::Arc;
@@ -103,7 +103,7 @@ impl StyleCache {
     }
 
     /// Forgets all where it has become large.
-    pub(crate) fn limit(&mut self)
+    fn limit(&mut self)
         ensures { (sources : Sources) (prepared : Prepared)
             → Fits sources self.old.size prepared self.old.styler
             → Fits sources self.new.size prepared self.new.styler }
@@ -113,13 +113,35 @@ impl StyleCache {
         }
     }
 
+    /// Begins a restyle, which filters from the first element on or not. Where it has become large, it forgets all. It
+    /// takes no memory.
+    pub(crate) fn begin(&mut self, inputs: &Inputs<'_>, filters: bool)
+        requires { FitsInputs inputs.now self.old }
+        ensures { ServesInputs inputs.now self.new }
+    {
+        self.limit();
+        self.styler
+            .begin(filters && inputs.prepared.asks_ancestors());
+    }
+
+    /// From here on it filters, if it is time. It takes no memory.
+    pub(crate) fn filter_if(&mut self, inputs: &Inputs<'_>, is_time: bool)
+        requires { ServesInputs inputs.now self.old }
+        ensures serves { ServesInputs inputs.now self.new }
+        ensures kept { KeepsTable self.old self.new }
+    {
+        if is_time {
+            self.styler.begin(inputs.prepared.asks_ancestors());
+        }
+    }
+
     /// Styles the root, and makes all right for its font size, which `rem` stands for. It gives the style by
     /// its number in the table.
     pub(crate) fn root(&mut self, inputs: &Inputs<'_>, root: u32) -> Result<usize, NoMemory>
         requires root { IsRoot inputs.now.doc.now root }
-        requires fits { FitsInputs inputs.now self.old }
+        requires serves { ServesInputs inputs.now self.old }
         ensures ok { IfOk result (λ style. IsRootStyle inputs.now root style self.new) }
-        ensures fits { FitsInputs inputs.now self.new }
+        ensures serves { ServesInputs inputs.now self.new }
     {
         let RootStyle { style, size } = self.styler.root(inputs, root)?;
         let made = Arc::try_clone(self.styler.style(style))?;

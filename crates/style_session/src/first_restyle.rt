@@ -6,12 +6,12 @@ ghost use Rattle.value_model.specs.Style.{Style as Computed};
 ghost use Rattle.style_session.specs.FirstWalking.{AreAll, GoesOnFirst, HasPlaceKept, HasPlace, IsBareAtFirst, IsBareFirst, IsFirstWalkTo, IsNextFirst};
 ghost use Rattle.style_session.specs.FirstWalking.{IsRight, Keeps, finished, place_of as model_place_of};
 ghost use Rattle.style_session.specs.KeptView.{slot_at};
-ghost use Rattle.style_session.specs.Lent.{FitsInputs, KnowsMore, scene_lent};
+ghost use Rattle.style_session.specs.Lent.{FitsInputs, KnowsMore, ServesInputs, scene_lent};
 
 use crate::derived::StyleCache;
 use crate::kept_styles::{KeptStyles, keep, make_slots};
+use element_styler::Inputs;
 use io_edges::Gate;
-use plain_style::Inputs;
 use std::sync::Arc;
 use style_value::Style;
 use stylo_base::NoMemory;
@@ -38,7 +38,7 @@ pub(crate) fn restyle_first<G: Gate>(
     ensures styles { IfOk result (AreAll (scene_lent inputs.now)) }
     ensures fits { FitsInputs inputs.now cache.new }
 {
-    cache.limit();
+    cache.begin(inputs, true);
     let mut walk = FirstWalk::start(inputs)?;
     let order = inputs.doc.in_tree_order();
     let Some((first, rest)) = order.split_first() else {
@@ -75,9 +75,9 @@ impl FirstWalk {
         root: u32,
     ) -> Result<(), NoMemory>
         requires bare { IsBareAtFirst inputs.now.doc.now root self.old }
-        requires fits { FitsInputs inputs.now cache.old }
+        requires serves { ServesInputs inputs.now cache.old }
         ensures ok { OnOk result (IsFirstWalkTo (scene_lent inputs.now) (root ∷ []) cache.new self.new) }
-        ensures fits { FitsInputs inputs.now cache.new }
+        ensures serves { ServesInputs inputs.now cache.new }
     {
         let style = cache.root(inputs, root)?;
         self.keep(cache, root, style)
@@ -91,9 +91,9 @@ impl FirstWalk {
         number: u32,
     ) -> Result<(), NoMemory>
         requires next { IsNextFirst inputs.now number cache.old self.old }
-        requires fits { FitsInputs inputs.now cache.old }
+        requires serves { ServesInputs inputs.now cache.old }
         ensures ok { OnOk result (GoesOnFirst (scene_lent inputs.now) number self.old cache.new self.new) }
-        ensures fits { FitsInputs inputs.now cache.new }
+        ensures serves { ServesInputs inputs.now cache.new }
     {
         let parent = inputs.doc.parent(number).unwrap();
         let over = self.style_of(cache, parent)?;

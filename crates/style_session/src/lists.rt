@@ -14,7 +14,7 @@ ghost use Rattle.style_session.specs.SessionView.{standing_seen};
 
 use crate::kept_styles::KeptStyles;
 use crate::pending::Pending;
-use plain_style::Inputs;
+use element_styler::Inputs;
 use style_value::Style;
 use stylo_base::Fixed;
 

@@ -1,6 +1,6 @@
 //! What edits have left to do for the next restyle.
 
-ghost use Rattle.std.specs.Prelude.{◌≡◌, ◌<◌, ◌||◌, ◌∷◌, IfSome, OnOk, false, nat_lt, true};
+ghost use Rattle.std.specs.Prelude.{◌≡◌, ◌<◌, ◌||◌, ◌∷◌, ◌+◌, IfSome, OnOk, false, length, nat_le, nat_lt, true};
 ghost use Rattle.std.specs.List.{list_any};
 ghost use Rattle.std.specs.Option.{option_map_or};
 ghost use Rattle.scene_model.specs.Ancestors.{ancestors};
@@ -95,6 +95,13 @@ impl Pending {
         ensures { result ≡ are_settled self.now }
     {
         !self.all_fresh && self.sets.is_settled()
+    }
+
+    /// Whether so many numbers are marked and fresh, at least; one that is both counts twice.
+    pub(crate) fn has_many(&self, count: usize) -> bool
+        ensures { result ≡ nat_le count (length self.now.marked + length self.now.fresh) }
+    {
+        self.sets.marked().len() + self.sets.fresh().len() >= count
     }
 
     /// Whether this element is marked or fresh, or one above it. Where nothing is, it looks at no element.

@@ -9,7 +9,7 @@ ghost use Rattle.session_model.specs.Standing.{is_style};
 ghost use Rattle.session_model.specs.Walk.{results};
 ghost use Rattle.style_session.specs.Answers.{styled_seen};
 ghost use Rattle.style_session.specs.KeptView.{style_at};
-ghost use Rattle.style_session.specs.Lent.{FitsInputs, lent};
+ghost use Rattle.style_session.specs.Lent.{FitsInputs, ServesInputs, lent};
 ghost use Rattle.style_session.specs.Walking.{AddsElements, GoesOn, HandsOn, HasPlaceOf, IsBare, IsBareAt, IsMet, IsNext, IsStyleOf};
 ghost use Rattle.style_session.specs.Walking.{IsWalk, IsWalkTo, Learns, Meets, Widens, known_at};
 
@@ -22,6 +22,9 @@ use invalidation_map::ElementSet;
 use io_edges::Gate;
 use std::sync::Arc;
 use stylo_base::NoMemory;
+
+/// A restyle filters by names of ancestors where one of so many elements is matched, or was styled.
+const FEW: usize = 16;
 
 /// What a walk in tree order has found out.
 #[derive(Drop)]
@@ -47,9 +50,11 @@ pub(crate) fn restyled<G: Gate>(
     ensures styled { IfOk result (λ list. map styled_seen list.items ≡ results (lent lists.now)) }
     ensures fits { FitsInputs lists.now.inputs.now cache.new }
 {
-    cache.limit();
-    let doc = lists.inputs.doc;
-    let Some((first, rest)) = doc.in_tree_order().split_first() else {
+    let order = lists.inputs.doc.in_tree_order();
+    let few = order.len() / FEW;
+    let filters = lists.pending.has_many(few);
+    cache.begin(lists.inputs, filters);
+    let Some((first, rest)) = order.split_first() else {
         return Ok(Vec::new(lists.inputs.alloc));
     };
     if lists.is_matched(*first) {
@@ -62,6 +67,7 @@ pub(crate) fn restyled<G: Gate>(
             continue;
         }
         gate.pass(0, *number);
+        cache.filter_if(lists.inputs, !filters && walk.styled.len() == few);
         walk.cascade(lists, cache, *number)?;
     }
     Ok(walk.styled)
@@ -92,9 +98,9 @@ impl Walk {
         root: u32,
     ) -> Result<(), NoMemory>
         requires bare { IsBareAt (lent lists.now) root self.old }
-        requires fits { FitsInputs lists.now.inputs.now cache.old }
+        requires serves { ServesInputs lists.now.inputs.now cache.old }
         ensures ok { OnOk result (IsWalkTo (lent lists.now) (root ∷ []) cache.new self.new) }
-        ensures fits { FitsInputs lists.now.inputs.now cache.new }
+        ensures serves { ServesInputs lists.now.inputs.now cache.new }
     {
         if !lists.is_matched(root) {
             cache.fit(lists.kept.style(root).unwrap().font_size());
@@ -127,9 +133,9 @@ impl Walk {
     ) -> Result<(), NoMemory>
         requires next { IsNext (lent lists.now) number self.old }
         requires walk { IsWalk (lent lists.now) cache.old self.old }
-        requires fits { FitsInputs lists.now.inputs.now cache.old }
+        requires serves { ServesInputs lists.now.inputs.now cache.old }
         ensures ok { OnOk result (GoesOn (lent lists.now) number self.old cache.new self.new) }
-        ensures fits { FitsInputs lists.now.inputs.now cache.new }
+        ensures serves { ServesInputs lists.now.inputs.now cache.new }
     {
         let inputs = lists.inputs;
         let parent = inputs.doc.parent(number).unwrap();
@@ -149,9 +155,9 @@ impl Walk {
     ) -> Result<usize, NoMemory>
         requires met { IsMet (lent lists.now) self.old number }
         requires walk { IsWalk (lent lists.now) cache.old self.old }
-        requires fits { FitsInputs lists.now.inputs.now cache.old }
+        requires serves { ServesInputs lists.now.inputs.now cache.old }
         ensures ok { IfOk result (λ style. IsStyleOf (lent lists.now) number style self.old cache.new self.new) }
-        ensures fits { FitsInputs lists.now.inputs.now cache.new }
+        ensures serves { ServesInputs lists.now.inputs.now cache.new }
     {
         if let Some(style) = self.known_of(number) {
             return Ok(style as usize);

@@ -1,7 +1,7 @@
 //! What may be handed to another thread, and what may be lent to several.
 
 use dom_tree::Doc;
-use plain_style::{Prepared, Styler};
+use element_styler::{Prepared, Styler};
 use sheet_set::Sheets;
 use std::sync::Arc;
 use std::test::Fail;

@@ -22,10 +22,15 @@ root-requires-clause-element c =
     let first : c.in-Some.first.now ≡ get_or order 0 0 = search the_rules in
     subst (IsElement doc) (sym first) (element_in_order doc order 0 c.in_tree_order.ensures.order some)
 
-pub styles_in_order-requires-clause-fits : goal.styles_in_order-requires-clause-fits
-styles_in_order-requires-clause-fits c =
+pub root-requires-clause-ready : goal.root-requires-clause-ready
+root-requires-clause-ready c = record { prepared = c.in_ok-prepared.ensures; follows = c.begin.ensures.follows c.args.doc.now }
+
+pub styles_in_order-requires-clause-serves : goal.styles_in_order-requires-clause-serves
+styles_in_order-requires-clause-serves c =
+    let sources = sources_seen c.args.sheets.now in
     let size = c.in_ok-root.root.size in
-    c.in_ok-root.ensures.fits size (c.in_ok-styler.ensures.fits (sources_seen c.args.sheets.now) size c.in_ok-prepared.prepared c.in_ok-prepared.ensures)
+    let prepared = c.in_ok-prepared.prepared in
+    c.in_ok-root.ensures.serves size (c.begin.ensures.fits sources size prepared (c.in_ok-styler.ensures.fits sources size prepared c.in_ok-prepared.ensures))
 
 pub styles_in_order-requires-clause-root : goal.styles_in_order-requires-clause-root
 styles_in_order-requires-clause-root c =

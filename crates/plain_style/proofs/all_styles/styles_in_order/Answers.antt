@@ -18,7 +18,7 @@ loop-number-init c = record {
       omega (arith, c.type_inv.order k, c.in_ok-known.ensures.len);
   styled = ap (map arc_value) c.in_ok-styles.ensures.items;
   known = λ q none. cc;
-  fits = c.requires.fits;
+  serves = c.requires.serves;
   root = c.requires.root;
 }
 
@@ -34,8 +34,8 @@ style_number-requires-clause-parent c =
 pub style_number-requires-clause-root : goal.style_number-requires-clause-root
 style_number-requires-clause-root c = c.loop-number.invariant.root
 
-pub style_number-requires-clause-fits : goal.style_number-requires-clause-fits
-style_number-requires-clause-fits c = c.loop-number.invariant.fits
+pub style_number-requires-clause-serves : goal.style_number-requires-clause-serves
+style_number-requires-clause-serves c = c.loop-number.invariant.serves
 
 pub index_mut-requires : goal.index_mut-requires
 index_mut-requires c =
@@ -57,6 +57,6 @@ loop-number-preserved c =
       room = λ j within. omega (arith, c.loop-number.invariant.room j within, length-set c.loop-number.known.items (get_or order k 0) c.in_ok-style.style);
       styled = styled_more arc_value style c.loop-number.styles.items c.push.new.self.items c.in_ok-try_clone.field-0 order k below c.in_ok-push.ensures.items c.loop-number.invariant.styled own;
       known = known_more style c.loop-number.styler.table c.style_number.new.styler.table c.loop-number.known.items order k c.in_ok-style.style below (c.loop-number.invariant.room k below) c.in_ok-style.ensures.kept c.in_ok-style.ensures.style c.loop-number.invariant.known;
-      fits = c.in_ok-style.ensures.fits;
+      serves = c.in_ok-style.ensures.serves;
       root = knows_root_more doc sources c.loop-number.styler.table c.style_number.new.styler.table c.args.root c.in_ok-style.ensures.kept c.loop-number.invariant.root;
     }

@@ -1,7 +1,6 @@
 use Rattle.std.proofs.Common.{◌≡◌, ◌∷◌, ◌+◌, take, length, Some, None, cond, ap, sym, subst, ◌∙◌, arith}
 use Rattle.std.proofs.lemmas.List.{take_all}
 use Rattle.scene_model.specs.Lookups.{numbers}
-use Rattle.sheet_set.specs.View.{sources_seen}
 use Rattle.session_model.specs.Standing.{style_in}
 use Rattle.style_session.specs.FirstWalking.{AreKept}
 use Rattle.style_session.specs.Lent.{scene_lent}
@@ -11,11 +10,11 @@ use Rattle.style_session.proofs.first_restyle.restyle_first.Goals as goal
 
 pub returns-in_err-walk-clause-fits : goal.returns-in_err-walk-clause-fits
 returns-in_err-walk-clause-fits g c =
-    c.limit.ensures (sources_seen c.args.inputs.now.sheets.now) c.args.inputs.now.prepared.now c.requires
+    c.begin.ensures.fits
 
 pub returns-in_default-clause-fits : goal.returns-in_default-clause-fits
 returns-in_default-clause-fits g c =
-    c.limit.ensures (sources_seen c.args.inputs.now.sheets.now) c.args.inputs.now.prepared.now c.requires
+    c.begin.ensures.fits
 
 pub returns-in_default-clause-styles : goal.returns-in_default-clause-styles
 returns-in_default-clause-styles g c =
@@ -25,10 +24,6 @@ returns-in_default-clause-styles g c =
     all-made scene walk order c.finish.result
     (subst (λ l. AreKept scene l walk.kept.items) c.in_tree_order-order.ensures.order (kept-none scene order walk c.in_ok-walk.ensures.empty c.in_default.ensures.cases))
     c.in_tree_order-order.ensures.order c.finish.ensures
-
-pub begin-requires-clause-fits : goal.begin-requires-clause-fits
-begin-requires-clause-fits g c =
-    c.limit.ensures (sources_seen c.args.inputs.now.sheets.now) c.args.inputs.now.prepared.now c.requires
 
 pub style-requires-clause-next : goal.style-requires-clause-next
 style-requires-clause-next g c =
@@ -62,7 +57,7 @@ loop-number-preserved g c =
             (next-front doc c.in-Some.first.now c.in-Some.rest.now k (sym c.in_tree_order-order.ensures.order ∙ c.in-Some.ensures.cases.0) c.loop-number-test.true)
             (on.kept (take (k + 1) (numbers doc)) c.loop-number.invariant.to.kept);
       };
-      fits = c.in_ok-style.ensures.fits;
+      serves = c.in_ok-style.ensures.serves;
     }
 
 pub returns-clause-styles : goal.returns-clause-styles
@@ -75,3 +70,6 @@ returns-clause-styles g c =
     all-made scene walk c.in_tree_order-order.result.now c.finish-2.result
     (subst (λ l. AreKept scene l walk.kept.items) (take_all (k + 1) all (omega (arith, ap length is, c.loop-number-test.false))) c.loop-number.invariant.to.kept)
     c.in_tree_order-order.ensures.order c.finish-2.ensures
+
+pub returns-clause-fits : goal.returns-clause-fits
+returns-clause-fits g c = c.loop-number.invariant.serves.fits

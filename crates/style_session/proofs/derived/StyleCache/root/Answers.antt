@@ -7,18 +7,21 @@ use Rattle.sheet_model.specs.Sources.{sources_of}
 use Rattle.sheet_set.specs.View.{kept_seen, sources_seen}
 use Rattle.session_model.specs.Standing.{root_size_in, style_in}
 use Rattle.style_session.specs.Lent.{scene_lent}
-use Rattle.style_session.proofs.WalkLentLemmas.{root-over, root_size-over}
+use Rattle.style_session.proofs.WalkLentLemmas.{root-over, root_size-over, serves-more}
 use Rattle.style_session.proofs.SessionSheets.{sources-texts}
 use Rattle.style_session.proofs.derived.StyleCache.root.Goals as goal
+
+pub root-requires-clause-ready : goal.root-requires-clause-ready
+root-requires-clause-ready c = record { prepared = c.requires.serves.fits.prepared_is; follows = c.requires.serves.follows }
 
 pub style-requires : goal.style-requires
 style-requires c = slice_get_within c.root.new.self.table c.in_ok-style.field-0.style _ c.in_ok-style.ensures.style
 
-pub returns-in_err-style-clause-fits : goal.returns-in_err-style-clause-fits
-returns-in_err-style-clause-fits c = c.in_err-style.ensures.fits c.args.self.now.size c.requires.fits
+pub returns-in_err-style-clause-serves : goal.returns-in_err-style-clause-serves
+returns-in_err-style-clause-serves c = c.in_err-style.ensures.serves c.args.self.now.size c.requires.serves.fits
 
-pub returns-in_err-made-clause-fits : goal.returns-in_err-made-clause-fits
-returns-in_err-made-clause-fits c = c.in_ok-style.ensures.fits c.args.self.now.size c.requires.fits
+pub returns-in_err-made-clause-serves : goal.returns-in_err-made-clause-serves
+returns-in_err-made-clause-serves c = c.in_ok-style.ensures.serves c.args.self.now.size c.requires.serves.fits
 
 pub returns-clause-ok : goal.returns-clause-ok
 returns-clause-ok c =
@@ -38,9 +41,10 @@ returns-clause-ok c =
     IfOk-weaker c.adopt.result (λ style. slice_get c.adopt.new.self.table style ≡ Some own) _ (λ style at. record { at = at; size = sized })
     (subst (λ (s : Style). IfOk c.adopt.result (λ style. slice_get c.adopt.new.self.table style ≡ Some s)) made c.adopt.ensures.style)
 
-pub returns-clause-fits : goal.returns-clause-fits
-returns-clause-fits c =
-    let sources = sources_seen c.args.inputs.now.sheets.now in
-    let prepared = c.args.inputs.now.prepared.now in
-    c.adopt.ensures.fits sources c.fit.new.self.size prepared
-    (c.fit.ensures.fits sources prepared (c.in_ok-style.ensures.fits c.args.self.now.size c.requires.fits))
+pub returns-clause-serves : goal.returns-clause-serves
+returns-clause-serves c =
+    let inputs = c.args.inputs.now in
+    let rooted = record c.args.self.now { styler = c.root.new.self } in
+    serves-more inputs c.fit.new.self (record c.fit.new.self { styler = c.adopt.new.self })
+    (λ sources prepared fits. c.adopt.ensures.fits sources c.fit.new.self.size prepared fits) c.adopt.ensures.above
+    (serves-more inputs rooted c.fit.new.self c.fit.ensures.fits c.fit.ensures.above (c.in_ok-style.ensures.serves c.args.self.now.size c.requires.serves.fits))

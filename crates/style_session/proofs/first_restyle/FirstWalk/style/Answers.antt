@@ -9,7 +9,7 @@ use Rattle.session_model.specs.Standing.{style_in}
 use Rattle.style_session.specs.Lent.{scene_lent}
 use Rattle.style_session.specs.declared.derived.StyleCache.{StyleCache}
 use Rattle.style_session.proofs.FirstWalkLemmas.{first-grown, first-keeps, kept-more}
-use Rattle.style_session.proofs.WalkLentLemmas.{child-over}
+use Rattle.style_session.proofs.WalkLentLemmas.{child-over, serves-more}
 use Rattle.style_session.proofs.SessionSheets.{sources-texts}
 use Rattle.style_session.proofs.first_restyle.FirstWalk.style.Goals as goal
 
@@ -24,9 +24,10 @@ style_of-requires c =
       kept = subst IsSome (sym (next.parent p hangs)) refl;
     }
 
-pub returns-in_err-over-clause-fits : goal.returns-in_err-over-clause-fits
-returns-in_err-over-clause-fits c =
-    c.in_err-over.ensures.more.fits (sources_seen c.args.inputs.now.sheets.now) c.args.inputs.now.prepared.now c.requires.fits
+pub returns-in_err-over-clause-serves : goal.returns-in_err-over-clause-serves
+returns-in_err-over-clause-serves c =
+    let more = c.in_err-over.ensures.more in
+    serves-more c.args.inputs.now c.args.cache.now c.style_of.new.cache more.fits more.above c.requires.serves
 
 pub child-requires-clause-parent : goal.child-requires-clause-parent
 child-requires-clause-parent c =
@@ -34,9 +35,10 @@ child-requires-clause-parent c =
     let is = c.requires.next.parent p (sym c.parent.ensures.parent ∙ c.unwrap-parent.ensures) in
     slice_get_within c.style_of.new.cache.styler.table c.in_ok-over.over _ (c.in_ok-over.ensures.style _ is (c.requires.next.walk.known p))
 
-pub child-requires-clause-fits : goal.child-requires-clause-fits
-child-requires-clause-fits c =
-    c.in_ok-over.ensures.more.fits (sources_seen c.args.inputs.now.sheets.now) c.args.inputs.now.prepared.now c.requires.fits
+pub child-requires-clause-serves : goal.child-requires-clause-serves
+child-requires-clause-serves c =
+    let more = c.in_ok-over.ensures.more in
+    serves-more c.args.inputs.now c.args.cache.now c.style_of.new.cache more.fits more.above c.requires.serves
 
 pub keep-requires-clause-place : goal.keep-requires-clause-place
 keep-requires-clause-place c =

@@ -20,4 +20,5 @@ returns-clause-more c = record {
   table = c.adopt.ensures.kept;
   size = refl;
   fits = λ sources prepared fits. c.adopt.ensures.fits sources c.args.cache.now.size prepared fits;
+  above = c.adopt.ensures.above;
 }

@@ -4,7 +4,7 @@ use Rattle.std.proofs.lemmas.Result.{on_ok_weaker}
 use Rattle.value_model.specs.Style.{Style, font_size_of}
 use Rattle.sheet_model.specs.Sources.{sources_of}
 use Rattle.cascade_model.proofs.StyleAlong.{root_size_of-root}
-use Rattle.sheet_set.specs.View.{kept_seen, sources_seen}
+use Rattle.sheet_set.specs.View.{kept_seen}
 use Rattle.session_model.specs.Standing.{is_matched, is_style, style_in}
 use Rattle.session_model.specs.Walk.{Styled}
 use Rattle.session_model.proofs.KeepsLemmas.{root_element}
@@ -12,7 +12,7 @@ use Rattle.style_session.specs.KeptView.{style_at}
 use Rattle.style_session.specs.Lent.{lent}
 use Rattle.style_session.specs.Walking.{Widens}
 use Rattle.style_session.proofs.WalkLemmas.{all-below, has_met-widens, met-cascaded, met-none, met-passed, size_differs-root, walk-bare, walk-begun, walk-handed, walk-meets}
-use Rattle.style_session.proofs.WalkLentLemmas.{kept-found, kept-is, kept-own, lent-kept, lent-root, lent-size, root-kept}
+use Rattle.style_session.proofs.WalkLentLemmas.{kept-found, kept-is, kept-own, lent-kept, lent-root, lent-size, root-kept, serves-more}
 use Rattle.style_session.proofs.walk.Walk.begin.Goals as goal
 
 pub is_matched-requires : goal.is_matched-requires
@@ -46,10 +46,9 @@ returns-then-not-is_matched-clause-ok c =
       met = met-passed st [] r c.args.self.now there (kept-own lists r there calm) calm (met-none st c.args.self.now c.requires.bare.bare.styled);
     }
 
-pub returns-then-not-is_matched-clause-fits : goal.returns-then-not-is_matched-clause-fits
-returns-then-not-is_matched-clause-fits c =
-    let inputs = c.args.lists.now.inputs.now in
-    c.fit.ensures.fits (sources_seen inputs.sheets.now) inputs.prepared.now c.requires.fits
+pub returns-then-not-is_matched-clause-serves : goal.returns-then-not-is_matched-clause-serves
+returns-then-not-is_matched-clause-serves c =
+    serves-more c.args.lists.now.inputs.now c.args.cache.now c.fit.new.self c.fit.ensures.fits c.fit.ensures.above c.requires.serves
 
 -- it is matched
 

@@ -1,10 +1,9 @@
 use Rattle.std.proofs.Common.{Some, refl, sym, ap, ◌∙◌}
-use Rattle.sheet_set.specs.View.{sources_seen}
 use Rattle.session_model.specs.Standing.{style_in}
 use Rattle.style_session.specs.KeptView.{style_at}
 use Rattle.style_session.specs.Lent.{lent}
 use Rattle.style_session.proofs.WalkLemmas.{has_met-learns, walk-grown, walk-learns}
-use Rattle.style_session.proofs.WalkLentLemmas.{kept-found, kept-is, lent-kept}
+use Rattle.style_session.proofs.WalkLentLemmas.{kept-found, kept-is, lent-kept, serves-more}
 use Rattle.style_session.proofs.walk.Walk.style_of.Goals as goal
 
 pub returns-in-Some-clause-ok : goal.returns-in-Some-clause-ok
@@ -21,15 +20,15 @@ unwrap-kept-requires c =
     kept-found c.style.result (style_at lists.kept.now x) (style_in (lent lists).scene x) c.style.ensures
     (sym (lent-kept lists x c.requires.met.there) ∙ c.requires.met.style (sym c.known_of.ensures ∙ c.in_default.is))
 
-pub returns-in_err-style-clause-fits : goal.returns-in_err-style-clause-fits
-returns-in_err-style-clause-fits c =
-    let inputs = c.args.lists.now.inputs.now in
-    c.in_err-style.ensures.fits (sources_seen inputs.sheets.now) c.args.cache.now.size inputs.prepared.now c.requires.fits
+pub returns-in_err-style-clause-serves : goal.returns-in_err-style-clause-serves
+returns-in_err-style-clause-serves c =
+    serves-more c.args.lists.now.inputs.now c.args.cache.now (record c.args.cache.now { styler = c.adopt.new.self })
+    (λ sources prepared fits. c.in_err-style.ensures.fits sources c.args.cache.now.size prepared fits) c.in_err-style.ensures.above c.requires.serves
 
-pub returns-in_err-learn-clause-fits : goal.returns-in_err-learn-clause-fits
-returns-in_err-learn-clause-fits c =
-    let inputs = c.args.lists.now.inputs.now in
-    c.in_ok-style.ensures.fits (sources_seen inputs.sheets.now) c.args.cache.now.size inputs.prepared.now c.requires.fits
+pub returns-in_err-learn-clause-serves : goal.returns-in_err-learn-clause-serves
+returns-in_err-learn-clause-serves c =
+    serves-more c.args.lists.now.inputs.now c.args.cache.now (record c.args.cache.now { styler = c.adopt.new.self })
+    (λ sources prepared fits. c.in_ok-style.ensures.fits sources c.args.cache.now.size prepared fits) c.in_ok-style.ensures.above c.requires.serves
 
 pub returns-clause-ok : goal.returns-clause-ok
 returns-clause-ok c =
@@ -49,7 +48,7 @@ returns-clause-ok c =
       met = λ front has. has_met-learns st front x c.in_ok-style.style c.args.self.now c.learn.new.self c.in_ok-learn.ensures has;
     }
 
-pub returns-clause-fits : goal.returns-clause-fits
-returns-clause-fits c =
-    let inputs = c.args.lists.now.inputs.now in
-    c.in_ok-style.ensures.fits (sources_seen inputs.sheets.now) c.args.cache.now.size inputs.prepared.now c.requires.fits
+pub returns-clause-serves : goal.returns-clause-serves
+returns-clause-serves c =
+    serves-more c.args.lists.now.inputs.now c.args.cache.now (record c.args.cache.now { styler = c.adopt.new.self })
+    (λ sources prepared fits. c.in_ok-style.ensures.fits sources c.args.cache.now.size prepared fits) c.in_ok-style.ensures.above c.requires.serves

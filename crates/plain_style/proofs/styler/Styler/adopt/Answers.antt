@@ -1,7 +1,0 @@
-use Rattle.std.proofs.Common.{refl}
-use Rattle.plain_style.proofs.CacheLemmas.{fits_more}
-use Rattle.plain_style.proofs.styler.Styler.adopt.Goals as goal
-
-pub returns-clause-fits : goal.returns-clause-fits
-returns-clause-fits c sources size prepared fits =
-    fits_more sources size prepared c.args.self.now (record c.args.self.now { table = c.adopt.new.self }) c.adopt.ensures.kept refl fits
