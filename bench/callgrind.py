@@ -20,6 +20,11 @@ def profile(words, folder, data=b""):
     return out
 
 
+def instructions(words, folder, data=b""):
+    """How many a whole run takes."""
+    return annotated(profile(words, folder, data))[1]
+
+
 def annotated(path, *words):
     """What the functions of a profile cost, by name, and the cost of the whole run."""
     done = subprocess.run(["callgrind_annotate", "--threshold=100", *words, path], capture_output=True, text=True, check=True)

@@ -1,4 +1,4 @@
-"""The documents that bench/profile and bench/allocations run the program on."""
+"""The documents that bench/profile, bench/allocations and bench/edits run the program on."""
 import json
 import random
 
@@ -46,6 +46,40 @@ def job(kind, size):
     if kind == "edits":
         found["batches"] = [[edit(r.randrange(2, size), k, r) for k in range(4)] for _ in range(BATCHES)]
     return json.dumps(found).encode()
+
+
+# Sheets beside each other: of each its rules, of how many classes the elements have two each, and the kind whose parents they have.
+BELOW = [".a%d .k%d{margin:1px}" % (k, k % 40) for k in range(400)]
+
+
+def of_classes(count):
+    """So many rules, each of a class."""
+    return [".k%d{margin:%dpx;float:left}" % (k, k) for k in range(count)]
+
+
+SHEETS = {
+    "no sheet": ([], 40, "plain"),
+    "40 rules": (of_classes(40), 40, "plain"),
+    "4,000 rules": (of_classes(4000), 40, "plain"),
+    "4,000 classes": (of_classes(4000), 4000, "plain"),
+    "400 below": (BELOW, 40, "plain"),
+    "chains": ([], 40, "deep"),
+    "400 on chains": (BELOW, 40, "deep"),
+    "400 attributes": (["[x%d]{margin:1px}" % k for k in range(400)], 40, "plain"),
+}
+
+
+def sheet_job(name, size):
+    """A job of so many elements, each with a tag and two classes by chance, and the sheet of this name: none; 40 or 4,000
+    rules of a class each, of which elements have 40 or all; 400 rules whose element has to be below another, which never is
+    there; and 400 of attributes that no element has."""
+    rules, classes, kind = SHEETS[name]
+    r = random.Random(6)
+    nodes = [{"tag": "html"}]
+    for k in range(1, size):
+        names = "k%d k%d" % (r.randrange(classes), r.randrange(classes))
+        nodes.append({"tag": r.choice("pibu"), "parent": PARENTS[kind](k), "attrs": {"class": names}})
+    return json.dumps({"version": 1, "nodes": nodes, "sheets": [{"origin": "author", "text": " ".join(rules)}] if rules else []}).encode()
 
 
 def edit(node, k, r):
