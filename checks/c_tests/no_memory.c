@@ -73,7 +73,7 @@ static const char BELOW_PAGE[] =
     "{\"tag\":\"p\",\"parent\":1,\"attrs\":{\"class\":\"a\"}},{\"tag\":\"i\",\"parent\":2}"
     TEN_LEAVES TEN_LEAVES TEN_LEAVES TEN_LEAVES "],"
     "\"sheets\":[{\"origin\":\"author\",\"text\":\".a .b{color:red} body .b:hover{width:1em} p:hover{clear:both} .d .b{}\"}]}";
-/* One element is matched, 41 are, or one is and 41 are styled. */
+/* One element is matched and styled, 40 are, or one is matched and 42 are styled. */
 static const char MATCH_ONE[] = "{\"op\":\"state\",\"node\":9,\"state\":\"hover\",\"on\":true}";
 static const char MATCH_MANY[] = "{\"op\":\"set\",\"node\":1,\"name\":\"class\",\"value\":\"a d\"}";
 static const char STYLE_MANY[] = "{\"op\":\"state\",\"node\":3,\"state\":\"hover\",\"on\":true}";
