@@ -26,7 +26,7 @@ use Rattle.cascade_core.proofs.WonLemmas.{get-set_other, get-set_same}
 taken_out : (row : ℕ) (rows : List ℕ) → has_row row (without_row row rows) ≡ false
 taken_out row rows = rw (has_row-without row row rows, eq-eqb row row refl) (and_right (has_row row rows) false refl)
 
-not_left : (row other : ℕ) (rows : List ℕ) → other ≢ row → has_row other (without_row row rows) ≡ false → has_row other rows ≡ false
+pub not_left : (row other : ℕ) (rows : List ℕ) → other ≢ row → has_row other (without_row row rows) ≡ false → has_row other rows ≡ false
 not_left row other rows ne none =
     sym (and-true (has_row other rows))
     ∙ (ap (λ b. has_row other rows && not b) (sym (ne_eqb row other (λ e. ne (sym e))))

@@ -13,3 +13,4 @@ pub mod PartLemmas
 pub mod TokenLemmas
 pub mod SeenLemmas
 pub mod FilledLemmas
+pub mod TakenLemmas

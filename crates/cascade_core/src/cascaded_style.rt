@@ -1,4 +1,4 @@
-//! The style of an element over its parent's.
+//! The style of an element over its parent's, and whether it takes.
 
 ghost use Rattle.std.specs.Prelude.{◌≡◌, ◌++◌, IfOk, OnOk, flat_map, length};
 ghost use Rattle.std.specs.FinMap as finmap;
@@ -11,8 +11,9 @@ ghost use Rattle.value_model.specs.Table.{font_size_property, font_size_row, tab
 ghost use Rattle.value_model.specs.Value.{pixels};
 ghost use Rattle.cascade_core.specs.Declarations.{IsCascaded, all_matched};
 ghost use Rattle.cascade_core.specs.View.{matched_of};
+ghost use Rattle.takes_model.specs.Takes.{takes};
 
-use crate::computed::{ParentFont, ParentValues, Sizes, own_size, value_at};
+use crate::computed::{ParentFont, ParentValues, Sizes, is_taken, own_size, value_at};
 use crate::custom::changed_custom;
 use crate::held::all_lent;
 use crate::longhands::Longhands;
@@ -23,6 +24,17 @@ use property_table::{PropId, PropertyRow, PropertySet, Value};
 use std::alloc::Global;
 use style_value::{Custom, Style, StyleDraft};
 use stylo_base::{Fixed, NoMemory};
+
+/// What the cascade gives an element, before its style is finished.
+#[derive(Debug, Drop)]
+pub struct CascadedDraft {
+    /// The style: the text of it is not yet made.
+    pub draft: StyleDraft,
+    /// Whether the element takes: some property that is not inherited comes to `inherit`, after
+    /// rollback and substitution (css-cascade-5, section 7.3). Where it does not, its style depends on
+    /// what is inherited of the parent's alone.
+    pub takes: bool,
+}
 
 /// The style of an element, from the declarations of the rules that match it, those of its `style`
 /// attribute, and the style of its parent (css-cascade-5, sections 6 and 7): the custom properties
@@ -47,28 +59,33 @@ pub fn cascade(
         matched: &matched,
         attached: &attached,
     };
-    cascade_draft(alloc, declarations, parent, root_size, is_root)?.finish(alloc)
+    let cascaded = cascade_draft(alloc, declarations, parent, root_size, is_root)?;
+    cascaded.draft.finish(alloc)
 }
 
-/// The same style before it is finished, for a caller that keeps equal styles once: the text of the
-/// style is not yet made.
+/// The same style before it is finished, for a caller that keeps equal styles once, and whether the
+/// element takes.
 pub fn cascade_draft(
     alloc: Global,
     declarations: Declarations<'_>,
     parent: &Style,
     root_size: Fixed,
     is_root: bool,
-) -> Result<StyleDraft, NoMemory>
-    ensures { IfOk result (IsCascaded is_root parent.now root_size (all_matched declarations.entry)) }
+) -> Result<CascadedDraft, NoMemory>
+    ensures style { IfOk result (λ cascaded.
+        IsCascaded is_root parent.now root_size (all_matched declarations.entry) cascaded.draft) }
+    ensures takes { let ds = all_matched declarations.entry in
+        IfOk result (λ cascaded. cascaded.takes ≡ takes (finmap.get (custom_values parent.now.custom ds)) ds) }
 {
     let winners = Winners::of(declarations)?;
     let mut draft = StyleDraft::inheriting(alloc, parent)?;
-    fill(alloc, &mut draft, &winners, parent, root_size, is_root)?;
+    let takes = fill(alloc, &mut draft, &winners, parent, root_size, is_root)?;
     draft.adjust(is_root);
-    Ok(draft)
+    Ok(CascadedDraft { draft, takes })
 }
 
-/// Turns what an element takes from its parent into its style before the adjustments.
+/// Turns what an element inherits from its parent into its style before the adjustments, and tells
+/// whether the element takes.
 fn fill(
     alloc: Global,
     draft: &mut StyleDraft,
@@ -76,19 +93,21 @@ fn fill(
     parent: &Style,
     root_size: Fixed,
     is_root: bool,
-) -> Result<(), NoMemory>
+) -> Result<bool, NoMemory>
     requires { draft.old ≡ inherited_part parent.now }
-    ensures { let custom = custom_values parent.now.custom winners.now in
+    ensures style { let custom = custom_values parent.now.custom winners.now in
         OnOk result (draft.new ≡ record {
           values = values_over (finmap.get custom) is_root parent.now.values root_size winners.now;
           custom = custom;
         }) }
+    ensures takes { let custom = custom_values parent.now.custom winners.now in
+        IfOk result (λ told. told ≡ takes (finmap.get custom) winners.now) }
 {
     let Some(custom) = custom_of(alloc, winners, parent)? else {
         let inherited = parent.custom().map();
         return set_values(alloc, draft, winners, parent, inherited, root_size, is_root);
     };
-    set_values(
+    let takes = set_values(
         alloc,
         draft,
         winners,
@@ -98,7 +117,7 @@ fn fill(
         is_root,
     )?;
     draft.set_custom(custom);
-    Ok(())
+    Ok(takes)
 }
 
 /// The custom properties. None: they are the parent's.
@@ -117,8 +136,8 @@ fn custom_of(
     }
 }
 
-/// Sets the values of the declared properties in what an element takes from its parent. `custom` are
-/// the element's own custom properties.
+/// Sets the values of the declared properties in what an element inherits from its parent, and tells
+/// whether one of them takes. `custom` are the element's own custom properties.
 fn set_values(
     alloc: Global,
     draft: &mut StyleDraft,
@@ -127,12 +146,13 @@ fn set_values(
     custom: &CustomMap,
     root_size: Fixed,
     is_root: bool,
-) -> Result<(), NoMemory>
+) -> Result<bool, NoMemory>
     requires { draft.old ≡ inherited_part parent.now }
-    ensures { OnOk result (draft.new ≡ record {
+    ensures style { OnOk result (draft.new ≡ record {
       values = values_over (finmap.get custom.now) is_root parent.now.values root_size winners.now;
       custom = parent.now.custom;
     }) }
+    ensures takes { IfOk result (λ told. told ≡ takes (finmap.get custom.now) winners.now) }
 {
     let font = font_of(parent);
     let own = size_of(alloc, winners, custom, font, root_size)?;
@@ -144,17 +164,17 @@ fn set_values(
     let mut longhands = Longhands::over(custom, PropId::FontSize);
     let mut rest: PropertySet = winners.declared().iter();
     rest.remove(PropId::FontSize);
+    let mut takes = false;
     for id in rest {
         longhands.read_as(id);
         let cascaded = winners.cascaded_value(alloc, &mut longhands)?;
-        let parents = ParentValues {
-            value: parent.value(id),
-            font,
-        };
-        let value = value_at(PropertyRow::of(id), parents, &sizes, cascaded);
-        draft.set(id, value);
+        let row = PropertyRow::of(id);
+        let value = parent.value(id);
+        let parents = ParentValues { value, font };
+        draft.set(id, value_at(row, parents, &sizes, cascaded));
+        takes |= is_taken(row, cascaded);
     }
-    Ok(())
+    Ok(takes)
 }
 
 /// The font size, which is the parent's where none is declared.

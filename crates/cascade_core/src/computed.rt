@@ -1,6 +1,6 @@
 //! How values are computed from those that are declared (css-cascade-5, section 4.4).
 
-ghost use Rattle.std.specs.Prelude.{◌≡◌};
+ghost use Rattle.std.specs.Prelude.{◌≡◌, ◌&&◌, not};
 ghost use Rattle.cascade_model.specs.Cascade as model;
 ghost use Rattle.cascade_model.specs.Cascade.{absolute, bolder_than, computed_by, computed_color, computed_height, computed_size, computed_weight, lighter_than, percent_of, sizes, value_at};
 ghost use Rattle.property_table.specs.View.{row_seen, compute_rule_of, value_seen, word_of};
@@ -9,6 +9,7 @@ ghost use Rattle.value_model.specs.Table.{font_size_row};
 ghost use Rattle.value_model.specs.Value.{keyword, pixels};
 ghost use Rattle.cascade_core.specs.CascadedValue.{cascaded_seen};
 ghost use Rattle.cascade_core.specs.Sizes.{sizes_seen};
+ghost use Rattle.takes_model.specs.Takes.{is_inherits};
 
 use crate::cascaded_value::CascadedValue;
 use property_table::{ComputeRule, Keyword, PropId, PropertyRow, Value};
@@ -80,6 +81,14 @@ pub(crate) fn value_at(
         CascadedValue::Unset => unset(row, parents.value),
         CascadedValue::Value(value) => computed(row.rule, parents, sizes, value),
     }
+}
+
+/// Whether a property that is not inherited has its value from the parent.
+pub(crate) fn is_taken(row: &PropertyRow, cascaded: CascadedValue<Value>) -> bool
+    ensures { let ends = cascaded_seen value_seen cascaded in
+        result ≡ not (row_seen row.now).inherited && is_inherits ends }
+{
+    !row.inherited && matches!(cascaded, CascadedValue::Inherit)
 }
 
 /// The value of a property that is not declared.

@@ -28,7 +28,7 @@ mod substituted_value;
 mod substitution;
 mod winners;
 
-pub use cascaded_style::{cascade, cascade_draft};
+pub use cascaded_style::{CascadedDraft, cascade, cascade_draft};
 pub use declarations::Declarations;
 pub use held::{HeldDeclaration, Matched};
 pub use matched::{CascadePriority, LentMatched};

@@ -241,7 +241,8 @@ impl Styler {
             matched: &list,
             attached: &attached,
         };
-        cascade_draft(inputs.alloc, declarations, over, size, is_root)
+        let cascaded = cascade_draft(inputs.alloc, declarations, over, size, is_root)?;
+        Ok(cascaded.draft)
     }
 }
 

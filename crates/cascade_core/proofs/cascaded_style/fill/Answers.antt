@@ -3,9 +3,15 @@ use Rattle.cascade_core.proofs.cascaded_style.fill.Goals as goal
 pub returns-in_default : goal.returns-in_default
 returns-in_default c =
     let kept = rw c.in_default.is at c.in_ok-custom.ensures in
-    rw (← kept) (rw (c.map-inherited.ensures, c.custom.ensures) at c.set_values.ensures)
+    record {
+      style = rw (← kept) (rw (c.map-inherited.ensures, c.custom.ensures) at c.set_values.ensures.style);
+      takes = rw (← kept) (rw (c.map-inherited.ensures, c.custom.ensures) at c.set_values.ensures.takes);
+    }
 
 pub returns : goal.returns
 returns c =
     let changed = rw c.in-Some.is at c.in_ok-custom.ensures in
-    rw (c.set_custom.ensures, c.in_ok-set_values.ensures, c.map.ensures, changed)
+    record {
+      style = rw (c.set_custom.ensures, c.in_ok-takes.ensures.style, c.map.ensures, changed);
+      takes = rw (c.in_ok-takes.ensures.takes, c.map.ensures, changed);
+    }

@@ -1,4 +1,4 @@
-use Rattle.std.proofs.Common.{◌≡◌, IfOk, ap, subst, ◌∙◌}
+use Rattle.std.proofs.Common.{◌≡◌, ap, subst, ◌∙◌}
 use Rattle.std.specs.Prelude.{List, flat_map}
 use Rattle.cascade_model.specs.Cascade.{cascaded}
 use Rattle.cascade_model.specs.Key.{Matched}
@@ -17,4 +17,5 @@ returns c =
     let declared = c.in_ok-declared.declared.items in
     let rules : flat_map lent_of c.deref-3.result.now ≡ declarations_of sources found = ap (flat_map lent_of) c.deref-3.ensures.value ∙ (c.in_ok-list.ensures ∙ ap (declarations_of sources) c.deref.ensures.value) in
     let are : flat_map lent_of c.deref-4.result.now ≡ all_attached sources.layers 0 (flat_map declared_of declared) = ap (flat_map lent_of) c.deref-4.ensures.value ∙ (c.in_ok-attached.ensures ∙ (ap (λ l. all_attached l 0 (flat_map declared_of c.deref-2.result.now)) c.layers.ensures.layers ∙ ap (λ l. all_attached sources.layers 0 (flat_map declared_of l)) c.deref-2.ensures.value)) in
-    subst (λ (l : List Matched). IfOk c.cascade_draft.result (λ draft. draft ≡ cascaded c.args.is_root c.args.over.now c.args.size l)) (declared_lists lent_of declared_of sources found _ c.deref-3.result.now c.deref-4.result.now declared rules are c.in_ok-declared.ensures) c.cascade_draft.ensures
+    let lists = declared_lists lent_of declared_of sources found _ c.deref-3.result.now c.deref-4.result.now declared rules are c.in_ok-declared.ensures in
+    subst (λ (l : List Matched). c.in_ok-cascaded.cascaded.draft ≡ cascaded c.args.is_root c.args.over.now c.args.size l) lists c.in_ok-cascaded.ensures.style

@@ -1,0 +1,2 @@
+pub mod TakesLemmas
+mod Examples
