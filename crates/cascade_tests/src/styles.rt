@@ -52,6 +52,24 @@ fn equal_styles_have_one_number(rt: HostRuntime) -> Result<(), Fail> {
     Ok(())
 }
 
+/// The parts of a style, of one with another `display`, and of one with another `visibility`.
+fn parts(alloc: Global) -> Result<(usize, usize, usize), NoMemory> {
+    let mut table = StyleTable::start(alloc, 64)?;
+    let mut hidden = displayed(alloc, Keyword::Block)?;
+    hidden.set(PropId::Visibility, Value::Keyword(Keyword::Hidden));
+    let one = table.add(alloc, displayed(alloc, Keyword::Block)?)?;
+    let other = table.add(alloc, displayed(alloc, Keyword::None)?)?;
+    let third = table.add(alloc, hidden)?;
+    Ok((table.part(one), table.part(other), table.part(third)))
+}
+
+#[test]
+fn equal_inherited_parts_have_one_number(rt: HostRuntime) -> Result<(), Fail> {
+    let parts = parts(rt.alloc())?;
+    assert_eq!(rt; parts, (0, 0, 2));
+    Ok(())
+}
+
 /// The numbers that a table with another style gives a style that is kept elsewhere, the same once more,
 /// and its values.
 fn adopted(alloc: Global) -> Result<(usize, usize, usize), NoMemory> {

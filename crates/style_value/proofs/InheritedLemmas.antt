@@ -69,7 +69,7 @@ all_among : map (λ k. has_row k inherited_properties) (range_with_len 0 (length
 unfolding table
 all_among = refl
 
-among_is : (k : ℕ) → k < length table → has_row k inherited_properties ≡ (get_or table k color_row).inherited
+pub among_is : (k : ℕ) → k < length table → has_row k inherited_properties ≡ (get_or table k color_row).inherited
 among_is k lt =
     sym (get_or-map-range_with_len (λ k. has_row k inherited_properties) 0 (length table) k k false (omega (arith, length-table)) (omega arith))
     ∙ (ap (λ l. get_or l k false) all_among ∙ get_or-map (λ (row : PropertyRow). row.inherited) table k color_row false lt)

@@ -1,3 +1,4 @@
 pub mod KeptText
 pub mod ColumnView
 pub mod StyleText
+pub mod Parts

@@ -9,14 +9,16 @@ use css_tokens::CustomMap;
 use std::alloc::Global;
 use std::marker::Model;
 use std::sync::Arc;
-use stylo_base::{NoMemory, Text};
+use stylo_base::{NoMemory, Text, key_of_text};
 
-/// The custom properties that have a value, and the text of their declarations, which is made once
-/// for all styles that share them. Contracts see the map.
+/// The custom properties that have a value, with the text of their declarations and a number by which
+/// tables of styles look for them. Both are made once for all styles that share them. Contracts see
+/// the map.
 #[derive(Debug, Drop)]
 pub struct Custom {
     map: CustomMap,
     text: Option<Arc<Text>>,
+    key: u64,
 }
 
 impl Model for Custom {
@@ -42,6 +44,7 @@ impl Custom {
         Custom {
             map: CustomMap::empty(),
             text: None,
+            key: 0,
         }
     }
 
@@ -50,9 +53,11 @@ impl Custom {
         requires { text ≡ custom_declarations map }
         ensures { IfOk result (λ custom. custom ≡ map) }
     {
+        let key = key_of_text(text.as_str());
         Ok(Custom {
             map,
             text: Some(Arc::new(alloc, text)?),
+            key,
         })
     }
 
@@ -85,7 +90,13 @@ impl Custom {
         Ok(Custom {
             map: self.map.share()?,
             text,
+            key: self.key,
         })
+    }
+
+    /// A number that equal custom properties share. It is known without a look at them.
+    pub(crate) fn slot(&self) -> usize {
+        (self.key ^ (self.key >> 24)) as usize
     }
 
     /// Whether both give the same names the same values.

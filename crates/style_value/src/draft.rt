@@ -111,5 +111,5 @@ impl StyleDraft {
 
 /// A number that equal values share.
 pub(crate) fn slot(columns: &ValueColumns, custom: &Custom) -> usize {
-    columns.slot() ^ custom.text().len()
+    columns.slot() ^ custom.slot()
 }

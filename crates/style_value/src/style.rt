@@ -119,6 +119,19 @@ impl Style {
         draft::slot(&self.columns, &self.custom)
     }
 
+    /// A number that styles with equal inherited parts share.
+    pub(crate) fn part_slot(&self) -> usize {
+        self.columns.part_slot() ^ self.custom.slot()
+    }
+
+    /// Whether the two have equal inherited parts: the same values of inherited properties, and the
+    /// same custom properties (css-cascade-5, section 7.2).
+    pub fn same_inherited(&self, other: &Style) -> bool
+        ensures { IsTrue result ↔ (inherited_part self.now ≡ inherited_part other.now) }
+    {
+        self.columns.same_inherited(&other.columns) && self.custom.is_same(&other.custom)
+    }
+
     /// Whether the two have the same values, those of custom properties too.
     pub fn is_same(&self, other: &Style) -> bool
         ensures { IsTrue result ↔ (self.now ≡ other.now) }

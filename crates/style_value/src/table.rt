@@ -2,6 +2,8 @@
 
 ghost use Rattle.std.specs.Prelude.{◌≡◌, ◌<◌, ◌⊎◌, ◌++◌, ◌∷◌, [], IfOk, IfSome, OnErr, OnOk, Some, length, slice_get, take};
 ghost use Rattle.std.specs.Arc.{arc_value};
+ghost use Rattle.value_model.specs.Style.{inherited_part};
+ghost use Rattle.style_value.specs.Parts.{part_at};
 
 use crate::{Style, StyleDraft};
 use std::alloc::Global;
@@ -13,25 +15,38 @@ use stylo_base::NoMemory;
 const MOST_SLOTS: usize = 4_096;
 
 /// Styles with numbers from 0. A style that is added again most often gets the number that it has, so
-/// that its text is made once and its memory is shared. Contracts see the list of the styles.
+/// that its text is made once and its memory is shared. Styles with equal inherited parts most often
+/// have one part, by number. Contracts see the list of the styles.
 #[derive(Debug, Drop)]
 pub struct StyleTable {
-    styles: Vec<Arc<Style>>,
+    styles: Vec<TableStyle>,
     /// The number of the style that was added last among those of a slot.
     slots: Vec<usize>,
+    /// The number of the part that was found or added last among those of a slot.
+    part_slots: Vec<usize>,
+}
+
+/// A style of a table.
+#[derive(Debug, Drop)]
+struct TableStyle {
+    style: Arc<Style>,
+    /// The number of a style of the table with an equal inherited part.
+    part: usize,
 }
 
 impl Model for StyleTable {
-    ghost use Rattle.std.specs.Prelude.{List, map};
+    ghost use Rattle.std.specs.Prelude.{List};
     ghost use Rattle.std.specs.Coded.{coded_list};
-    ghost use Rattle.std.specs.Arc.{arc_value};
     ghost use Rattle.value_model.specs.Style as model;
+    ghost use Rattle.style_value.specs.Parts.{HaveParts, styles_of};
 
     ghost Value = { List model.Style };
 
     ghost coded = { coded_list model.style_code };
 
-    ghost view = { λ t. map arc_value t.styles.items };
+    ghost view = { λ t. styles_of t.styles.items };
+
+    ghost invariant = { λ t. HaveParts t.styles.items };
 }
 
 impl StyleTable {
@@ -39,9 +54,11 @@ impl StyleTable {
     pub fn start(alloc: Global, slots: usize) -> Result<StyleTable, NoMemory>
         ensures { IfOk result (λ table. table ≡ []) }
     {
+        let slots = slots.min(MOST_SLOTS);
         Ok(StyleTable {
             styles: Vec::new(alloc),
-            slots: vec![in alloc; 0; slots.min(MOST_SLOTS)]?,
+            slots: vec![in alloc; 0; slots]?,
+            part_slots: vec![in alloc; 0; slots]?,
         })
     }
 
@@ -71,9 +88,8 @@ impl StyleTable {
         if let Some(number) = self.find(slot, &draft) {
             return Ok(number);
         }
-        let number = self.styles.len();
         let style = draft.finish(alloc)?;
-        self.styles.push(Arc::new(alloc, style)?)?;
+        let number = self.append(Arc::new(alloc, style)?)?;
         remember(&mut self.slots, slot, number);
         Ok(number)
     }
@@ -90,10 +106,36 @@ impl StyleTable {
         if let Some(number) = self.find_style(slot, style) {
             return Ok(number);
         }
-        let number = self.styles.len();
-        self.styles.push(Arc::try_clone(style)?)?;
+        let number = self.append(Arc::try_clone(style)?)?;
         remember(&mut self.slots, slot, number);
         Ok(number)
+    }
+
+    /// Adds a style behind the others, with its part. Out of memory, the table is as before.
+    fn append(&mut self, style: Arc<Style>) -> Result<usize, NoMemory>
+        ensures added { IfOk result (λ number. slice_get self.new number ≡ Some (arc_value style)) }
+        ensures grown { OnOk result (self.new ≡ self.old ++ arc_value style ∷ []) }
+        ensures refused { OnErr result (self.new ≡ self.old) }
+    {
+        let number = self.styles.len();
+        let slot = self.place(style.part_slot());
+        let part = self.find_part(slot, &style).unwrap_or(number);
+        self.styles.push(TableStyle { style, part })?;
+        remember(&mut self.part_slots, slot, part);
+        Ok(number)
+    }
+
+    /// The part of the style of a slot of parts, if the style has an equal inherited part.
+    fn find_part(&self, slot: usize, style: &Style) -> Option<usize>
+        ensures { IfSome result (λ part. part_at self.now part ≡ Some (inherited_part style.now)) }
+    {
+        let number = *self.part_slots.get(slot)?;
+        let other = self.styles.get(number)?;
+        if other.style.same_inherited(style) {
+            Some(other.part)
+        } else {
+            None
+        }
     }
 
     /// The slot for a number that equal styles share.
@@ -106,8 +148,8 @@ impl StyleTable {
         ensures { IfSome result (λ number. slice_get self.now number ≡ Some draft.now) }
     {
         let number = *self.slots.get(slot)?;
-        let style = self.styles.get(number)?;
-        if draft.is_same(style) {
+        let one = self.styles.get(number)?;
+        if draft.is_same(&one.style) {
             Some(number)
         } else {
             None
@@ -120,7 +162,7 @@ impl StyleTable {
     {
         let number = *self.slots.get(slot)?;
         let other = self.styles.get(number)?;
-        if other.is_same(style) {
+        if other.style.is_same(style) {
             Some(number)
         } else {
             None
@@ -132,11 +174,20 @@ impl StyleTable {
         requires { number < length self.now }
         ensures { slice_get self.now number ≡ Some (arc_value result.now) }
     {
-        &self.styles[number]
+        &self.styles[number].style
+    }
+
+    /// The number of a style of the table with the same inherited part as this one. Of two styles with
+    /// equal inherited parts it is most often the same: where it is, they have equal ones.
+    pub fn part(&self, number: usize) -> usize
+        requires { number < length self.now }
+        ensures { part_at self.now result ≡ part_at self.now number }
+    {
+        self.styles[number].part
     }
 }
 
-/// Keeps the number for a slot.
+/// Keeps a number for a slot.
 fn remember(slots: &mut Vec<usize>, slot: usize, number: usize) {
     if let Some(kept) = slots.get_mut(slot) {
         *kept = number;

@@ -125,15 +125,56 @@ impl ValueColumns {
 
     /// A number that equal values share.
     pub(crate) fn slot(&self) -> usize {
-        let mut sum = 0u64;
+        let mut sum = 0;
         for row in 0..COUNT {
-            let amount = self.amounts[row].thousandths().cast_unsigned();
-            sum = sum
-                .wrapping_mul(31)
-                .wrapping_add(amount)
-                .wrapping_add((self.words[row] as u64) << 20);
+            sum = self.mixed(sum, row);
         }
         (sum ^ (sum >> 24)) as usize
+    }
+
+    /// A number that equal inherited values share.
+    pub(crate) fn part_slot(&self) -> usize {
+        let mut sum = 0;
+        for id in PropertyRow::inherited() {
+            sum = self.mixed(sum, id.row());
+        }
+        (sum ^ (sum >> 24)) as usize
+    }
+
+    /// A number made of this one and the value of a row.
+    #[inline]
+    fn mixed(&self, sum: u64, row: usize) -> u64
+        requires { row < COUNT }
+    {
+        let amount = self.amounts[row].thousandths().cast_unsigned();
+        sum.wrapping_mul(31)
+            .wrapping_add(amount)
+            .wrapping_add((self.words[row] as u64) << 20)
+    }
+
+    /// Whether both have the same values of the inherited properties.
+    pub fn same_inherited(&self, other: &ValueColumns) -> bool
+        ensures { IsTrue result ↔ (inherited_values table self.now ≡ inherited_values table other.now) }
+    {
+        // Without effect: it tells the proof that both have a value for each property.
+        let _ = &self.words;
+        let _ = &other.words;
+        for id in PropertyRow::inherited() {
+            if !self.is_same_at(other, *id) {
+                return false;
+            }
+        }
+        true
+    }
+
+    /// Whether both have the same value of a property.
+    #[inline]
+    fn is_same_at(&self, other: &ValueColumns, id: PropId) -> bool
+        ensures { let property = property_of id in
+            IsTrue result ↔ (slice_get self.now property ≡ slice_get other.now property) }
+    {
+        let row = id.row();
+        self.words[row] == other.words[row] && self.amounts[row] == other.amounts[row]
     }
 
     /// Whether both have the same values.
