@@ -9,7 +9,7 @@ use Rattle.std.proofs.lemmas.List.{length-replicate}
 use Rattle.std.proofs.lemmas.Option.{slice_get_within}
 use Rattle.stylo_base.specs.NameList.{StandOnce}
 use Rattle.base_model.specs.Limits.{element_limit}
-use Rattle.scene_model.specs.Lookups.{IsElement, is_element, element_at, numbers, place_of, place_of_type}
+use Rattle.scene_model.specs.Lookups.{IsElement, element_at, place_of, place_of_type}
 use Rattle.scene_model.specs.Nodes.{Node, IsNodeList, listed, tree_order, scene_of}
 use Rattle.scene_model.specs.Document.{document_of}
 use Rattle.change_model.specs.Sound.{IsSound}

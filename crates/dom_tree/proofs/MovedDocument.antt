@@ -1,8 +1,8 @@
 -- What is kept of a document, once a subtree is moved.
-use Rattle.std.proofs.Common.{◌≡◌, ◌≢◌, ℕ, suc, ◌+◌, ◌-◌, ◌<◌, ◌≤◌, ◌==◌, ◌⊎◌, ◌||◌, ◌&&◌, Bool, true, false, not, cond, List, [], ◌∷◌, ◌++◌, take, drop, filter, length, slice_set}
-use Rattle.std.proofs.Common.{Option, Some, None, IfSome, is_some, option_and_then, option_map, unwrap_or, slice_get, sym, ap, ◌∙◌, subst, refl, inl, inr, arith, length-append}
+use Rattle.std.proofs.Common.{◌≡◌, ◌≢◌, ℕ, suc, ◌+◌, ◌-◌, ◌<◌, ◌≤◌, ◌==◌, ◌||◌, ◌&&◌, Bool, true, false, not, cond, List, [], ◌∷◌, ◌++◌, take, drop, filter, length, slice_set}
+use Rattle.std.proofs.Common.{Some, IfSome, option_map, unwrap_or, slice_get, sym, ap, ◌∙◌, subst, refl, inl, inr, arith, length-append}
 use Rattle.std.specs.Option.{option_map_or}
-use Rattle.std.proofs.Math.Seq.{drop-append_seam, take-append_seam}
+use Rattle.std.proofs.Math.Seq.{drop-append_seam}
 use Rattle.std.proofs.lemmas.Bool.{cases_eq, cases_lt, eqb-true, false≢true}
 use Rattle.std.proofs.lemmas.List.{length-map, length-set}
 use Rattle.std.proofs.lemmas.List.Filters.{length-filter_both}
@@ -15,9 +15,9 @@ use Rattle.scene_model.specs.Lookups.{IsElement, children, element_at, is_child_
 use Rattle.scene_model.specs.Nodes.{Node, listed}
 use Rattle.scene_model.proofs.Found.{parent_of-element}
 use Rattle.scene_model.proofs.Listed.{element_at-listed_some}
-use Rattle.scene_model.proofs.Numbers.{differs, same_number, split_in}
+use Rattle.scene_model.proofs.Numbers.{same_number, split_in}
 use Rattle.scene_model.proofs.Siblings.{place_of-inside}
-use Rattle.change_model.specs.ChildLists.{CanMove, CanRemove, moved, spot, under}
+use Rattle.change_model.specs.ChildLists.{CanMove, moved, spot, under}
 use Rattle.change_model.specs.Sound.{IsSound, is_below, subtree_of, without}
 use Rattle.change_model.proofs.Below.{below_itself}
 use Rattle.change_model.proofs.Columns.{element_at-set, get_left}
@@ -33,7 +33,7 @@ use Rattle.dom_tree.specs.Kept.{Table, part_of, put_node, with_parent}
 use Rattle.dom_tree.specs.Labels.{AreLabels}
 use Rattle.dom_tree.specs.SiblingPlaces.{ArePlaces, AreSiblings, AreWritten, AreZeros, HasNameBelow, HasTagBelow, index_among, type_place}
 use Rattle.dom_tree.specs.Turned.{turned}
-use Rattle.dom_tree.specs.Whole.{ArePresent, IsKept, IsWhole, Parts, document, in_order}
+use Rattle.dom_tree.specs.Whole.{IsKept, IsWhole, Parts, document, in_order}
 use Rattle.dom_tree.proofs.AppendLemmas.{get_behind}
 use Rattle.dom_tree.proofs.ChangeLemmas.{length-put, put_is}
 use Rattle.dom_tree.proofs.KeptLemmas.{element_at-in_order}

@@ -1,13 +1,12 @@
 -- What is kept of a document, once a subtree is taken out.
 use Rattle.std.proofs.Common.{◌≡◌, ◌≢◌, ℕ, ◌+◌, ◌-◌, ◌<◌, ◌≤◌, ◌==◌, ◌&&◌, Bool, true, false, not, cond, nat_lt, List, [], ◌∷◌, ◌++◌, take, drop, length, slice_set}
-use Rattle.std.proofs.Common.{Option, Some, None, IfSome, is_some, option_map, unwrap_or, slice_get, sym, ap, ◌∙◌, subst, refl, inl, inr, arith, ltb-true, append_assoc}
+use Rattle.std.proofs.Common.{Option, Some, None, IfSome, is_some, option_map, unwrap_or, slice_get, sym, ap, ◌∙◌, subst, refl, inl, inr, arith, ltb-true}
 use Rattle.std.specs.List.{AllByRecursion}
 use Rattle.std.proofs.Math.Seq.{take-append_seam, drop-append-add}
 use Rattle.std.proofs.lemmas.Bool.{cases_eq, true≢false}
 use Rattle.std.proofs.lemmas.List.{length-map, length-set}
 use Rattle.std.proofs.lemmas.List.Filters.{length-filter_both}
 use Rattle.std.proofs.lemmas.Option.{same_Some}
-use Rattle.base_model.specs.Limits.{element_limit}
 use Rattle.base_model.proofs.Lists.{each-drop, each-take}
 use Rattle.scene_model.specs.Ancestors.{position_of}
 use Rattle.scene_model.specs.Document.{Document}

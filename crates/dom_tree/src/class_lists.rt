@@ -1,8 +1,8 @@
 //! The class lists of a document: the distinct words of each value of `class`.
 
-ghost use Rattle.std.specs.Prelude.{◌≡◌, ◌<◌, ◌++◌, ◌∷◌, [], IfOk, IfSome, OnErr, OnOk, length, map};
+ghost use Rattle.std.specs.Prelude.{◌≡◌, ◌<◌, ◌++◌, ◌∷◌, [], IfOk, IfSome, OnErr, OnOk, Some, length, map, slice_get};
 ghost use Rattle.std.specs.Str.{chars};
-ghost use Rattle.dom_tree.specs.Classes.{AreNames, distinct_words, list_of};
+ghost use Rattle.dom_tree.specs.Classes.{AreInOrder, AreNames, distinct_words, list_of};
 ghost use Rattle.dom_tree.specs.Kept.{KeepsTexts, text_of};
 
 use crate::class_names::ClassNames;
@@ -17,10 +17,13 @@ use stylo_base::{Name, Names, NoMemory};
 pub(crate) struct ClassLists {
     /// The words.
     names: Names,
+    /// Of each list the names in the order of the text, and behind them the same names in the order of their numbers.
     list: Vec<Name>,
     spans: Vec<Span>,
     /// The words of the list that is appended; used again for each one.
     words: IndexSet<Name>,
+    /// The same in the order of their numbers.
+    sorted: Vec<Name>,
 }
 
 impl Model for ClassLists {
@@ -45,6 +48,7 @@ impl ClassLists {
             list: Vec::new(alloc),
             spans: Vec::new(alloc),
             words: IndexSet::new(alloc),
+            sorted: Vec::new(alloc),
         }
     }
 
@@ -57,6 +61,7 @@ impl ClassLists {
             spans: Vec::from_slice(alloc, &self.spans)?,
             names: self.names.copy(alloc)?,
             words: IndexSet::new(alloc),
+            sorted: Vec::new(alloc),
         })
     }
 
@@ -73,8 +78,10 @@ impl ClassLists {
         ensures err { OnErr result (self.new ≡ self.old) }
     {
         name_words(&mut self.names, &mut self.words, text)?;
+        sort_names(&mut self.sorted, self.words.as_slice())?;
         let span = Span::new(self.list.len(), self.words.len())?;
         self.list.extend_from_slice(self.words.as_slice())?;
+        self.list.extend_from_slice(&self.sorted)?;
         self.spans.push(span)?;
         Ok(())
     }
@@ -84,12 +91,31 @@ impl ClassLists {
         requires { IfSome index (λ k. k < length self.now) }
         ensures { result ≡ list_of self.now index }
     {
-        let list = match index {
-            Some(index) => self.spans[index as usize].of(&self.list),
-            None => &[],
-        };
-        ClassNames::new(&self.names, list)
+        match index {
+            Some(index) => self.at(index as usize),
+            None => ClassNames::new(&self.names, &[], &[]),
+        }
     }
+
+    /// The names of a list.
+    #[inline]
+    fn at(&self, index: usize) -> ClassNames<'_>
+        requires { index < length self.now }
+        ensures { slice_get self.now index ≡ Some result }
+    {
+        let span = self.spans[index];
+        ClassNames::new(&self.names, span.of(&self.list), span.behind_of(&self.list))
+    }
+}
+
+/// Puts names into `sorted` in the order of their numbers.
+fn sort_names(sorted: &mut Vec<Name>, names: &[Name]) -> Result<(), NoMemory>
+    ensures { OnOk result (AreInOrder names.now sorted.new.items) }
+{
+    sorted.clear();
+    sorted.extend_from_slice(names)?;
+    sorted.sort_unstable();
+    Ok(())
 }
 
 /// Puts the words of a text into `found`, each once.

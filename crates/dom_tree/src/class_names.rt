@@ -2,10 +2,11 @@
 
 ghost use Rattle.std.specs.Prelude.{◌≡◌, ◌<◌, ◌^◌, Some, encode_utf8_all, length, map, slice_get};
 ghost use Rattle.std.specs.List.{list_any};
+ghost use Rattle.std.specs.List.Sorted.{IsNonDecreasing};
 ghost use Rattle.std.specs.Str.{chars};
 ghost use Rattle.base_model.specs.Text.{same_text};
 ghost use Rattle.stylo_base.specs.NameKey.{key_of};
-ghost use Rattle.dom_tree.specs.Classes.{AreNames};
+ghost use Rattle.dom_tree.specs.Classes.{AreClasses, AreNames};
 ghost use Rattle.dom_tree.specs.Kept.{text_of};
 
 use std::marker::Model;
@@ -47,34 +48,43 @@ impl<'a> LentName<'a> {
     }
 }
 
+/// How many names are looked through one by one.
+const MOST_IN_TURN: usize = 8;
+
 /// The class names of an element, each once, which are lent. Contracts see the list of their texts.
 #[derive(Drop)]
 pub(crate) struct ClassNames<'a> {
     names: &'a Names,
     list: &'a [Name],
+    /// The same in the order of their numbers.
+    sorted: &'a [Name],
 }
 
 impl<'a> Model for ClassNames<'a> {
     ghost use Rattle.std.specs.Prelude.{List, map as mapped};
     ghost use Rattle.scene_model.specs.Element.{Characters};
-    ghost use Rattle.dom_tree.specs.Classes.{AreNames};
+    ghost use Rattle.dom_tree.specs.Classes.{AreClasses};
     ghost use Rattle.dom_tree.specs.Kept.{text_of};
 
     ghost Value = { List Characters };
 
     ghost view = { λ c. mapped (text_of c.names.now) c.list.now };
 
-    ghost invariant = { λ c. AreNames c.names.now c.list.now };
+    ghost invariant = { λ c. AreClasses c.names.now c.list.now c.sorted.now };
 }
 
 impl<'a> ClassNames<'a> {
-    /// The names of a list.
+    /// The names of a list, which are given in the order of their numbers too.
     #[inline]
-    pub fn new(names: &'a Names, list: &'a [Name]) -> ClassNames<'a>
-        requires { AreNames names.now list.now }
+    pub fn new(names: &'a Names, list: &'a [Name], sorted: &'a [Name]) -> ClassNames<'a>
+        requires { AreClasses names.now list.now sorted.now }
         ensures { result ≡ map (text_of names.now) list.now }
     {
-        ClassNames { names, list }
+        ClassNames {
+            names,
+            list,
+            sorted,
+        }
     }
 
     /// How many there are.
@@ -101,6 +111,9 @@ impl<'a> ClassNames<'a> {
     pub fn has(&self, name: &Atom) -> bool
         ensures { result ≡ list_any (same_text name.now) self.now }
     {
+        if self.list.len() > MOST_IN_TURN {
+            return stands_in(self.names, self.sorted, name.as_str());
+        }
         for class in self.list {
             if self.names.is_atom(*class, name) {
                 return true;
@@ -113,11 +126,27 @@ impl<'a> ClassNames<'a> {
     pub fn has_text(&self, name: &str) -> bool
         ensures { result ≡ list_any (same_text (chars name.now)) self.now }
     {
+        if self.list.len() > MOST_IN_TURN {
+            return stands_in(self.names, self.sorted, name);
+        }
         for class in self.list {
             if self.names.text(*class) == name {
                 return true;
             }
         }
         false
+    }
+}
+
+/// Whether a text is that of one of the names of a list, which is in the order of their numbers.
+#[inline(never)]
+fn stands_in(names: &Names, sorted: &[Name], text: &str) -> bool
+    requires named { AreNames names.now sorted.now }
+    requires rising { IsNonDecreasing sorted.now }
+    ensures { result ≡ list_any (same_text (chars text.now)) (map (text_of names.now) sorted.now) }
+{
+    match names.find(text) {
+        Some(name) => sorted.binary_search(&name).is_ok(),
+        None => false,
     }
 }

@@ -1,6 +1,7 @@
 //! A part of a flat list.
 
 ghost use Rattle.std.specs.Prelude.{◌≡◌, ◌+◌, ◌≤◌, IfOk, length};
+ghost use Rattle.dom_tree.specs.Classes.{behind};
 ghost use Rattle.dom_tree.specs.Kept.{part_of};
 
 use stylo_base::NoMemory;
@@ -32,5 +33,16 @@ impl Span {
     {
         let first = self.first as usize;
         &list[first..first + self.count as usize]
+    }
+
+    /// The items of the part behind it, which has as many.
+    #[inline]
+    pub fn behind_of<T>(self, list: &[T]) -> &[T]
+        requires { self.first + self.count + self.count ≤ length list.now }
+        ensures { result.now ≡ part_of list.now (behind self) }
+    {
+        let count = self.count as usize;
+        let first = self.first as usize + count;
+        &list[first..first + count]
     }
 }

@@ -1,4 +1,4 @@
-use Rattle.std.proofs.Common.{ap, arith, codes, length, refl}
+use Rattle.std.proofs.Common.{ap, arith, codes, length}
 use Rattle.std.specs.Str.{chars}
 use Rattle.dom_tree.proofs.LabelLemmas.{labels_next}
 use Rattle.dom_tree.proofs.MoreLabels.{name_within}

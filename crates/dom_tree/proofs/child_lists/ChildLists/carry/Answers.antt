@@ -1,4 +1,4 @@
-use Rattle.std.proofs.Common.{◌≡◌, ◌≢◌, ◌+◌, ◌-◌, ◌<◌, ◌≤◌, List, ℕ, ap, arith, length}
+use Rattle.std.proofs.Common.{◌≢◌, ◌-◌, ◌<◌, List, ℕ, arith, length}
 use Rattle.std.proofs.lemmas.List.{length-map}
 use Rattle.dom_tree.specs.ChildLists.{list_with, list_without, lists_of}
 use Rattle.dom_tree.specs.Kept.{part_of}

@@ -1,4 +1,4 @@
-use Rattle.std.proofs.Common.{arith, ◌∙◌, get_or, nat_le, refl}
+use Rattle.std.proofs.Common.{arith, ◌∙◌, get_or, nat_le}
 use Rattle.scene_model.specs.Ancestors.{depth_of}
 use Rattle.dom_tree.proofs.DepthLemmas.{above_last, below_at, each_below, get_any, one_deeper}
 use Rattle.dom_tree.proofs.doc.Doc.deepest_below.Goals as goal

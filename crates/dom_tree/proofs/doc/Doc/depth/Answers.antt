@@ -1,5 +1,4 @@
-use Rattle.std.proofs.Common.{arith, sym, ◌∙◌, ◌+◌, ◌≤◌, ◌≡◌}
-use Rattle.scene_model.specs.Ancestors.{depth_of}
+use Rattle.std.proofs.Common.{arith, sym, ◌∙◌}
 use Rattle.scene_model.proofs.Climbing.{depth_of-child, depth_of-root}
 use Rattle.dom_tree.proofs.DepthLemmas.{depth_within}
 use Rattle.dom_tree.proofs.doc.Doc.depth.Goals as goal

@@ -1,6 +1,6 @@
-use Rattle.std.proofs.Common.{◌≡◌, ◌-◌, ◌+◌, ℕ, true, arith, ap, sym, subst, ◌∙◌, unwrap_or}
+use Rattle.std.proofs.Common.{◌≡◌, ◌+◌, true, arith, ap, sym, subst, ◌∙◌, unwrap_or}
 use Rattle.scene_model.specs.Ancestors.{depth_of}
-use Rattle.scene_model.specs.Lookups.{IsElement, parent_of}
+use Rattle.scene_model.specs.Lookups.{IsElement}
 use Rattle.change_model.specs.Sound.{is_below}
 use Rattle.scene_model.proofs.Climbing.{depth_of-child, depth_of-root}
 use Rattle.dom_tree.proofs.DepthLemmas.{depth_within, parent_next}

@@ -1,20 +1,16 @@
-use Rattle.std.proofs.Common.{◌≡◌, ◌+◌, ◌-◌, ◌<◌, ◌≤◌, ◌^◌, ℕ, List, IfSome, ap, arith, length, refl, slice_get, subst, sym, ◌∙◌}
-use Rattle.std.specs.Option.{option_map_or}
+use Rattle.std.proofs.Common.{◌+◌, ◌-◌, ◌<◌, ◌≤◌, ◌^◌, ℕ, List, ap, arith, length, refl, subst, sym, ◌∙◌}
 use Rattle.std.proofs.lemmas.List.{length-map}
-use Rattle.base_model.proofs.Results.{on_err}
-use Rattle.scene_model.specs.Ancestors.{position_of}
 use Rattle.scene_model.specs.Document.{Document}
 use Rattle.scene_model.specs.Lookups.{children}
-use Rattle.change_model.specs.Sound.{subtree_of, without}
 use Rattle.stylo_base.specs.NameList.{StandOnce}
 use Rattle.dom_tree.specs.ChildLists.{lists_of}
-use Rattle.dom_tree.specs.Kept.{Table, part_of}
+use Rattle.dom_tree.specs.Kept.{part_of}
 use Rattle.dom_tree.specs.SiblingPlaces.{AreZeros}
-use Rattle.dom_tree.specs.Whole.{IsWhole, Parts, in_order}
+use Rattle.dom_tree.specs.Whole.{Parts, in_order}
 use Rattle.dom_tree.proofs.MovedDocument.{IsMove, children_after, from_low, from_is, from_told, from_within, index_few, index_within, moved_document, moved_whole, moving, order_after}
 use Rattle.dom_tree.proofs.MovedDocument.{part_within, place_outside, place_within, siblings_after, spot_read, to_is, to_told, to_within}
 use Rattle.dom_tree.proofs.RemovedDocument.{hung_there}
-use Rattle.dom_tree.proofs.RoomLemmas.{document_same, room_whole, spans_long, told_again}
+use Rattle.dom_tree.proofs.RoomLemmas.{room_whole, spans_long, told_again}
 use Rattle.dom_tree.proofs.doc.Doc.move_to.Goals as goal
 
 -- what the steps ask for

@@ -1,5 +1,4 @@
-use Rattle.std.proofs.Common.{◌≡◌, ◌+◌, ◌-◌, ◌≤◌, length, take, ap, sym, ◌∙◌, refl, arith, Some, rules}
-use Rattle.scene_model.specs.Lookups.{parent_of}
+use Rattle.std.proofs.Common.{◌≡◌, ◌-◌, length, take, ap, sym, ◌∙◌, refl, arith}
 use Rattle.dom_tree.specs.Whole.{Parts}
 use Rattle.dom_tree.proofs.RemovedDocument.{IsRemoval, each_within, hung_there, parent_within, place_within, removed_document, removed_whole, siblings_left, spans_left, subtree_inside}
 use Rattle.dom_tree.proofs.doc.Doc.remove.Goals as goal

@@ -1,4 +1,4 @@
-use Rattle.std.proofs.Common.{sym, subst, refl}
+use Rattle.std.proofs.Common.{sym, subst}
 use Rattle.dom_tree.specs.SiblingPlaces.{AreZeros}
 use Rattle.dom_tree.proofs.ChangeLemmas.{zeros_more}
 use Rattle.dom_tree.proofs.InsertRooms.{zeros_after}

@@ -1,6 +1,5 @@
-use Rattle.std.proofs.Common.{◌≡◌, ap, sym, ◌∙◌, arith, false, true, subst, length, zero}
+use Rattle.std.proofs.Common.{ap, sym, ◌∙◌, arith, false, true, subst, length}
 use Rattle.std.specs.List.{AllByRecursion}
-use Rattle.std.proofs.Math.ListN.{replicate}
 use Rattle.scene_model.specs.Nodes.{Node}
 use Rattle.dom_tree.specs.SiblingPlaces.{HasNameBelow}
 use Rattle.dom_tree.proofs.SettleLemmas.{root_first, root_index, scene_places, scene_siblings, scene_tags, zeros, zeros_room, zeros_tallied}
