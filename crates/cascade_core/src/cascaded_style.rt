@@ -1,6 +1,6 @@
 //! The style of an element over its parent's, and whether it takes.
 
-ghost use Rattle.std.specs.Prelude.{◌≡◌, ◌++◌, IfOk, OnOk, flat_map, length};
+ghost use Rattle.std.specs.Prelude.{◌≡◌, ◌++◌, IfOk, IsTrue, OnOk, flat_map, length};
 ghost use Rattle.std.specs.FinMap as finmap;
 ghost use Rattle.std.specs.Option.{unwrap_or};
 ghost use Rattle.cascade_model.specs.Cascade.{sizes, value_at, values_over};
@@ -34,6 +34,9 @@ pub struct CascadedDraft {
     /// rollback and substitution (css-cascade-5, section 7.3). Where it does not, its style depends on
     /// what is inherited of the parent's alone.
     pub takes: bool,
+    /// Whether its custom properties are those of the parent, which it shares. Where it is not so, they
+    /// may be the same.
+    pub keeps_custom: bool,
 }
 
 /// The style of an element, from the declarations of the rules that match it, those of its `style`
@@ -76,16 +79,31 @@ pub fn cascade_draft(
         IsCascaded is_root parent.now root_size (all_matched declarations.entry) cascaded.draft) }
     ensures takes { let ds = all_matched declarations.entry in
         IfOk result (λ cascaded. cascaded.takes ≡ takes (finmap.get (custom_values parent.now.custom ds)) ds) }
+    ensures custom { IfOk result (λ cascaded. IsTrue cascaded.keeps_custom
+        → cascaded.draft.custom ≡ parent.now.custom) }
 {
     let winners = Winners::of(declarations)?;
     let mut draft = StyleDraft::inheriting(alloc, parent)?;
-    let takes = fill(alloc, &mut draft, &winners, parent, root_size, is_root)?;
+    let filled = fill(alloc, &mut draft, &winners, parent, root_size, is_root)?;
     draft.adjust(is_root);
-    Ok(CascadedDraft { draft, takes })
+    Ok(CascadedDraft {
+        draft,
+        takes: filled.takes,
+        keeps_custom: filled.keeps_custom,
+    })
+}
+
+/// What is told of a draft that is filled.
+#[derive(Clone, Copy)]
+struct Filled {
+    /// Whether the element takes.
+    takes: bool,
+    /// Whether its custom properties are those of the parent.
+    keeps_custom: bool,
 }
 
 /// Turns what an element inherits from its parent into its style before the adjustments, and tells
-/// whether the element takes.
+/// whether the element takes and whether it keeps the custom properties.
 fn fill(
     alloc: Global,
     draft: &mut StyleDraft,
@@ -93,7 +111,7 @@ fn fill(
     parent: &Style,
     root_size: Fixed,
     is_root: bool,
-) -> Result<bool, NoMemory>
+) -> Result<Filled, NoMemory>
     requires { draft.old ≡ inherited_part parent.now }
     ensures style { let custom = custom_values parent.now.custom winners.now in
         OnOk result (draft.new ≡ record {
@@ -101,11 +119,17 @@ fn fill(
           custom = custom;
         }) }
     ensures takes { let custom = custom_values parent.now.custom winners.now in
-        IfOk result (λ told. told ≡ takes (finmap.get custom) winners.now) }
+        IfOk result (λ told. told.takes ≡ takes (finmap.get custom) winners.now) }
+    ensures custom { IfOk result (λ told. IsTrue told.keeps_custom
+        → custom_values parent.now.custom winners.now ≡ parent.now.custom) }
 {
     let Some(custom) = custom_of(alloc, winners, parent)? else {
         let inherited = parent.custom().map();
-        return set_values(alloc, draft, winners, parent, inherited, root_size, is_root);
+        let takes = set_values(alloc, draft, winners, parent, inherited, root_size, is_root)?;
+        return Ok(Filled {
+            takes,
+            keeps_custom: true,
+        });
     };
     let takes = set_values(
         alloc,
@@ -117,7 +141,10 @@ fn fill(
         is_root,
     )?;
     draft.set_custom(custom);
-    Ok(takes)
+    Ok(Filled {
+        takes,
+        keeps_custom: false,
+    })
 }
 
 /// The custom properties. None: they are the parent's.

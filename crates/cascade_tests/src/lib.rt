@@ -8,4 +8,6 @@ mod layers;
 #[cfg(test)]
 mod lines;
 #[cfg(test)]
+mod shared_custom;
+#[cfg(test)]
 mod styles;

@@ -87,11 +87,13 @@ impl StyleDraft {
         self.columns.adjust(is_root);
     }
 
-    /// Whether a style has these values, those of custom properties too.
-    pub(crate) fn is_same(&self, style: &Style) -> bool
+    /// Whether a style has these values, those of custom properties too, which are not compared where it
+    /// is known that it shares them.
+    pub(crate) fn is_same(&self, style: &Style, shares: bool) -> bool
+        requires { IsTrue shares → style.now.custom ≡ self.now.custom }
         ensures { IsTrue result → style.now ≡ self.now }
     {
-        self.columns.is_same(style.columns()) && self.custom.is_same(style.custom())
+        self.columns.is_same(style.columns()) && (shares || self.custom.is_same(style.custom()))
     }
 
     /// A number that equal drafts share, and the style that is finished of them.

@@ -132,6 +132,16 @@ impl Style {
         self.columns.same_inherited(&other.columns) && self.custom.is_same(&other.custom)
     }
 
+    /// Whether the two have equal inherited parts, where the custom properties are not compared if it is
+    /// known that they are the same.
+    pub(crate) fn is_same_part(&self, other: &Style, shares: bool) -> bool
+        requires { IsTrue shares → self.now.custom ≡ other.now.custom }
+        ensures { IsTrue result → inherited_part self.now ≡ inherited_part other.now }
+    {
+        self.columns.same_inherited(&other.columns)
+            && (shares || self.custom.is_same(&other.custom))
+    }
+
     /// Whether the two have the same values, those of custom properties too.
     pub fn is_same(&self, other: &Style) -> bool
         ensures { IsTrue result ↔ (self.now ≡ other.now) }

@@ -1,9 +1,9 @@
 //! The styles of a document, each kept once, with a number.
 
-ghost use Rattle.std.specs.Prelude.{◌≡◌, ◌<◌, ◌⊎◌, ◌++◌, ◌∷◌, [], IfOk, IfSome, OnErr, OnOk, Some, length, slice_get, take};
+ghost use Rattle.std.specs.Prelude.{◌≡◌, ◌<◌, ◌⊎◌, ◌++◌, ◌∷◌, [], IfOk, IfSome, IsTrue, OnErr, OnOk, Some, length, slice_get, take};
 ghost use Rattle.std.specs.Arc.{arc_value};
 ghost use Rattle.value_model.specs.Style.{inherited_part};
-ghost use Rattle.style_value.specs.Parts.{part_at};
+ghost use Rattle.style_value.specs.Parts.{custom_at, part_at};
 
 use crate::{Style, StyleDraft};
 use std::alloc::Global;
@@ -32,13 +32,15 @@ struct TableStyle {
     style: Arc<Style>,
     /// The number of a style of the table with an equal inherited part.
     part: usize,
+    /// The number of a style of the table with equal custom properties.
+    custom: usize,
 }
 
 impl Model for StyleTable {
     ghost use Rattle.std.specs.Prelude.{List};
     ghost use Rattle.std.specs.Coded.{coded_list};
     ghost use Rattle.value_model.specs.Style as model;
-    ghost use Rattle.style_value.specs.Parts.{HaveParts, styles_of};
+    ghost use Rattle.style_value.specs.Parts.{HaveCustom, HaveParts, styles_of};
 
     ghost Value = { List model.Style };
 
@@ -46,7 +48,7 @@ impl Model for StyleTable {
 
     ghost view = { λ t. styles_of t.styles.items };
 
-    ghost invariant = { λ t. HaveParts t.styles.items };
+    ghost invariant = { λ t. HaveParts t.styles.items × HaveCustom t.styles.items };
 }
 
 impl StyleTable {
@@ -84,12 +86,47 @@ impl StyleTable {
         ensures grown { OnOk result ((self.new ≡ self.old) ⊎ (self.new ≡ self.old ++ draft ∷ [])) }
         ensures refused { OnErr result (self.new ≡ self.old) }
     {
+        self.add_alike(alloc, draft, None)
+    }
+
+    /// The same for a draft with the custom properties of the style `parent`. They are not compared with
+    /// those of a style that has them from there too.
+    pub fn add_over(
+        &mut self,
+        alloc: Global,
+        draft: StyleDraft,
+        parent: usize,
+    ) -> Result<usize, NoMemory>
+        requires parent { parent < length self.old }
+        requires custom { custom_at self.old parent ≡ Some draft.custom }
+        ensures added { IfOk result (λ number. slice_get self.new number ≡ Some draft) }
+        ensures kept { take (length self.old) self.new ≡ self.old }
+        ensures grown { OnOk result ((self.new ≡ self.old) ⊎ (self.new ≡ self.old ++ draft ∷ [])) }
+        ensures refused { OnErr result (self.new ≡ self.old) }
+    {
+        let custom = self.custom(parent);
+        self.add_alike(alloc, draft, Some(custom))
+    }
+
+    /// The same for a draft with the custom properties of a style, if a number is given.
+    fn add_alike(
+        &mut self,
+        alloc: Global,
+        draft: StyleDraft,
+        custom: Option<usize>,
+    ) -> Result<usize, NoMemory>
+        requires { IfSome custom (λ like. custom_at self.old like ≡ Some draft.custom) }
+        ensures added { IfOk result (λ number. slice_get self.new number ≡ Some draft) }
+        ensures kept { take (length self.old) self.new ≡ self.old }
+        ensures grown { OnOk result ((self.new ≡ self.old) ⊎ (self.new ≡ self.old ++ draft ∷ [])) }
+        ensures refused { OnErr result (self.new ≡ self.old) }
+    {
         let slot = self.place(draft.slot());
-        if let Some(number) = self.find(slot, &draft) {
+        if let Some(number) = self.find(slot, &draft, custom) {
             return Ok(number);
         }
         let style = draft.finish(alloc)?;
-        let number = self.append(Arc::new(alloc, style)?)?;
+        let number = self.append(Arc::new(alloc, style)?, custom)?;
         remember(&mut self.slots, slot, number);
         Ok(number)
     }
@@ -106,32 +143,39 @@ impl StyleTable {
         if let Some(number) = self.find_style(slot, style) {
             return Ok(number);
         }
-        let number = self.append(Arc::try_clone(style)?)?;
+        let number = self.append(Arc::try_clone(style)?, None)?;
         remember(&mut self.slots, slot, number);
         Ok(number)
     }
 
-    /// Adds a style behind the others, with its part. Out of memory, the table is as before.
-    fn append(&mut self, style: Arc<Style>) -> Result<usize, NoMemory>
+    /// Adds a style behind the others, with its part. It has the custom properties of a style, if a
+    /// number is given. Out of memory, the table is as before.
+    fn append(&mut self, style: Arc<Style>, custom: Option<usize>) -> Result<usize, NoMemory>
+        requires { IfSome custom (λ like. custom_at self.old like ≡ Some (arc_value style).custom) }
         ensures added { IfOk result (λ number. slice_get self.new number ≡ Some (arc_value style)) }
         ensures grown { OnOk result (self.new ≡ self.old ++ arc_value style ∷ []) }
         ensures refused { OnErr result (self.new ≡ self.old) }
     {
         let number = self.styles.len();
         let slot = self.place(style.part_slot());
-        let part = self.find_part(slot, &style).unwrap_or(number);
-        self.styles.push(TableStyle { style, part })?;
+        let part = self.find_part(slot, &style, custom).unwrap_or(number);
+        self.styles.push(TableStyle {
+            style,
+            part,
+            custom: custom.unwrap_or(number),
+        })?;
         remember(&mut self.part_slots, slot, part);
         Ok(number)
     }
 
     /// The part of the style of a slot of parts, if the style has an equal inherited part.
-    fn find_part(&self, slot: usize, style: &Style) -> Option<usize>
+    fn find_part(&self, slot: usize, style: &Style, custom: Option<usize>) -> Option<usize>
+        requires { IfSome custom (λ like. custom_at self.now like ≡ Some style.now.custom) }
         ensures { IfSome result (λ part. part_at self.now part ≡ Some (inherited_part style.now)) }
     {
         let number = *self.part_slots.get(slot)?;
         let other = self.styles.get(number)?;
-        if other.style.same_inherited(style) {
+        if other.style.is_same_part(style, other.shares(custom)) {
             Some(other.part)
         } else {
             None
@@ -144,12 +188,13 @@ impl StyleTable {
     }
 
     /// The number of the style of a slot, if it has the values of the draft.
-    fn find(&self, slot: usize, draft: &StyleDraft) -> Option<usize>
+    fn find(&self, slot: usize, draft: &StyleDraft, custom: Option<usize>) -> Option<usize>
+        requires { IfSome custom (λ like. custom_at self.now like ≡ Some draft.now.custom) }
         ensures { IfSome result (λ number. slice_get self.now number ≡ Some draft.now) }
     {
         let number = *self.slots.get(slot)?;
         let one = self.styles.get(number)?;
-        if draft.is_same(&one.style) {
+        if draft.is_same(&one.style, one.shares(custom)) {
             Some(number)
         } else {
             None
@@ -184,6 +229,26 @@ impl StyleTable {
         ensures { part_at self.now result ≡ part_at self.now number }
     {
         self.styles[number].part
+    }
+
+    /// The number of a style of the table with the custom properties of this one.
+    fn custom(&self, number: usize) -> usize
+        requires { number < length self.now }
+        ensures { custom_at self.now result ≡ custom_at self.now number }
+    {
+        self.styles[number].custom
+    }
+}
+
+impl TableStyle {
+    /// Whether its custom properties are those of a style, if a number is given.
+    fn shares(&self, custom: Option<usize>) -> bool
+        ensures { IsTrue result → custom ≡ Some self.now.custom }
+    {
+        match custom {
+            None => false,
+            Some(number) => number == self.custom,
+        }
     }
 }
 
