@@ -1,21 +1,26 @@
--- What is known of styles stays right while the table of styles grows.
-use Rattle.std.proofs.Common.{◌≡◌, ◌≢◌, ℕ, ℤ, ◌+◌, ◌<◌, ◌≤◌, false, refl, get_or, set, IfSome, List, ◌++◌, length, take, drop, slice_get, Option, Some, None, sym, ap, ◌∙◌, subst, arith, below_more, get_or-set_other, get_or-set_same, take-append-drop, length-append, length-drop, length-set, append-nil}
+-- For `MatchedRulesCache`: what is kept of styles is right, and stays so while the table of styles grows.
+use Rattle.std.proofs.Common.{◌≡◌, ◌≢◌, ℕ, ℤ, ◌+◌, ◌<◌, ◌≤◌, refl, get_or, set, List, ◌++◌, length, take, drop, slice_get, Option, Some, None, option_map, sym, ap, ◌∙◌, subst, false, arith, below_more, get_or-set_other, get_or-set_same, take-append-drop, length-append, length-drop, length-set}
 use Rattle.std.specs.List.{All}
 use Rattle.std.proofs.lemmas.List.{get_or_append_left}
 use Rattle.std.proofs.lemmas.List.Elements.{All-append, All-take, All-weaker}
 use Rattle.std.proofs.lemmas.Option.{same_Some, slice_get-get_or, slice_get_within, get_or_from_slice_get}
 use Rattle.base_model.proofs.Lists.{slice_get_some}
-use Rattle.value_model.specs.Style.{Style}
+use Rattle.base_model.specs.Text.{Characters}
+use Rattle.value_model.specs.Style.{Style, inherited_part}
 use Rattle.sheet_model.specs.Sources.{Sources}
 use Rattle.cascade_model.specs.Cascade.{cascaded}
-use Rattle.cascade_model.specs.Key.{Matched}
-use Rattle.element_styler.specs.Cache.{AllRight, HasRight, IsRight}
-use Rattle.element_styler.specs.Fits.{Fits}
-use Rattle.element_styler.specs.MatchedRules.{declarations_of, declared_by}
+use Rattle.style_value.specs.Parts.{part_at}
+use Rattle.takes_model.proofs.TakesLemmas.{cascaded-inherited}
+use Rattle.element_styler.specs.Cache.{HasRight, HaveRight, IsComputed, IsKnown, IsOver, IsRight, KnownFor, kept_key, number_of}
+use Rattle.element_styler.specs.MatchedRules.{declared_by}
 use Rattle.element_styler.specs.declared.matched_rules.MatchedRule.{MatchedRule}
+use Rattle.element_styler.specs.declared.cache.Over.{Over}
+use Rattle.element_styler.specs.declared.cache.Over.TheVariants.{Part, Parent}
+use Rattle.element_styler.specs.declared.cache.Known.TheVariants.{Nothing, Takes, Style as KnownStyle}
+use Rattle.element_styler.specs.declared.cache.Known.{Known}
 use Rattle.element_styler.specs.declared.cache.Entry.{Entry}
-use Rattle.element_styler.specs.declared.prepared.Prepared.{Prepared}
-use Rattle.element_styler.specs.declared.styler.Styler.{Styler}
+use Rattle.element_styler.specs.declared.cache.Pair.{Pair}
+use Rattle.element_styler.specs.declared.styler.ComputedStyle.{ComputedStyle}
 
 -- an item keeps its place
 pub kept_at : {A : Type 0} (table more : List A) (n : ℕ) (s : A) → take (length table) more ≡ table → slice_get table n ≡ Some s → slice_get more n ≡ Some s
@@ -27,88 +32,111 @@ kept_at table more n s kept at =
     ∙ (slice_get-get_or (table ++ rest) n s (omega (arith, within, length-append table rest))
     ∙ ap Some (get_or_append_left table rest s n within ∙ get_or_from_slice_get table n s s at))
 
-pub right_more : (sources : Sources) (size : ℤ) (table more : List Style) (parent : ℕ) (found : List MatchedRule) (style : ℕ) → take (length table) more ≡ table → IsRight sources size table parent found style → IsRight sources size more parent found style
-right_more sources size table more parent found style kept right = record {
-  over = right.over;
-  parent_is = kept_at table more parent right.over kept right.parent_is;
-  own_is = kept_at table more style (cascaded false right.over size (declarations_of sources found)) kept right.own_is;
-}
+-- so what stands at a number of the table is what stood there
+before_at : {A : Type 0} (table more : List A) (n : ℕ) → take (length table) more ≡ table → n < length table → slice_get more n ≡ slice_get table n
+before_at table more n kept within = let (s, at) = slice_get_some table n within in kept_at table more n s kept at ∙ sym at
 
-pub all_right_more : (sources : Sources) (size : ℤ) (table more : List Style) (entries : List Entry) → take (length table) more ≡ table → All (HasRight sources size table) entries → All (HasRight sources size more) entries
-all_right_more sources size table more entries kept right =
-    All-weaker (HasRight sources size table) (HasRight sources size more) (λ entry has style is. right_more sources size table more entry.parent entry.matched.items style kept (has style is)) entries right
+-- and the parents that a style is known over are those of before
+over_before : (table more : List Style) (parents : Over) (over : Style) → take (length table) more ≡ table → number_of parents < length table → IsOver more parents over → IsOver table parents over
+over_before table more (Part n) over kept within is = ap (option_map inherited_part) (sym (before_at table more n kept within)) ∙ is
+over_before table more (Parent n) over kept within is = sym (before_at table more n kept within) ∙ is
 
--- the style that is known for rules is over that of the parent for what they alone declare
-pub right_here : (sources : Sources) (size : ℤ) (table : List Style) (parent : ℕ) (found : List MatchedRule) (style : ℕ) (over : Style) (applied : List Matched)
-    → declared_by sources found None ≡ applied → slice_get table parent ≡ Some over → IsRight sources size table parent found style → slice_get table style ≡ Some (cascaded false over size applied)
-right_here sources size table parent found style over applied alone at right =
-    let same : right.over ≡ over = same_Some _ _ (sym right.parent_is ∙ at) in
-    right.own_is ∙ (ap (λ s. Some (cascaded false s size (declarations_of sources found))) same
-    ∙ ap (λ l. Some (cascaded false over size l)) (sym (append-nil (declarations_of sources found)) ∙ alone))
+within_more : {A : Type 0} (table more : List A) (n : ℕ) → take (length table) more ≡ table → n < length table → n < length more
+within_more table more n kept within =
+    let (s, at) = slice_get_some table n within in slice_get_within more n s (kept_at table more n s kept at)
 
--- and the other way: one that was computed for them is right in the table that has it
-pub right_grown : (sources : Sources) (size : ℤ) (table more : List Style) (parent : ℕ) (found : List MatchedRule) (style : ℕ) (over : Style)
-    → slice_get table parent ≡ Some over → take (length table) more ≡ table → slice_get more style ≡ Some (cascaded false over size (declared_by sources found None)) → IsRight sources size more parent found style
-right_grown sources size table more parent found style over at kept is = record {
-  over = over;
-  parent_is = kept_at table more parent over kept at;
-  own_is = is ∙ ap (λ l. Some (cascaded false over size l)) (append-nil (declarations_of sources found));
-}
+module _ (sources : Sources) (size : ℤ) (table more : List Style) (kept : take (length table) more ≡ table) where
+  right_more : (key : KnownFor) (style : ℕ) → IsRight sources size table key style → IsRight sources size more key style
+  right_more key style right = record {
+    there = within_more table more (number_of key.over) kept right.there;
+    own_is = λ over is. kept_at table more style (cascaded false over size (declared_by sources key.rules key.text)) kept
+        (right.own_is over (over_before table more key.over over kept right.there is));
+  }
 
--- what an entry has for a parent's style and rules that are its own
-pub found_right : (sources : Sources) (size : ℤ) (table : List Style) (entries : List Entry) (k : ℕ) (entry : Entry) (parent : ℕ) (found : List MatchedRule)
-    → entry ≡ get_or entries k entry → k < length entries → entry.parent ≡ parent → entry.matched.items ≡ found → All (HasRight sources size table) entries → IfSome entry.style (λ style. IsRight sources size table parent found style)
-found_right sources size table entries k entry parent found is within same alike all = by entry.style refl
+  entry_more : (entry : Entry) → HasRight sources size table entry → HasRight sources size more entry
+  entry_more entry has style is = right_more (kept_key entry) style (has style is)
+
+  pub all_right_more : (pairs : List Pair) → All (HaveRight sources size table) pairs → All (HaveRight sources size more) pairs
+  all_right_more pairs right =
+      All-weaker (HaveRight sources size table) (HaveRight sources size more) (λ pair have. record { newer = entry_more pair.newer have.newer; older = entry_more pair.older have.older }) pairs right
+
+-- there is a style at the number of a part
+part_within : (table : List Style) (n : ℕ) (part : Style) → part_at table n ≡ Some part → n < length table
+part_within table n part at = by (slice_get table n) refl at
   where
-    right : HasRight sources size table entry
-    right = subst (HasRight sources size table) (sym is) (all k entry within)
+    by : (o : Option Style) → slice_get table n ≡ o → option_map inherited_part o ≡ Some part → n < length table
+    by None here none = absurd (cc)
+    by (Some style) here some = slice_get_within table n style here
 
-    by : (o : Option ℕ) → entry.style ≡ o → IfSome o (λ style. IsRight sources size table parent found style)
-    by None e = tt
-    by (Some style) e = subst (λ p. IsRight sources size table p found style) same (subst (λ h. IsRight sources size table entry.parent h style) alike (right style e))
+abbrev pub known_for : Over → List MatchedRule → Option Characters → KnownFor
+known_for over rules text = record { over = over; rules = rules; text = text }
 
--- an entry without a style
-pub none_right : (sources : Sources) (size : ℤ) (table : List Style) (entry : Entry) → entry.style ≡ None → HasRight sources size table entry
-none_right sources size table entry none style is = absurd (cc)
+pub same_known : (a b : KnownFor) → a.over ≡ b.over → a.rules ≡ b.rules → a.text ≡ b.text → a ≡ b
+same_known a b over rules text =
+    ap (λ o. known_for o a.rules a.text) over ∙ (ap (λ r. known_for b.over r a.text) rules ∙ ap (known_for b.over b.rules) text)
 
--- one with a style that is right
-pub one_right : (sources : Sources) (size : ℤ) (table : List Style) (entry : Entry) (found : List MatchedRule) (style : ℕ) → entry.style ≡ Some style → entry.matched.items ≡ found → IsRight sources size table entry.parent found style → HasRight sources size table entry
-one_right sources size table entry found style is same right other at =
-    subst (λ h. IsRight sources size table entry.parent h other) (sym same) (subst (IsRight sources size table entry.parent found) (same_Some _ _ (sym is ∙ at)) right)
+module _ (sources : Sources) (size : ℤ) (table : List Style) where
+  -- what is known of a style that was computed
+  pub right_by_part : (part parent : ℕ) (rules : List MatchedRule) (text : Option Characters) (over : Style) (computed : ComputedStyle)
+      → slice_get table parent ≡ Some over → part_at table part ≡ part_at table parent → computed.takes ≡ false
+      → IsComputed size table over (declared_by sources rules text) computed → IsRight sources size table (known_for (Part part) rules text) computed.style
+  right_by_part part parent rules text over computed at same free is =
+      let here : part_at table part ≡ Some (inherited_part over) = same ∙ ap (option_map inherited_part) at in
+      record {
+        there = part_within table part (inherited_part over) here;
+        own_is = λ other by. is.style ∙ ap Some (cascaded-inherited false over other size (declared_by sources rules text) (sym is.takes ∙ free) (same_Some _ _ (sym here ∙ by)));
+      }
 
--- what fits still does where the table alone has grown
-pub fits_more : (sources : Sources) (size : ℤ) (prepared : Prepared) (was now : Styler) → take (length was.table) now.table ≡ was.table → now.cache ≡ was.cache → Fits sources size prepared was → Fits sources size prepared now
-fits_more sources size prepared was now kept same fits = record {
-  prepared_is = fits.prepared_is;
-  cache = subst (AllRight sources size now.table) (sym same) (all_right_more sources size was.table now.table was.cache.entries.items kept fits.cache);
-}
+  pub right_by_parent : (parent : ℕ) (rules : List MatchedRule) (text : Option Characters) (over : Style) (computed : ComputedStyle) → slice_get table parent ≡ Some over
+      → IsComputed size table over (declared_by sources rules text) computed → IsRight sources size table (known_for (Parent parent) rules text) computed.style
+  right_by_parent parent rules text over computed at is = record {
+    there = slice_get_within table parent over at;
+    own_is = λ other by. is.style ∙ ap (λ s. Some (cascaded false s size (declared_by sources rules text))) (same_Some _ _ (sym at ∙ by));
+  }
 
--- and where one more style is kept in the memo, which has grown right if that style is
-pub fits_kept : (sources : Sources) (size : ℤ) (prepared : Prepared) (was now last : Styler) (parent : ℕ) (found : List MatchedRule) (style : ℕ) → take (length was.table) now.table ≡ was.table → now.cache ≡ was.cache → last.table ≡ now.table
-    → ((over : Style) → slice_get was.table parent ≡ Some over → slice_get now.table style ≡ Some (cascaded false over size (declared_by sources found None))) → parent < length was.table
-    → (AllRight sources size now.table now.cache → IsRight sources size now.table parent found style → AllRight sources size now.table last.cache) → Fits sources size prepared was → Fits sources size prepared last
-fits_kept sources size prepared was now last parent found style kept same table made below grown fits =
-    let (over, at) = slice_get_some was.table parent below in
-    record {
-      prepared_is = fits.prepared_is;
-      cache = subst (λ l. AllRight sources size l last.cache) (sym table) (grown (fits_more sources size prepared was now kept same fits).cache (right_grown sources size was.table now.table parent found style over at kept (made over at)));
-    }
+  -- what claims nothing is right
+  pub nothing_right : (key : KnownFor) (known : Known) → known ≡ Nothing → IsKnown sources size table key known
+  nothing_right key known none style is = absurd (cc)
 
--- the entries before a place have no style
-abbrev pub HaveNone : ℕ → List Entry → Type 0
-HaveNone n entries = (k : ℕ) → k < n → (entry : Entry) → k < length entries → (get_or entries k entry).style ≡ None
+  pub takes_right : (key : KnownFor) → IsKnown sources size table key Takes
+  takes_right key style is = absurd (cc)
 
--- nor has the one at the place, once it is taken
-pub none_more : (entries : List Entry) (n : ℕ) (emptied : Entry) → emptied.style ≡ None → HaveNone n entries → HaveNone (n + 1) (set entries n emptied)
-none_more entries n emptied none before =
-    below_more (λ k. (entry : Entry) → k < length (set entries n emptied) → (get_or (set entries n emptied) k entry).style ≡ None) n
-    (λ k below entry within. let apart : k ≢ n = omega arith in ap (λ (e : Entry). e.style) (get_or-set_other entries n k emptied entry apart) ∙ before k below entry (omega (arith, within, length-set entries n emptied)))
-    (λ entry within. ap (λ (e : Entry). e.style) (get_or-set_same entries n emptied entry (omega (arith, within, length-set entries n emptied))) ∙ none)
+  pub style_right : (key : KnownFor) (style : ℕ) → IsRight sources size table key style → IsKnown sources size table key (KnownStyle style)
+  style_right key style right other is = let same : style ≡ other = (cc) in subst (IsRight sources size table key) same right
 
--- where none has one, all that is kept is right
-pub all_none_right : (sources : Sources) (size : ℤ) (table : List Style) (n : ℕ) (entries : List Entry) → length entries ≤ n → HaveNone n entries → All (HasRight sources size table) entries
-all_none_right sources size table n entries all none k entry within =
-    none_right sources size table (get_or entries k entry) (none k (omega (arith, within, all)) entry within)
+  -- an entry for a key has what is known for it
+  pub entry_right : (key : KnownFor) (entry : Entry) → kept_key entry ≡ key → HasRight sources size table entry → IsKnown sources size table key entry.known
+  entry_right key entry same has = subst (λ k. IsKnown sources size table k entry.known) same has
+
+  pub right_entry : (key : KnownFor) (entry : Entry) (known : Known) → kept_key entry ≡ key → entry.known ≡ known → IsKnown sources size table key known → HasRight sources size table entry
+  right_entry key entry known same is right =
+      subst (IsKnown sources size table (kept_key entry)) (sym is) (subst (λ k. IsKnown sources size table k known) (sym same) right)
+
+  pub pair_at : (pairs : List Pair) (k : ℕ) (pair : Pair) → pair ≡ get_or pairs k pair → k < length pairs → All (HaveRight sources size table) pairs → HaveRight sources size table pair
+  pair_at pairs k pair is within all = subst (HaveRight sources size table) (sym is) (all k pair within)
+
+-- the entries before a slot know nothing
+pub record KnowNothing (pair : Pair) : Type 0 where
+  pub newer : pair.newer.known ≡ Nothing
+  pub older : pair.older.known ≡ Nothing
+
+abbrev pub AreEmpty : ℕ → List Pair → Type 0
+AreEmpty n pairs = (k : ℕ) → k < n → (pair : Pair) → k < length pairs → KnowNothing (get_or pairs k pair)
+
+-- nor do those of the slot, once they are emptied
+pub empty_more : (pairs : List Pair) (n : ℕ) (emptied : Pair) → KnowNothing emptied → AreEmpty n pairs → AreEmpty (n + 1) (set pairs n emptied)
+empty_more pairs n emptied none before =
+    below_more (λ k. (pair : Pair) → k < length (set pairs n emptied) → KnowNothing (get_or (set pairs n emptied) k pair)) n
+    (λ k below pair within. let apart : k ≢ n = omega arith in
+    subst KnowNothing (sym (get_or-set_other pairs n k emptied pair apart)) (before k below pair (omega (arith, within, length-set pairs n emptied))))
+    (λ pair within. subst KnowNothing (sym (get_or-set_same pairs n emptied pair (omega (arith, within, length-set pairs n emptied)))) none)
+
+-- where none knows anything, all that is kept is right
+pub all_empty_right : (sources : Sources) (size : ℤ) (table : List Style) (n : ℕ) (pairs : List Pair) → length pairs ≤ n → AreEmpty n pairs → All (HaveRight sources size table) pairs
+all_empty_right sources size table n pairs all none k pair within =
+    let one = get_or pairs k pair in
+    let both = none k (omega (arith, within, all)) pair within in
+    record { newer = nothing_right sources size table (kept_key one.newer) one.newer.known both.newer; older = nothing_right sources size table (kept_key one.older) one.older.known both.older }
 
 -- and so it is of the list that is written back over one of the same length
 pub all_back : {A : Type 0} (P : A → Type 0) (n : ℕ) (items was : List A) → length items ≡ length was → All P items → All P (take n (items ++ drop (length items) was))

@@ -1,23 +1,25 @@
 -- For `Styler::child`: what an element is styled with still serves where its table has grown and its ancestors go with the document.
-use Rattle.std.proofs.Common.{◌≡◌, ℕ, ℤ, ◌<◌, false, List, [], length, take, slice_get, None, Some, sym, subst}
+use Rattle.std.proofs.Common.{◌≡◌, ℕ, ℤ, ◌<◌, List, [], length, take, slice_get, Some, sym, subst}
+use Rattle.base_model.proofs.Lists.{slice_get_some}
 use Rattle.scene_model.specs.Ancestors.{ancestors}
 use Rattle.scene_model.specs.Element.{Element}
 use Rattle.value_model.specs.Style.{Style}
-use Rattle.cascade_model.specs.Cascade.{cascaded}
+use Rattle.sheet_model.specs.Sources.{Sources}
+use Rattle.cascade_model.specs.Key.{Matched}
 use Rattle.ancestor_model.specs.Counts.{full}
 use Rattle.ancestor_model.proofs.CountLemmas.{counts_any}
 use Rattle.ancestor_filter.specs.Names.{StandsFor, slot}
 use Rattle.ancestor_filter.specs.Paths.{IsRight, Pushed, nothing_pushed}
 use Rattle.sheet_set.specs.View.{sources_seen}
-use Rattle.element_styler.specs.Cache.{AllRight, IsRight as IsRightStyle}
+use Rattle.element_styler.specs.Cache.{AllRight, IsComputed}
 use Rattle.element_styler.specs.Fits.{Fits}
 use Rattle.element_styler.specs.Follows.{Follows, IsAbove, Serves}
-use Rattle.element_styler.specs.MatchedRules.{declared_by}
 use Rattle.element_styler.specs.declared.above.Above.{Above}
-use Rattle.element_styler.specs.declared.matched_rules.MatchedRule.{MatchedRule}
 use Rattle.element_styler.specs.declared.prepared.Inputs.{Inputs}
+use Rattle.element_styler.specs.declared.prepared.Prepared.{Prepared}
+use Rattle.element_styler.specs.declared.styler.ComputedStyle.{ComputedStyle}
 use Rattle.element_styler.specs.declared.styler.Styler.{Styler}
-use Rattle.element_styler.proofs.CacheLemmas.{fits_kept, fits_more}
+use Rattle.element_styler.proofs.CacheLemmas.{all_right_more, kept_at}
 
 -- nothing that is pushed goes with any document
 pub follows-idle : (doc : List Element) (above : Above) → above.ancestors ≡ nothing_pushed full → Follows doc above
@@ -28,6 +30,21 @@ pub above-idle : (doc : List Element) (x : ℕ) (above : Above) → above.ancest
 above-idle doc x above idle =
     subst (λ (pushed : Pushed). StandsFor doc (ancestors doc x) pushed.filter) (sym idle) (counts_any slot _)
 
+-- what fits still does where the table alone has grown
+pub fits_more : (sources : Sources) (size : ℤ) (prepared : Prepared) (was now : Styler) → take (length was.table) now.table ≡ was.table → now.cache ≡ was.cache → Fits sources size prepared was → Fits sources size prepared now
+fits_more sources size prepared was now kept same fits = record {
+  prepared_is = fits.prepared_is;
+  cache = subst (AllRight sources size now.table) (sym same) (all_right_more sources size was.table now.table kept was.cache.pairs.items fits.cache);
+}
+
+-- neither the table nor what is kept has changed
+pub serves-matched : (inputs : Inputs) (size : ℤ) (was now : Styler) → now.table ≡ was.table → now.cache ≡ was.cache → Follows inputs.doc.now.elements now.above
+    → Fits (sources_seen inputs.sheets.now) size inputs.prepared.now was → Serves inputs size now
+serves-matched inputs size was now table cache follows fits =
+    let sources = sources_seen inputs.sheets.now in
+    let before = subst (λ t. AllRight sources size t was.cache) (sym table) fits.cache in
+    record { fits = record { prepared_is = fits.prepared_is; cache = subst (AllRight sources size now.table) (sym cache) before }; follows = follows }
+
 -- the table has grown
 pub serves-grown : (inputs : Inputs) (size : ℤ) (was now : Styler) → take (length was.table) now.table ≡ was.table → now.cache ≡ was.cache → Follows inputs.doc.now.elements now.above
     → Fits (sources_seen inputs.sheets.now) size inputs.prepared.now was → Serves inputs size now
@@ -36,16 +53,19 @@ serves-grown inputs size was now kept same follows fits = record {
   follows = follows;
 }
 
--- and so has what is kept of styles
-pub serves-kept : (inputs : Inputs) (size : ℤ) (was now last : Styler) (parent : ℕ) (found : List MatchedRule) (style : ℕ)
-    → take (length was.table) now.table ≡ was.table → now.cache ≡ was.cache → last.table ≡ now.table
-    → ((over : Style) → slice_get was.table parent ≡ Some over
-    → slice_get now.table style ≡ Some (cascaded false over size (declared_by (sources_seen inputs.sheets.now) found None)))
-    → parent < length was.table
-    → (AllRight (sources_seen inputs.sheets.now) size now.table now.cache → IsRightStyle (sources_seen inputs.sheets.now) size now.table parent found style
-    → AllRight (sources_seen inputs.sheets.now) size now.table last.cache)
+-- and what is kept of styles has, by what was computed
+pub serves-kept : (inputs : Inputs) (size : ℤ) (was now last : Styler) (parent : ℕ) (ds : List Matched) (computed : ComputedStyle)
+    → take (length was.table) now.table ≡ was.table → now.cache ≡ was.cache → last.table ≡ now.table → parent < length was.table
+    → ((over : Style) → slice_get was.table parent ≡ Some over → IsComputed size now.table over ds computed)
+    → ((over : Style) → slice_get now.table parent ≡ Some over → IsComputed size now.table over ds computed
+    → AllRight (sources_seen inputs.sheets.now) size now.table now.cache → AllRight (sources_seen inputs.sheets.now) size now.table last.cache)
     → Follows inputs.doc.now.elements last.above → Fits (sources_seen inputs.sheets.now) size inputs.prepared.now was → Serves inputs size last
-serves-kept inputs size was now last parent found style kept same table made below grown follows fits = record {
-  fits = fits_kept (sources_seen inputs.sheets.now) size inputs.prepared.now was now last parent found style kept same table made below grown fits;
-  follows = follows;
-}
+serves-kept inputs size was now last parent ds computed kept same table below made grown follows fits =
+    let sources = sources_seen inputs.sheets.now in
+    let (over, at) = slice_get_some was.table parent below in
+    let before = fits_more sources size inputs.prepared.now was now kept same fits in
+    let right = grown over (kept_at was.table now.table parent over kept at) (made over at) before.cache in
+    record {
+      fits = record { prepared_is = fits.prepared_is; cache = subst (λ l. AllRight sources size l last.cache) (sym table) right };
+      follows = follows;
+    }

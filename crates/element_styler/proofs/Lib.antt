@@ -6,3 +6,4 @@ pub mod MatchedRuleLemmas
 pub mod FollowLemmas
 pub mod Rising
 pub mod FindLemmas
+pub mod OverLemmas

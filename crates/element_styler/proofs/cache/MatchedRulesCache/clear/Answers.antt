@@ -1,12 +1,13 @@
 use Rattle.std.proofs.Common.{◌∙◌, ap, length, refl, arith}
-use Rattle.element_styler.specs.Cache.{HasRight}
-use Rattle.element_styler.proofs.CacheLemmas.{all_back, all_none_right, none_more}
+use Rattle.element_styler.specs.Cache.{HaveRight}
+use Rattle.element_styler.proofs.CacheLemmas.{all_back, all_empty_right, empty_more}
 use Rattle.element_styler.proofs.cache.MatchedRulesCache.clear.Goals as goal
 
-pub loop-entry-preserved : goal.loop-entry-preserved
-loop-entry-preserved c = none_more c.loop-entry.entry-items c.loop-entry.entry-index _ refl c.loop-entry.invariant
+pub loop-pair-preserved : goal.loop-pair-preserved
+loop-pair-preserved c =
+    empty_more c.loop-pair.pair-items c.loop-pair.pair-index _ (record { newer = refl; older = refl }) c.loop-pair.invariant
 
 pub returns : goal.returns
 returns c sources size table =
-    let right = all_none_right sources size table c.loop-entry.entry-index c.loop-entry.entry-items (omega (arith, c.loop-entry-test.false, c.loop-entry.auto.entry-items)) c.loop-entry.invariant in
-    all_back (HasRight sources size table) c.args.self.now.entries.len c.loop-entry.entry-items c.args.self.now.entries.items (c.loop-entry.auto.entry-items ∙ ap length c.deref_mut-entry-items.ensures.value) right
+    let right = all_empty_right sources size table c.loop-pair.pair-index c.loop-pair.pair-items (omega (arith, c.loop-pair-test.false, c.loop-pair.auto.pair-items)) c.loop-pair.invariant in
+    all_back (HaveRight sources size table) c.args.self.now.pairs.len c.loop-pair.pair-items c.args.self.now.pairs.items (c.loop-pair.auto.pair-items ∙ ap length c.deref_mut-pair-items.ensures.value) right

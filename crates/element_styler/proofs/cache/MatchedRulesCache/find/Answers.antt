@@ -1,16 +1,24 @@
-use Rattle.std.proofs.Common.{◌≡◌, ◌<◌, get_or, length, ap, sym, ◌∙◌, rules, arith}
-use Rattle.std.proofs.lemmas.Slice.Eq.{slice_eq-Decides}
-use Rattle.element_styler.proofs.MatchedRuleLemmas.{rule_eq-Decides}
-use Rattle.element_styler.proofs.CacheLemmas.{found_right}
+use Rattle.std.proofs.Common.{◌≡◌, ◌<◌, get_or, length, ap, ◌∙◌, rules, arith}
+use Rattle.element_styler.specs.Cache.{lent_key}
+use Rattle.element_styler.proofs.CacheLemmas.{entry_right, pair_at}
 use Rattle.element_styler.proofs.cache.MatchedRulesCache.find.Goals as goal
 
-pub returns-then-eq : goal.returns-then-eq
-returns-then-eq c sources size table right =
-    let entry = c.in_ok-entry.entry.now in
-    let entries = c.args.self.now.entries.items in
-    let at : entry ≡ get_or c.deref.result.now c.slot.result entry = search rules in
-    let is : entry ≡ get_or entries c.slot.result entry = at ∙ ap (λ l. get_or l c.slot.result entry) c.deref.ensures.value in
+pub returns-then-is_for : goal.returns-then-is_for
+returns-then-is_for c sources size table right =
+    let pair = c.in-Some.pair.now in
+    let pairs = c.args.self.now.pairs.items in
+    let at : pair ≡ get_or c.deref.result.now c.slot.result pair = search rules in
     let below : c.slot.result < length c.deref.result.now = search rules in
-    let within : c.slot.result < length entries = omega (arith, below, ap length c.deref.ensures.value) in
-    let same : c.as_slice.result.now ≡ c.args.matched.now = (slice_eq-Decides rule_eq-Decides c.as_slice.result.now c.args.matched.now c.eq.result c.eq.ensures).0 c.if-eq.true in
-    found_right sources size table entries c.slot.result entry c.args.parent c.args.matched.now is within c.if-entry-parent.true (sym c.as_slice.ensures.value ∙ same) right
+    let have = pair_at sources size table pairs c.slot.result pair (at ∙ ap (λ l. get_or l c.slot.result pair) c.deref.ensures.value)
+    (omega (arith, below, ap length c.deref.ensures.value)) right in
+    entry_right sources size table (lent_key c.args.key.now) pair.newer (c.is_for.ensures c.if-is_for.true) have.newer
+
+pub returns-then-is_for-2 : goal.returns-then-is_for-2
+returns-then-is_for-2 c sources size table right =
+    let pair = c.in-Some.pair.now in
+    let pairs = c.args.self.now.pairs.items in
+    let at : pair ≡ get_or c.deref.result.now c.slot.result pair = search rules in
+    let below : c.slot.result < length c.deref.result.now = search rules in
+    let have = pair_at sources size table pairs c.slot.result pair (at ∙ ap (λ l. get_or l c.slot.result pair) c.deref.ensures.value)
+    (omega (arith, below, ap length c.deref.ensures.value)) right in
+    entry_right sources size table (lent_key c.args.key.now) pair.older (c.is_for-else-is_for.ensures c.if-is_for-2.true) have.older

@@ -1,5 +1,5 @@
 use Rattle.std.proofs.Common.{refl}
-use Rattle.element_styler.proofs.CacheLemmas.{fits_more}
+use Rattle.element_styler.proofs.FollowLemmas.{fits_more}
 use Rattle.element_styler.proofs.styler.Styler.adopt.Goals as goal
 
 pub returns-clause-fits : goal.returns-clause-fits

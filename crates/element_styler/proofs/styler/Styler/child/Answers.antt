@@ -1,85 +1,96 @@
-use Rattle.std.proofs.Common.{◌≡◌, false, None, Some, refl, ap, sym, subst, ◌∙◌, rules, IfOk, slice_get}
-use Rattle.std.specs.Prelude.{List}
-use Rattle.scene_model.specs.Ancestors.{ancestors}
+use Rattle.std.proofs.Common.{◌<◌, false, Some, ap, length, slice_get, sym, subst, ◌∙◌}
+use Rattle.std.specs.Prelude.{option_map}
+use Rattle.std.specs.Str.{chars}
 use Rattle.scene_model.specs.Lookups.{attribute_of}
-use Rattle.ancestor_filter.specs.Names.{StandsFor}
 use Rattle.cascade_model.specs.Cascade.{cascaded}
-use Rattle.cascade_model.specs.Key.{Matched}
-use Rattle.cascade_model.specs.Matching.{matching_rules}
 use Rattle.sheet_set.specs.View.{sources_seen}
+use Rattle.element_styler.specs.Cache.{IsComputed}
 use Rattle.element_styler.specs.Follows.{Follows}
-use Rattle.element_styler.specs.MatchedRules.{declarations_of, declared_by}
-use Rattle.element_styler.proofs.CacheLemmas.{right_here}
-use Rattle.element_styler.proofs.FollowLemmas.{serves-grown, serves-kept}
-use Rattle.element_styler.proofs.FindLemmas.{is_ready}
-use Rattle.element_styler.proofs.Walk.{declared_all, no_text}
+use Rattle.element_styler.specs.MatchedRules.{declared_by}
+use Rattle.element_styler.specs.declared.styler.Styler.{Styler}
+use Rattle.element_styler.proofs.FollowLemmas.{serves-grown, serves-kept, serves-matched}
+use Rattle.element_styler.proofs.Walk.{declared_all}
 use Rattle.element_styler.proofs.styler.Styler.child.Goals as goal
 
-pub matching_rules-requires : goal.matching_rules-requires
-matching_rules-requires c = record {
-  element = c.requires.element;
-  map = is_ready c.args.inputs.now.sheets.now c.args.inputs.now.prepared.now c.requires.serves.fits.prepared_is;
-  above = subst (StandsFor c.args.inputs.now.doc.now.elements (ancestors c.args.inputs.now.doc.now.elements c.args.number))
-      (sym c.filter.ensures) c.in_ok-reach.ensures.above;
-}
-
-pub returns-then-is_some-clause-style : goal.returns-then-is_some-clause-style
-returns-then-is_some-clause-style c over at =
-    let sources = sources_seen c.args.inputs.now.sheets.now in
-    let doc = c.args.inputs.now.doc.now.elements in
-    let x = c.args.number in
-    let text = c.attribute_atom-text.ensures ∙ ap (attribute_of doc x) c.requires.serves.fits.prepared_is.name in
-    subst (λ (l : List Matched). IfOk c.compute.result (λ style. slice_get c.compute.new.self.table style ≡ Some (cascaded false over c.args.size l)))
-    (declared_all doc sources x c.matching_rules.new.found.items _ c.in_ok-matching_rules.ensures text)
-    (c.compute.ensures.style over at)
-
-pub returns-then-is_some-clause-serves : goal.returns-then-is_some-clause-serves
-returns-then-is_some-clause-serves c =
-    serves-grown c.args.inputs.now c.args.size c.args.self.now c.compute.new.self c.compute.ensures.kept c.compute.ensures.cache
-    (subst (Follows c.args.inputs.now.doc.now.elements) (sym c.compute.ensures.above) c.reach.ensures.follows) c.requires.serves.fits
+pub returns-in_err-match_rules-clause-serves : goal.returns-in_err-match_rules-clause-serves
+returns-in_err-match_rules-clause-serves c =
+    serves-matched c.args.inputs.now c.args.size c.args.self.now c.match_rules.new.self (ap (λ (s : Styler). s.table) c.match_rules.ensures.rest)
+    (ap (λ (s : Styler). s.cache) c.match_rules.ensures.rest) c.match_rules.ensures.follows c.requires.serves.fits
 
 pub returns-in-Some-clause-style : goal.returns-in-Some-clause-style
 returns-in-Some-clause-style c over at =
     let sources = sources_seen c.args.inputs.now.sheets.now in
     let doc = c.args.inputs.now.doc.now.elements in
     let x = c.args.number in
-    let none = no_text c.attribute_atom-text.result _ (c.attribute_atom-text.ensures ∙ ap (attribute_of doc x) c.requires.serves.fits.prepared_is.name) c.if-is_some.ensures in
-    let found : declarations_of sources c.deref.result.now ≡ matching_rules doc sources x = ap (declarations_of sources) c.deref.ensures.value ∙ c.in_ok-matching_rules.ensures in
-    right_here sources c.args.size c.args.self.now.table c.args.parent c.deref.result.now c.in-Some.style over _
-    (declared_all doc sources x c.deref.result.now None found none) at
-    (c.in-Some.ensures sources c.args.size c.args.self.now.table c.requires.serves.fits.cache)
+    let now = c.match_rules.new.self in
+    let table = ap (λ (s : Styler). s.table) c.match_rules.ensures.rest in
+    let serves = serves-matched c.args.inputs.now c.args.size c.args.self.now now table (ap (λ (s : Styler). s.cache) c.match_rules.ensures.rest) c.match_rules.ensures.follows c.requires.serves.fits in
+    let all = declared_all doc sources x now.matched.items _ c.in_ok-match_rules.ensures.matched
+    (c.attribute_atom-text.ensures ∙ ap (attribute_of doc x) c.requires.serves.fits.prepared_is.name) in
+    c.in-Some.ensures sources c.args.size over serves.fits.cache (ap (λ t. slice_get t c.args.parent) table ∙ at)
+    ∙ ap (λ l. Some (cascaded false over c.args.size l)) all
 
-pub returns-in_err-style-clause-serves : goal.returns-in_err-style-clause-serves
-returns-in_err-style-clause-serves c =
-    serves-grown c.args.inputs.now c.args.size c.args.self.now c.compute-2.new.self c.compute-2.ensures.kept c.compute-2.ensures.cache
-    (subst (Follows c.args.inputs.now.doc.now.elements) (sym c.compute-2.ensures.above) c.reach.ensures.follows) c.requires.serves.fits
+pub returns-in-Some-clause-serves : goal.returns-in-Some-clause-serves
+returns-in-Some-clause-serves c =
+    serves-matched c.args.inputs.now c.args.size c.args.self.now c.match_rules.new.self (ap (λ (s : Styler). s.table) c.match_rules.ensures.rest)
+    (ap (λ (s : Styler). s.cache) c.match_rules.ensures.rest) c.match_rules.ensures.follows c.requires.serves.fits
 
-pub returns-in_err-keep-clause-serves : goal.returns-in_err-keep-clause-serves
-returns-in_err-keep-clause-serves c =
-    let sources = sources_seen c.args.inputs.now.sheets.now in
+pub returns-in_err-computed-clause-serves : goal.returns-in_err-computed-clause-serves
+returns-in_err-computed-clause-serves c =
+    let now = c.match_rules.new.self in
+    let serves = serves-matched c.args.inputs.now c.args.size c.args.self.now now (ap (λ (s : Styler). s.table) c.match_rules.ensures.rest)
+    (ap (λ (s : Styler). s.cache) c.match_rules.ensures.rest) c.match_rules.ensures.follows c.requires.serves.fits in
+    serves-grown c.args.inputs.now c.args.size now c.compute.new.self c.compute.ensures.kept (ap (λ (s : Styler). s.cache) c.compute.ensures.rest)
+    (subst (Follows c.args.inputs.now.doc.now.elements) (sym (ap (λ (s : Styler). s.above) c.compute.ensures.rest)) c.match_rules.ensures.follows) serves.fits
+
+pub returns-in_err-remember-clause-serves : goal.returns-in_err-remember-clause-serves
+returns-in_err-remember-clause-serves c =
+    let inputs = c.args.inputs.now in
     let size = c.args.size in
-    let same : c.deref-2.result.now ≡ c.matching_rules.new.found.items = search rules in
-    serves-kept c.args.inputs.now size c.args.self.now c.compute-2.new.self (record c.compute-2.new.self { cache = c.keep.new.self }) c.args.parent c.deref-2.result.now
-    c.in_ok-style.style c.in_ok-style.ensures.kept c.compute-2.ensures.cache refl
-    (λ over at. c.in_ok-style.ensures.style over at ∙ ap (λ l. Some (cascaded false over size (declared_by sources l None))) (sym same)) c.requires.parent
-    (c.keep.ensures sources size c.compute-2.new.self.table)
-    (subst (Follows c.args.inputs.now.doc.now.elements) (sym c.compute-2.ensures.above) c.reach.ensures.follows) c.requires.serves.fits
+    let sources = sources_seen inputs.sheets.now in
+    let first = c.match_rules.new.self in
+    let now = c.compute.new.self in
+    let last = c.remember.new.self in
+    let text = option_map (λ t. chars t.now) c.attribute_atom-text.result in
+    let computed = c.in_ok-computed.computed in
+    let table = ap (λ (s : Styler). s.table) c.match_rules.ensures.rest in
+    let serves = serves-matched inputs size c.args.self.now first table (ap (λ (s : Styler). s.cache) c.match_rules.ensures.rest) c.match_rules.ensures.follows c.requires.serves.fits in
+    let matched = ap (λ (s : Styler). s.matched.items) c.compute.ensures.rest in
+    let below : c.args.parent < length first.table = subst (λ t. c.args.parent < length t) (sym table) c.requires.parent in
+    let above = ap (λ (s : Styler). s.above) c.remember.ensures.rest ∙ ap (λ (s : Styler). s.above) c.compute.ensures.rest in
+    serves-kept inputs size first now last c.args.parent (declared_by sources first.matched.items text) computed c.compute.ensures.kept (ap (λ (s : Styler). s.cache) c.compute.ensures.rest)
+    (ap (λ (s : Styler). s.table) c.remember.ensures.rest) below c.in_ok-computed.ensures.computed
+    (λ over at is all. c.remember.ensures.right sources size over at (subst (λ m. IsComputed size now.table over (declared_by sources m text) computed) (sym matched) is) all)
+    (subst (Follows inputs.doc.now.elements) (sym above) c.match_rules.ensures.follows) serves.fits
 
 pub returns-clause-style : goal.returns-clause-style
 returns-clause-style c over at =
     let sources = sources_seen c.args.inputs.now.sheets.now in
     let doc = c.args.inputs.now.doc.now.elements in
     let x = c.args.number in
-    let none = no_text c.attribute_atom-text.result _ (c.attribute_atom-text.ensures ∙ ap (attribute_of doc x) c.requires.serves.fits.prepared_is.name) c.if-is_some.ensures in
-    c.in_ok-style.ensures.style over at ∙ ap (λ l. Some (cascaded false over c.args.size l)) (declared_all doc sources x c.matching_rules.new.found.items None c.in_ok-matching_rules.ensures none)
+    let first = c.match_rules.new.self in
+    let table = ap (λ (s : Styler). s.table) c.match_rules.ensures.rest in
+    let all = declared_all doc sources x first.matched.items _ c.in_ok-match_rules.ensures.matched
+    (c.attribute_atom-text.ensures ∙ ap (attribute_of doc x) c.requires.serves.fits.prepared_is.name) in
+    ap (λ (s : Styler). slice_get s.table c.in_ok-computed.computed.style) c.remember.ensures.rest
+    ∙ ((c.in_ok-computed.ensures.computed over (ap (λ t. slice_get t c.args.parent) table ∙ at)).style ∙ ap (λ l. Some (cascaded false over c.args.size l)) all)
 
 pub returns-clause-serves : goal.returns-clause-serves
 returns-clause-serves c =
-    let sources = sources_seen c.args.inputs.now.sheets.now in
+    let inputs = c.args.inputs.now in
     let size = c.args.size in
-    let same : c.deref-2.result.now ≡ c.matching_rules.new.found.items = search rules in
-    serves-kept c.args.inputs.now size c.args.self.now c.compute-2.new.self (record c.compute-2.new.self { cache = c.keep.new.self }) c.args.parent c.deref-2.result.now
-    c.in_ok-style.style c.in_ok-style.ensures.kept c.compute-2.ensures.cache refl
-    (λ over at. c.in_ok-style.ensures.style over at ∙ ap (λ l. Some (cascaded false over size (declared_by sources l None))) (sym same)) c.requires.parent
-    (c.keep.ensures sources size c.compute-2.new.self.table)
-    (subst (Follows c.args.inputs.now.doc.now.elements) (sym c.compute-2.ensures.above) c.reach.ensures.follows) c.requires.serves.fits
+    let sources = sources_seen inputs.sheets.now in
+    let first = c.match_rules.new.self in
+    let now = c.compute.new.self in
+    let last = c.remember.new.self in
+    let text = option_map (λ t. chars t.now) c.attribute_atom-text.result in
+    let computed = c.in_ok-computed.computed in
+    let table = ap (λ (s : Styler). s.table) c.match_rules.ensures.rest in
+    let serves = serves-matched inputs size c.args.self.now first table (ap (λ (s : Styler). s.cache) c.match_rules.ensures.rest) c.match_rules.ensures.follows c.requires.serves.fits in
+    let matched = ap (λ (s : Styler). s.matched.items) c.compute.ensures.rest in
+    let below : c.args.parent < length first.table = subst (λ t. c.args.parent < length t) (sym table) c.requires.parent in
+    let above = ap (λ (s : Styler). s.above) c.remember.ensures.rest ∙ ap (λ (s : Styler). s.above) c.compute.ensures.rest in
+    serves-kept inputs size first now last c.args.parent (declared_by sources first.matched.items text) computed c.compute.ensures.kept (ap (λ (s : Styler). s.cache) c.compute.ensures.rest)
+    (ap (λ (s : Styler). s.table) c.remember.ensures.rest) below c.in_ok-computed.ensures.computed
+    (λ over at is all. c.remember.ensures.right sources size over at (subst (λ m. IsComputed size now.table over (declared_by sources m text) computed) (sym matched) is) all)
+    (subst (Follows inputs.doc.now.elements) (sym above) c.match_rules.ensures.follows) serves.fits
