@@ -1,7 +1,8 @@
-//! A selector with what is asked of it most: its key and how specific it is.
+//! A selector with what is asked of it most: its key, how specific it is, and whether it asks for siblings.
 
 ghost use Rattle.std.specs.Prelude.{◌≡◌};
 ghost use Rattle.selector_model.specs.Key.{key_of};
+ghost use Rattle.selector_model.specs.Parts.{has_part, is_of_place, is_of_siblings};
 ghost use Rattle.selector_model.specs.SpecificityOf.{specificity_of};
 ghost use Rattle.selector_types.specs.ComplexView.{complex_of};
 ghost use Rattle.selector_types.specs.SimpleView.{key_seen};
@@ -16,8 +17,10 @@ pub struct Selector {
     complex: Complex,
     key: Key,
     specificity: Specificity,
+    asks_for_siblings: bool,
     ghost keyed: { key_seen key ≡ key_of (complex_of complex) },
     ghost weighed: { specificity ≡ specificity_of (complex_of complex) },
+    ghost placed: { asks_for_siblings ≡ has_part is_of_place is_of_siblings (complex_of complex) },
 }
 
 impl Selector {
@@ -37,6 +40,7 @@ impl Selector {
             complex,
             key,
             specificity: measure.weight,
+            asks_for_siblings: measure.by_place,
         })
     }
 
@@ -45,6 +49,14 @@ impl Selector {
         ensures { complex_of result.now ≡ selector_of self.now }
     {
         &self.complex
+    }
+
+    /// Whether it has, at any depth, a test of an element's index among its siblings, `:empty` or a sibling combinator
+    /// (selectors-4, sections 14 and 15). It was found when the selector was made.
+    pub fn asks_for_siblings(&self) -> bool
+        ensures { result ≡ has_part is_of_place is_of_siblings (selector_of self.now) }
+    {
+        self.asks_for_siblings
     }
 
     pub(crate) fn key(&self) -> &Key

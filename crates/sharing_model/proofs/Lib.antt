@@ -1,0 +1,5 @@
+pub mod ToldLemmas
+pub mod TwinLemmas
+pub mod MatchingLemmas
+pub mod ShareLemmas
+mod Examples

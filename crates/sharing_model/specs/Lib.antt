@@ -1,0 +1,3 @@
+pub mod Siblings
+pub mod Twin
+pub mod Share
