@@ -5,6 +5,8 @@ import subprocess
 import sys
 
 LINE = re.compile(r"^ *([\d,]+) (?:\([^)]*\))? *\S*?:(.*?)(?: \[[^]]*\])?$")
+# In a profile each function has a number, and its name where it stands first.
+NAMED = re.compile(r"^c?fn=(\(\d+\))(?: (.*))?$")
 
 
 def profile(words, folder, data=b""):
@@ -36,3 +38,15 @@ def annotated(path, *words):
             name = re.sub(r"::<.*>$", "", found[2].strip())
             costs[name] = costs.get(name, 0) + int(found[1].replace(",", ""))
     return costs, whole
+
+
+def calls(path):
+    """How often the functions of a profile were called, by name. One that was inlined isn't there."""
+    names, counts, called = {}, {}, None
+    with open(path) as file:
+        for line in file:
+            if found := NAMED.match(line):
+                called = names.setdefault(found[1], re.sub(r"::<.*>$", "", found[2] or ""))
+            elif line.startswith("calls="):
+                counts[called] = counts.get(called, 0) + int(line[len("calls="):].split()[0])
+    return counts
