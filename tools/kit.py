@@ -10,11 +10,23 @@ import sys
 TOP = os.path.dirname(os.path.dirname(os.path.abspath(__file__)))
 
 
+def path_of_module():
+    """Where `rtlib.py` is: beside `rt`, or, where a script of that name stands before the kit's, by the page that `rt doc` names."""
+    rt = shutil.which("rt")
+    if not rt:
+        return None
+    beside = os.path.join(os.path.dirname(os.path.realpath(rt)), "rtlib.py")
+    if os.path.exists(beside):
+        return beside
+    said = subprocess.run([rt, "doc"], stdin=subprocess.DEVNULL, capture_output=True, text=True)
+    named = os.path.join(os.path.dirname(said.stdout.strip()), "bin", "rtlib.py")
+    return named if os.path.exists(named) else None
+
+
 def module_of_kit():
     """The kit's module `rtlib`. None: it is not found."""
-    rt = shutil.which("rt")
-    path = os.path.join(os.path.dirname(os.path.realpath(rt)), "rtlib.py") if rt else ""
-    if not os.path.exists(path):
+    path = path_of_module()
+    if path is None:
         return None
     loader = importlib.machinery.SourceFileLoader("rtlib", path)
     module = importlib.util.module_from_spec(importlib.util.spec_from_loader("rtlib", loader))
